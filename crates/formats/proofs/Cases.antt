@@ -1,0 +1,76 @@
+-- Worked cases of document 01's tokens, proved by computation. Each row of a table is a buffer and what the tree reader finds in it.
+use Prim.Native.Nat.{ℕ, zero, suc}
+use mathlib.Core.List.{List, [], _∷_, _++_, map}
+use mathlib.Core.Path.{_≡_, refl}
+use lib.IntN.{pos, negsuc}
+use lib.ListN.{take, replicate}
+use Rattle.formats.specs.Numbers.{bytesOf, numberOf, numberAt, sum32, signed32}
+use Rattle.formats.specs.Written.{written}
+use Rattle.formats.specs.Tokens.{Tree, leaf, node, tips, depth, nodeTag, tokens, tree, tagOf, tagAt, labelAt, partsAt, byTag, treeAt, firstTree, ownBytes, ends, stops, endFrom, firstEnd}
+
+-- document 01's tree T, and its bytes 02 01 05 00 00 00 01 07 00 00 00
+t : Tree
+t = node (leaf 5) (leaf 7)
+
+t-bytes : List ℕ
+t-bytes = 2 ∷ 1 ∷ 5 ∷ 0 ∷ 0 ∷ 0 ∷ 1 ∷ 7 ∷ 0 ∷ 0 ∷ 0 ∷ []
+
+-- labels low byte first; −1 and the smallest label; a label whose bytes look like tags
+tokens-of : map tokens (t ∷ leaf 258 ∷ leaf 4294967295 ∷ leaf 2147483648 ∷ leaf 33686018 ∷ node (leaf 1) t ∷ [])
+    ≡ t-bytes ∷ (1 ∷ 2 ∷ 1 ∷ 0 ∷ 0 ∷ []) ∷ (1 ∷ 255 ∷ 255 ∷ 255 ∷ 255 ∷ []) ∷ (1 ∷ 0 ∷ 0 ∷ 0 ∷ 128 ∷ []) ∷ (1 ∷ 2 ∷ 2 ∷ 2 ∷ 2 ∷ [])
+    ∷ (2 ∷ 1 ∷ 1 ∷ 0 ∷ 0 ∷ 0 ∷ t-bytes) ∷ []
+unfolding tokens bytesOf t t-bytes
+tokens-of = refl
+
+signed-of : map signed32 (0 ∷ 5 ∷ 2147483647 ∷ 2147483648 ∷ 4294967295 ∷ []) ≡ pos 0 ∷ pos 5 ∷ pos 2147483647 ∷ negsuc 2147483647 ∷ negsuc 0 ∷ []
+unfolding signed32
+signed-of = refl
+
+sums : map (sum32 4294967295) (0 ∷ 1 ∷ 2 ∷ []) ≡ 4294967295 ∷ 0 ∷ 1 ∷ []
+unfolding sum32
+sums = refl
+
+-- the number at a place, also where bytes are missing
+numbers : map (numberAt 2 (1 ∷ 2 ∷ 3 ∷ [])) (0 ∷ 1 ∷ 2 ∷ 3 ∷ []) ≡ 513 ∷ 770 ∷ 3 ∷ 0 ∷ []
+unfolding numberAt numberOf
+numbers = refl
+
+-- two bytes written at a place, and nothing where one would not fit
+writes : map (λ (p : ℕ). written (9 ∷ 9 ∷ 9 ∷ []) p (bytesOf 2 258)) (0 ∷ 1 ∷ 2 ∷ []) ≡ (2 ∷ 1 ∷ 9 ∷ []) ∷ (9 ∷ 2 ∷ 1 ∷ []) ∷ (9 ∷ 9 ∷ 9 ∷ []) ∷ []
+unfolding written bytesOf
+writes = refl
+
+-- leaves, and nodes above the deepest of them
+shapes : map tips (leaf 0 ∷ t ∷ node t (leaf 0) ∷ []) ++ map depth (leaf 0 ∷ t ∷ node (leaf 0) t ∷ node t t ∷ []) ≡ 1 ∷ 2 ∷ 3 ∷ 0 ∷ 1 ∷ 2 ∷ 2 ∷ []
+unfolding tips depth t
+shapes = refl
+
+-- every cut of T, T itself and T with anything after it
+cuts : ℕ → List (List ℕ)
+cuts zero = []
+cuts (suc n) = take n t-bytes ∷ cuts n
+
+cut-ends : map firstEnd ((t-bytes ++ (9 ∷ [])) ∷ cuts 12)
+    ≡ ends 11 ∷ ends 11 ∷ stops 15 7 ∷ stops 15 7 ∷ stops 15 7 ∷ stops 15 7 ∷ stops 15 6 ∷ stops 15 2 ∷ stops 15 2 ∷ stops 15 2 ∷ stops 15 2 ∷ stops 15 1 ∷ stops 15 0 ∷ []
+unfolding firstEnd endFrom firstTree treeAt byTag partsAt tagAt tagOf labelAt numberAt numberOf tokens bytesOf cuts t-bytes
+cut-ends = refl
+
+-- a byte that is no tag, first and later; a label byte 2 that is no node; and 1,025 node tags in a row, of which the last is refused before
+-- the byte behind it is looked at
+deep : List ℕ
+deep = replicate 1025 nodeTag ++ (7 ∷ [])
+
+other-ends : map firstEnd ((3 ∷ []) ∷ (0 ∷ t-bytes) ∷ (2 ∷ 1 ∷ 2 ∷ 2 ∷ 2 ∷ 2 ∷ 3 ∷ []) ∷ (1 ∷ 2 ∷ 2 ∷ 2 ∷ 2 ∷ []) ∷ deep ∷ [])
+    ≡ stops 16 0 ∷ stops 16 0 ∷ stops 16 6 ∷ ends 5 ∷ stops 20 1024 ∷ []
+unfolding firstEnd endFrom firstTree treeAt byTag partsAt tagAt tagOf labelAt numberAt numberOf tokens bytesOf deep t-bytes
+other-ends = refl
+
+-- left before right; the tree's own bytes alone, and none on a refusal
+read-trees : map firstTree (t-bytes ∷ (t-bytes ++ t-bytes) ∷ (1 ∷ 2 ∷ 1 ∷ 0 ∷ 0 ∷ []) ∷ [])
+    ≡ tree t ∷ tree t ∷ tree (leaf 258) ∷ []
+unfolding firstTree treeAt byTag partsAt tagAt tagOf labelAt numberAt numberOf tokens bytesOf t t-bytes
+read-trees = refl
+
+own-bytes : map (λ (s : List ℕ). ownBytes (firstTree s)) ((t-bytes ++ (9 ∷ [])) ∷ take 10 t-bytes ∷ []) ≡ t-bytes ∷ [] ∷ []
+unfolding firstTree treeAt byTag partsAt tagAt tagOf labelAt numberAt numberOf ownBytes tokens bytesOf t-bytes
+own-bytes = refl

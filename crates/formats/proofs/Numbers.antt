@@ -1,0 +1,100 @@
+-- Bytes of a number and back, both ways, over every width. Each goes by recursion on the width or the bytes: a number is its low byte and 256
+-- times the rest.
+use Prim.Native.Nat.{ℕ, zero, suc, _+_, _*_, _/_, _%_, _^_, _≤_, _<_}
+use mathlib.Core.Bool.{Bool, true, false}
+use mathlib.Core.List.{List, [], _∷_}
+use mathlib.Core.Path.{_≡_, refl, sym, ap, ap₂, _∙_}
+use native.Mathlib.Nat.{mod-lt, mod-add-div, div-lt-iff-lt-mul, add-mul-mod-self-left, mod-eq-of-lt, add-mul-div-left, div-eq-of-lt, pow-suc, mul-comm, zero-add, lt-of-lt-of-le, pow-le-pow-right, le-of-suc-le-suc}
+use native.Mathlib.Omega.{arith}
+use borrow.Author.Tests.{ltb-true, ltb-false}
+use lib.Dec.{lit<, ltb}
+use lib.ListN.{length, getD, take, drop, length-take, length-drop, List·getD-eq-default}
+use lib.Seq.{getD-take, getD-drop}
+use Rattle.formats.specs.Places.{Opens}
+use Rattle.formats.specs.Numbers.{Bytes, bytesOf, numberOf, numberAt}
+
+pub length-bytesOf : (width n : ℕ) → length (bytesOf width n) ≡ width
+unfolding bytesOf
+length-bytesOf zero n = refl
+length-bytesOf (suc width) n = ap suc (length-bytesOf width (n / 256))
+
+pub bytes-bytesOf : (width n : ℕ) → Bytes (bytesOf width n)
+unfolding bytesOf
+bytes-bytesOf zero n i = lit< tt
+bytes-bytesOf (suc width) n zero = mod-lt n (lit< tt)
+bytes-bytesOf (suc width) n (suc i) = bytes-bytesOf width (n / 256) i
+
+-- a number that fits the width is what its bytes stand for
+pub number-bytesOf : (width n : ℕ) → n < 256 ^ width → numberOf (bytesOf width n) ≡ n
+unfolding bytesOf numberOf
+number-bytesOf zero n h = omega arith
+number-bytesOf (suc width) n h =
+    let high : n / 256 < 256 ^ width = div-lt-iff-lt-mul (lit< tt) .1 (rw pow-suc at h) in
+    ap (λ (m : ℕ). n % 256 + 256 * m) (number-bytesOf width (n / 256) high) ∙ mod-add-div n 256
+
+-- a number's low byte and the rest
+low-byte : (b n : ℕ) → b < 256 → (b + 256 * n) % 256 ≡ b
+low-byte b n h = add-mul-mod-self-left b 256 n ∙ mod-eq-of-lt h
+
+high-bytes : (b n : ℕ) → b < 256 → (b + 256 * n) / 256 ≡ n
+high-bytes b n h = add-mul-div-left b n (lit< tt) ∙ ap (λ (q : ℕ). q + n) (div-eq-of-lt h) ∙ zero-add n
+
+-- bytes open those of the number that they stand for, and are those where the width is theirs
+pub bytesOf-opens : (width : ℕ) (s : List ℕ) → Bytes s → length s ≤ width → Opens s (bytesOf width (numberOf s))
+unfolding bytesOf numberOf
+bytesOf-opens width [] bs h = record { rest = bytesOf width (numberOf []); joined = refl }
+bytesOf-opens zero (b ∷ s) bs h = absurd (omega arith)
+bytesOf-opens (suc width) (b ∷ s) bs h = more (bytesOf-opens width s (λ i. bs (suc i)) (le-of-suc-le-suc h))
+  where
+    more : Opens s (bytesOf width (numberOf s)) → Opens (b ∷ s) (bytesOf (suc width) (numberOf (b ∷ s)))
+    more o = record { rest = o .rest; joined = ap₂ _∷_ (low-byte b (numberOf s) (bs 0)) (ap (bytesOf width) (high-bytes b (numberOf s) (bs 0)) ∙ o .joined) }
+
+pub bytesOf-number : (s : List ℕ) → Bytes s → bytesOf (length s) (numberOf s) ≡ s
+unfolding bytesOf numberOf
+bytesOf-number [] bs = refl
+bytesOf-number (b ∷ s) bs =
+    ap₂ _∷_ (low-byte b (numberOf s) (bs 0)) (ap (bytesOf (length s)) (high-bytes b (numberOf s) (bs 0)) ∙ bytesOf-number s (λ i. bs (suc i)))
+
+-- a number fits the width of its bytes
+numberOf-lt : (s : List ℕ) → Bytes s → numberOf s < 256 ^ length s
+unfolding numberOf
+numberOf-lt [] bs = lit< tt
+numberOf-lt (b ∷ s) bs =
+    let high : numberOf s < 256 ^ length s = numberOf-lt s (λ i. bs (suc i)) in
+    let low : b < 256 = bs 0 in
+    rw (pow-suc, mul-comm) (omega arith)
+
+pub numberOf-fits : (width : ℕ) (s : List ℕ) → Bytes s → length s ≤ width → numberOf s < 256 ^ width
+numberOf-fits width s bs h = lt-of-lt-of-le (numberOf-lt s bs) (pow-le-pow-right (lit< tt) h)
+
+none-left : (width : ℕ) → 0 ≡ 0 + 256 * numberOf (take width [])
+unfolding numberOf
+none-left zero = refl
+none-left (suc width) = refl
+
+-- the number at a place is the byte there and 256 times the number behind it, past the end too
+pub numberAt-suc : (width : ℕ) (s : List ℕ) (p : ℕ) → numberAt (suc width) s p ≡ getD s p 0 + 256 * numberAt width s (suc p)
+unfolding numberAt numberOf
+numberAt-suc width [] zero = none-left width
+numberAt-suc width [] (suc p) = none-left width
+numberAt-suc width (b ∷ s) zero = refl
+numberAt-suc width (b ∷ s) (suc p) = numberAt-suc width s p
+
+-- a part of bytes is bytes
+bytes-part : (width : ℕ) (s : List ℕ) (p : ℕ) → Bytes s → Bytes (take width (drop p s))
+bytes-part width s p bs i = inside (ltb i width) refl
+  where
+    inside : (b : Bool) → ltb i width ≡ b → getD (take width (drop p s)) i 0 < 256
+    inside true h = rw (getD-take width (drop p s) i 0 (ltb-true _ _ h), getD-drop) (bs (p + i))
+    inside false h = rw (List·getD-eq-default (take width (drop p s)) 0 {n = i} (simp length-take (omega (arith, ltb-false i width h)))) (lit< tt)
+
+-- the number at a place fits its width, and its bytes are those there
+pub numberAt-lt : (width : ℕ) (s : List ℕ) (p : ℕ) → Bytes s → numberAt width s p < 256 ^ width
+unfolding numberAt
+numberAt-lt width s p bs = numberOf-fits width (take width (drop p s)) (bytes-part width s p bs) (simp length-take (omega arith))
+
+pub bytesOf-numberAt : (width : ℕ) (s : List ℕ) (p : ℕ) → Bytes s → p + width ≤ length s → bytesOf width (numberAt width s p) ≡ take width (drop p s)
+unfolding numberAt
+bytesOf-numberAt width s p bs h =
+    let there : length (take width (drop p s)) ≡ width = simp (length-take, length-drop) (omega arith) in
+    ap (λ (k : ℕ). bytesOf k (numberOf (take width (drop p s)))) (sym there) ∙ bytesOf-number (take width (drop p s)) (bytes-part width s p bs)

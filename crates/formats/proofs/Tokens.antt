@@ -1,0 +1,209 @@
+-- Laws of trees, tokens and the reading of a tree. A reading is told by its tag: `look` says what is known where each tag was found, and a law
+-- for each tag says what the reading then is. With these, a tree that stands at a place is read there (`reads-at`), and a tree that is read
+-- stands there (`stands`), each by recursion on the room.
+use Prim.Native.Nat.{ℕ, zero, suc, _+_, _*_, _-_, _≤_, _<_, max, _^_}
+use mathlib.Core.Bool.{Bool, true, false}
+use mathlib.Core.List.{List, [], _∷_, _++_}
+use mathlib.Core.Logic.{_≢_}
+use mathlib.Core.Path.{_≡_, refl, sym, ap, ap₂, subst, _∙_}
+use native.Mathlib.Nat.{le-max-left, le-max-right, add-assoc}
+use native.Mathlib.Omega.{arith}
+use borrow.Author.Tests.{lt-ltb, le-ltb, le-leb, lt-leb, eq-eqb, ne-eqb, ltb-true, ltb-false, leb-true, leb-false, eqb-true, eqb-false}
+use lib.Dec.{leb, ltb, eqb}
+use lib.ListN.{length, getD, take, drop, length-append}
+use Rattle.formats.specs.Numbers.{Bytes, bytesOf, numberOf, numberAt}
+use Rattle.formats.specs.Places.{Lies, nothing, one-more}
+use Rattle.formats.specs.Refusals.{inputEnded, notATag, tooDeep}
+use Rattle.formats.specs.Tokens.{Tree, leaf, node, Labelled, tips, depth, leafTag, nodeTag, labelBytes, tokens, Reading, tree, refused, Tag, ended, aLeaf, aNode, other, tagOf, tagAt, labelAt, andThen, partsAt, byTag, treeAt}
+use Rattle.formats.proofs.Numbers.{length-bytesOf, number-bytesOf, numberAt-lt, bytesOf-numberAt}
+use Rattle.formats.proofs.Places.{lies-left, lies-right, lies-part, lies-taken, lies-append, lies-within}
+
+-- 01: "A tree of n leaves takes 6n − 1 bytes."
+six-a-tip : (t : Tree) → suc (length (tokens t)) ≡ 6 * tips t
+unfolding tokens tips
+six-a-tip (leaf x) = ap (λ (n : ℕ). suc (suc n)) (length-bytesOf labelBytes x)
+six-a-tip (node l r) =
+    let left = six-a-tip l in
+    let right = six-a-tip r in
+    simp length-append (omega arith)
+
+pub length-of-tokens : (t : Tree) → length (tokens t) ≡ 6 * tips t - 1
+length-of-tokens t = let h = six-a-tip t in omega arith
+
+-- what is known where a tag was found
+pub data Look (s : List ℕ) (p : ℕ) : Tag → Type 0 where
+  past : length s ≤ p → Look s p ended
+  at-leaf : p < length s → getD s p 0 ≡ leafTag → Look s p aLeaf
+  at-node : p < length s → getD s p 0 ≡ nodeTag → Look s p aNode
+  at-other : p < length s → getD s p 0 ≢ leafTag → getD s p 0 ≢ nodeTag → Look s p other
+
+pub look : (s : List ℕ) (p : ℕ) → Look s p (tagAt s p)
+unfolding tagAt tagOf
+look s p = inside (ltb p (length s)) refl
+  where
+    second : (b : Bool) → eqb (getD s p 0) nodeTag ≡ b → p < length s → getD s p 0 ≢ leafTag → Look s p (elim b [ true ↦ aNode | false ↦ other ])
+    second true e there nl = at-node there (eqb-true _ _ e)
+    second false e there nl = at-other there nl (eqb-false _ _ e)
+
+    which : (b : Bool) → eqb (getD s p 0) leafTag ≡ b → p < length s → Look s p (elim b [ true ↦ aLeaf | false ↦ elim (eqb (getD s p 0) nodeTag) [ true ↦ aNode | false ↦ other ] ])
+    which true e there = at-leaf there (eqb-true _ _ e)
+    which false e there = second (eqb (getD s p 0) nodeTag) refl there (eqb-false _ _ e)
+
+    inside : (b : Bool) → ltb p (length s) ≡ b → Look s p (elim b [ true ↦ tagOf (getD s p 0) | false ↦ ended ])
+    inside true e = which (eqb (getD s p 0) leafTag) refl (ltb-true _ _ e)
+    inside false e = past (ltb-false _ _ e)
+
+-- the tag, from what is known
+pub tag-is : {s : List ℕ} {p : ℕ} {g : Tag} → Look s p g → tagAt s p ≡ g
+unfolding tagAt tagOf
+tag-is (past h) = simp (tagAt, le-ltb _ _ h)
+tag-is (at-leaf there is) = simp (tagAt, tagOf, lt-ltb _ _ there, eq-eqb _ _ is)
+tag-is {s} {p} (at-node there is) =
+    let nl : getD s p 0 ≢ leafTag = λ e. omega arith in
+    simp (tagAt, tagOf, lt-ltb _ _ there, ne-eqb _ _ nl, eq-eqb _ _ is)
+tag-is (at-other there nl nn) = simp (tagAt, tagOf, lt-ltb _ _ there, ne-eqb _ _ nl, ne-eqb _ _ nn)
+
+-- what the reading is, by the tag
+pub read-ended : (room : ℕ) {s : List ℕ} {p : ℕ} → Look s p ended → treeAt room s p ≡ refused inputEnded p
+unfolding treeAt byTag
+read-ended zero k = simp (treeAt, byTag, tag-is k)
+read-ended (suc room) k = simp (treeAt, byTag, tag-is k)
+
+pub read-leaf : (room : ℕ) {s : List ℕ} {p : ℕ} → Look s p aLeaf → treeAt room s p ≡ labelAt s (suc p)
+unfolding treeAt byTag
+read-leaf zero k = simp (treeAt, byTag, tag-is k)
+read-leaf (suc room) k = simp (treeAt, byTag, tag-is k)
+
+pub read-other : (room : ℕ) {s : List ℕ} {p : ℕ} → Look s p other → treeAt room s p ≡ refused notATag p
+unfolding treeAt byTag
+read-other zero k = simp (treeAt, byTag, tag-is k)
+read-other (suc room) k = simp (treeAt, byTag, tag-is k)
+
+pub read-deep : {s : List ℕ} {p : ℕ} → Look s p aNode → treeAt zero s p ≡ refused tooDeep p
+unfolding treeAt byTag
+read-deep k = simp (treeAt, byTag, tag-is k)
+
+read-parts : (room : ℕ) {s : List ℕ} {p : ℕ} → Look s p aNode → treeAt (suc room) s p ≡ partsAt (λ o. treeAt room s o) (suc p)
+unfolding treeAt byTag
+read-parts room k = simp (treeAt, byTag, tag-is k)
+
+-- a label that is whole, and one that is not
+pub label-whole : (s : List ℕ) (p : ℕ) → p + labelBytes ≤ length s → labelAt s p ≡ tree (leaf (numberAt labelBytes s p))
+unfolding labelAt
+label-whole s p h = simp (labelAt, le-leb _ _ h)
+
+pub label-cut : (s : List ℕ) (p : ℕ) → length s < p + labelBytes → labelAt s p ≡ refused inputEnded p
+unfolding labelAt
+label-cut s p h = simp (labelAt, lt-leb _ _ h)
+
+-- a node's reading, by those of its parts
+module _ (room : ℕ) {s : List ℕ} {p : ℕ} (k : Look s p aNode) where
+  pub left-refused : {n q : ℕ} → treeAt room s (suc p) ≡ refused n q → treeAt (suc room) s p ≡ refused n q
+  unfolding partsAt
+  left-refused e = rw (read-parts room k) (simp (partsAt, e))
+
+  pub right-refused : {l : Tree} {n q : ℕ} → treeAt room s (suc p) ≡ tree l → treeAt room s (suc p + length (tokens l)) ≡ refused n q → treeAt (suc room) s p ≡ refused n q
+  unfolding partsAt
+  right-refused e f = rw (read-parts room k) (simp (partsAt, e, f))
+
+  pub read-node : {l r : Tree} → treeAt room s (suc p) ≡ tree l → treeAt room s (suc p + length (tokens l)) ≡ tree r → treeAt (suc room) s p ≡ tree (node l r)
+  unfolding partsAt
+  read-node e f = rw (read-parts room k) (simp (partsAt, e, f))
+
+-- a label that stands at a place is read there, and lies within the buffer
+label-read : (s : List ℕ) (p x : ℕ) → x < 2 ^ 32 → p ≤ length s → Lies s p (bytesOf labelBytes x) → labelAt s p ≡ tree (leaf x)
+unfolding numberAt
+label-read s p x fits h label =
+    let whole : p + labelBytes ≤ length s = rw length-bytesOf at (lies-within label h) in
+    let is : take labelBytes (drop p s) ≡ bytesOf labelBytes x = rw length-bytesOf at (lies-part label) in
+    label-whole s p whole ∙ ap (λ (n : ℕ). tree (leaf n)) (ap numberOf is ∙ number-bytesOf labelBytes x fits)
+
+-- a tree that stands at a place, with room for its depth, is read there
+pub reads-at : (t : Tree) (room : ℕ) (s : List ℕ) (p : ℕ) → Labelled t → depth t ≤ room → Lies s p (tokens t) → treeAt room s p ≡ tree t
+unfolding depth tokens
+reads-at (leaf x) room s p fits h (one-more there is more) =
+    read-leaf room (at-leaf there is) ∙ label-read s (suc p) x fits (omega arith) (more)
+reads-at (node l r) zero s p fits h (one-more there is more) = absurd (omega arith)
+reads-at (node l r) (suc room) s p fits h (one-more there is more) =
+    read-node room (at-node there is)
+    (reads-at l room s (suc p) (fits .0) (omega arith) (lies-left (tokens l) (tokens r) more))
+    (reads-at r room s (suc p + length (tokens l)) (fits .1) (omega arith) (lies-right (tokens l) (tokens r) more))
+
+-- what is known of a tree that was read at a place with so much room
+pub record Stands (room : ℕ) (s : List ℕ) (p : ℕ) (t : Tree) : Type 0 where
+  pub lies : Lies s p (tokens t)
+  pub labelled : Labelled t
+  pub shallow : depth t ≤ room
+
+-- a reading is a tree or a refusal, with the equation kept
+pub data Outcome (r : Reading) : Type 0 where
+  gave : (t : Tree) → r ≡ tree t → Outcome r
+  stopped : (n q : ℕ) → r ≡ refused n q → Outcome r
+
+pub outcome : (r : Reading) → Outcome r
+outcome (tree t) = gave t refl
+outcome (refused n q) = stopped n q refl
+
+-- a reading that is a tree is no refusal
+pub never-both : {A : Type 0} {r : Reading} {t : Tree} {n q : ℕ} → r ≡ tree t → r ≡ refused n q → A
+never-both e f = let z : _≡_ {A = ℕ} 0 1 = cc in absurd (omega arith)
+
+-- a leaf that was read stands there
+leaf-stands : (room : ℕ) (s : List ℕ) (p : ℕ) (t : Tree) → Bytes s → Look s p aLeaf → labelAt s (suc p) ≡ tree t → Stands room s p t
+unfolding tokens depth
+leaf-stands room s p t bs (at-leaf there is) e = whole (leb (suc p + labelBytes) (length s)) refl
+  where
+    whole : (b : Bool) → leb (suc p + labelBytes) (length s) ≡ b → Stands room s p t
+    whole true h =
+        let within : suc p + labelBytes ≤ length s = leb-true _ _ h in
+        let label : Lies s (suc p) (bytesOf labelBytes (numberAt labelBytes s (suc p))) = rw (bytesOf-numberAt labelBytes s (suc p) bs within) (lies-taken labelBytes s (suc p) within) in
+        let same : leaf (numberAt labelBytes s (suc p)) ≡ t = cc (label-whole s (suc p) within) in
+        subst (Stands room s p) same
+        (record { lies = one-more there is label; labelled = numberAt-lt labelBytes s (suc p) bs; shallow = omega arith })
+    whole false h = never-both e (label-cut s (suc p) (leb-false _ _ h))
+
+-- a node that was read stands there, where its parts that were read do
+node-stands :
+    (room : ℕ) (s : List ℕ) (p : ℕ) (t : Tree)
+    → ((q : ℕ) (u : Tree) → treeAt room s q ≡ tree u → Stands room s q u)
+    → Look s p aNode
+    → treeAt (suc room) s p ≡ tree t
+    → Stands (suc room) s p t
+unfolding tokens depth
+node-stands room s p t part (at-node there is) e = by-left (outcome (treeAt room s (suc p)))
+  where
+    k : Look s p aNode
+    k = at-node there is
+
+    by-right : (l : Tree) → treeAt room s (suc p) ≡ tree l → Outcome (treeAt room s (suc p + length (tokens l))) → Stands (suc room) s p t
+    by-right l f (stopped n q g) = never-both e (right-refused room k f g)
+    by-right l f (gave r g) =
+        let left = part (suc p) l f in
+        let right = part (suc p + length (tokens l)) r g in
+        let same : node l r ≡ t = cc (read-node room k f g) in
+        subst (Stands (suc room) s p) same
+        (record { lies = one-more there is (lies-append (left .lies) (right .lies)); labelled = (left .labelled, right .labelled); shallow = omega (arith, left .shallow, right .shallow) })
+
+    by-left : Outcome (treeAt room s (suc p)) → Stands (suc room) s p t
+    by-left (stopped n q f) = never-both e (left-refused room k f)
+    by-left (gave l f) = by-right l f (outcome (treeAt room s (suc p + length (tokens l))))
+
+-- a tree that was read stands there, where this holds of a node
+by-tag : (room : ℕ) (s : List ℕ) (p : ℕ) (t : Tree) → Bytes s → (Look s p aNode → Stands room s p t) → {g : Tag} → Look s p g → treeAt room s p ≡ tree t → Stands room s p t
+by-tag room s p t bs below (past h) e = never-both e (read-ended room (past h))
+by-tag room s p t bs below (at-leaf there is) e = leaf-stands room s p t bs (at-leaf there is) (sym (read-leaf room (at-leaf there is)) ∙ e)
+by-tag room s p t bs below (at-node there is) e = below (at-node there is)
+by-tag room s p t bs below (at-other there nl nn) e = never-both e (read-other room (at-other there nl nn))
+
+-- a tree that was read stands there
+pub stands : (room : ℕ) (s : List ℕ) (p : ℕ) (t : Tree) → Bytes s → treeAt room s p ≡ tree t → Stands room s p t
+stands zero s p t bs e = by-tag zero s p t bs (λ k. never-both e (read-deep k)) (look s p) e
+stands (suc room) s p t bs e = by-tag (suc room) s p t bs (λ k. node-stands room s p t (λ q u f. stands room s q u bs f) k e) (look s p) e
+
+-- tokens are prefix-free: two trees that stand at one place are the same
+pub one-tree : (t u : Tree) (s : List ℕ) (p : ℕ) → Labelled t → Labelled u → Lies s p (tokens t) → Lies s p (tokens u) → t ≡ u
+one-tree t u s p lt lu ht hu =
+    let room : ℕ = max (depth t) (depth u) in
+    let rt : treeAt room s p ≡ tree t = reads-at t room s p lt (le-max-left _ _) ht in
+    let ru : treeAt room s p ≡ tree u = reads-at u room s p lu (le-max-right _ _) hu in
+    cc

@@ -1,0 +1,33 @@
+-- Numbers as bytes and as 32-bit words.
+use Prim.Native.Nat.{ℕ, zero, suc, _+_, _-_, _*_, _/_, _%_, _^_, _<_}
+use mathlib.Core.Bool.{true, false}
+use mathlib.Core.List.{List, [], _∷_}
+use lib.ListN.{getD, take, drop}
+use lib.Dec.{ltb}
+use lib.IntN.{ℤ, pos, negsuc}
+
+-- Each element is a byte. (Past the end `getD` gives 0.)
+abbrev pub Bytes : List ℕ → Type 0
+Bytes s = (i : ℕ) → getD s i 0 < 256
+
+-- 01: "Numbers of several bytes stand low byte first." The bytes of n, as many as the width says.
+unfoldable pub bytesOf : ℕ → ℕ → List ℕ
+bytesOf zero n = []
+bytesOf (suc width) n = n % 256 ∷ bytesOf width (n / 256)
+
+-- The number that bytes stand for, low byte first.
+unfoldable pub numberOf : List ℕ → ℕ
+numberOf [] = 0
+numberOf (b ∷ s) = b + 256 * numberOf s
+
+-- The number of that width at a place of s. Bytes past the end count as 0.
+unfoldable pub numberAt : ℕ → List ℕ → ℕ → ℕ
+numberAt width s p = numberOf (take width (drop p s))
+
+-- 01: "add (modulo 2^32)".
+unfoldable pub sum32 : ℕ → ℕ → ℕ
+sum32 a b = (a + b) % 2 ^ 32
+
+-- 01: "Labels, i and instruction numbers are two's complement." The number that a 32-bit word stands for.
+unfoldable pub signed32 : ℕ → ℤ
+signed32 w = elim (ltb w (2 ^ 31)) [ true ↦ pos w | false ↦ negsuc (2 ^ 32 - suc w) ]

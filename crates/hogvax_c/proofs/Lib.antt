@@ -1,0 +1,2 @@
+-- Laws that the proofs of the exported functions cite.
+pub mod Laws

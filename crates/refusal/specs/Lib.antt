@@ -1,0 +1,2 @@
+-- What a refusal's number is.
+pub mod Number

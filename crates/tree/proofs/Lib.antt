@@ -1,0 +1,2 @@
+-- Laws that the proofs of the tree reader's functions cite.
+pub mod Laws

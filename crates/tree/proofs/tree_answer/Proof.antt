@@ -1,0 +1,24 @@
+-- `tree::tree_answer` meets its contract: what `tree_end` tells is the first tree's end, or where it is refused.
+use borrow.Author.Needs.{needs}
+use Rattle.tree.proofs.Laws.{first-told}
+use Rattle.tree.proofs.tree_answer.Statement.{statement}
+use Rattle.tree.proofs.tree_answer.Tie as tie
+
+tree-end-requires : tie.Need-tree-end-requires
+tree-end-requires c κs = search needs
+
+returns : tie.Need-returns
+returns c = search first-told
+
+sub-refusal-at : tie.Need-sub-refusal-at
+sub-refusal-at c = search needs
+
+refusal-at-requires : tie.Need-refusal-at-requires
+refusal-at-requires c κs = search needs
+
+returns-2 : tie.Need-returns-2
+returns-2 c = search first-told
+
+pub tree-answer-spec : {M : Type 1} → statement M
+tree-answer-spec =
+    tie.close (tie.spec tree-end-requires returns sub-refusal-at refusal-at-requires returns-2)

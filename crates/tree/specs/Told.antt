@@ -1,0 +1,26 @@
+-- The end of a tree, or its refusal, told by one number.
+use Prim.Native.Nat.{ℕ, suc, _-_, _^_}
+use mathlib.Core.Bool.{true, false}
+use mathlib.Core.List.{List}
+use lib.Dec.{leb}
+use lib.ListN.{length}
+use Rattle.formats.specs.Refusals.{inputEnded, notATag, tooDeep}
+use Rattle.formats.specs.Tokens.{ended, aLeaf, aNode, other, tagAt, Ending, ends, stops}
+
+-- A tree is refused where a tag is due, and what stands there says why: nothing, a leaf whose label is cut, a node too deep, or no tag.
+unfoldable pub refusalAt : List ℕ → ℕ → Ending
+refusalAt s p =
+    elim (tagAt s p) [
+      | ended ↦ stops inputEnded p
+      | aLeaf ↦ stops inputEnded (suc p)
+      | aNode ↦ stops tooDeep p
+      | other ↦ stops notATag p
+    ]
+
+-- The largest 64-bit number.
+abbrev pub allOnes : ℕ
+allOnes = 2 ^ 64 - 1
+
+-- A number up to the buffer's length is an end. A larger one is all ones less the place of the tag where the tree is refused.
+unfoldable pub toldBy : List ℕ → ℕ → Ending
+toldBy s r = elim (leb r (length s)) [ true ↦ ends r | false ↦ refusalAt s (allOnes - r) ]

@@ -1,0 +1,132 @@
+// Numbers of 16 and 32 bits in byte slices, low byte first, and the sums and signs of 32-bit words. Nothing here asks anything of its caller:
+// a place may be anywhere, and only what lies within the slice is read or written.
+ghost use mathlib.Core.Path.{_≡_};
+ghost use mathlib.Core.List.{[], _∷_};
+ghost use Prim.Native.Nat.{_+_};
+ghost use lib.ListN.{getD};
+ghost use Rattle.formats.specs.Numbers.{bytesOf, numberOf, numberAt, sum32, signed32};
+ghost use Rattle.formats.specs.Written.{written};
+
+// The number that two bytes stand for.
+fn word16(b0: u8, b1: u8) -> u16
+    ensures { λ r. ⌜ r ≡ numberOf (b0 ∷ b1 ∷ []) ⌝ }
+{
+    (b0 as u16) + 256 * (b1 as u16)
+}
+
+// The number that four bytes stand for.
+fn word32(b0: u8, b1: u8, b2: u8, b3: u8) -> u32
+    ensures { λ r. ⌜ r ≡ numberOf (b0 ∷ b1 ∷ b2 ∷ b3 ∷ []) ⌝ }
+{
+    (b0 as u32) + 256 * ((b1 as u32) + 256 * ((b2 as u32) + 256 * (b3 as u32)))
+}
+
+// The byte k places behind a place. Past the end it is 0.
+fn byte(s: &[u8], at: usize, k: usize) -> u8
+    ensures { λ r. ⌜ r ≡ getD (now (s .entry)) (at + k) 0 ⌝ }
+{
+    let n = s.len();
+    if at < n {
+        if k < n - at { s[at + k] } else { 0 }
+    } else {
+        0
+    }
+}
+
+// `read16` near the end or past it.
+fn read16_short(s: &[u8], at: usize) -> u16
+    ensures { λ r. ⌜ r ≡ numberAt 2 (now (s .entry)) at ⌝ }
+{
+    word16(byte(s, at, 0), byte(s, at, 1))
+}
+
+// The 16-bit number at a place. Bytes past the end count as 0.
+pub fn read16(s: &[u8], at: usize) -> u16
+    ensures { λ r. ⌜ r ≡ numberAt 2 (now (s .entry)) at ⌝ }
+{
+    let n = s.len();
+    if n < 2 {
+        read16_short(s, at)
+    } else if at <= n - 2 {
+        word16(s[at], s[at + 1])
+    } else {
+        read16_short(s, at)
+    }
+}
+
+// `read32` near the end or past it.
+fn read32_short(s: &[u8], at: usize) -> u32
+    ensures { λ r. ⌜ r ≡ numberAt 4 (now (s .entry)) at ⌝ }
+{
+    word32(
+        byte(s, at, 0),
+        byte(s, at, 1),
+        byte(s, at, 2),
+        byte(s, at, 3),
+    )
+}
+
+// The 32-bit number at a place. Bytes past the end count as 0.
+pub fn read32(s: &[u8], at: usize) -> u32
+    ensures { λ r. ⌜ r ≡ numberAt 4 (now (s .entry)) at ⌝ }
+{
+    let n = s.len();
+    if n < 4 {
+        read32_short(s, at)
+    } else if at <= n - 4 {
+        word32(s[at], s[at + 1], s[at + 2], s[at + 3])
+    } else {
+        read32_short(s, at)
+    }
+}
+
+// Writes the two bytes of n at a place, or nothing where they do not fit.
+pub fn write16(s: &mut [u8], at: usize, n: u16)
+    ensures { λ _. ⌜ now (s .exit) ≡ written (now (s .entry)) at (bytesOf 2 n) ⌝ }
+{
+    let len = s.len();
+    if len < 2 {
+        return;
+    }
+    if at <= len - 2 {
+        s[at] = (n % 256) as u8;
+        s[at + 1] = (n / 256 % 256) as u8;
+    }
+}
+
+// Writes the four bytes of n at a place, or nothing where they do not all fit.
+pub fn write32(s: &mut [u8], at: usize, n: u32)
+    ensures { λ _. ⌜ now (s .exit) ≡ written (now (s .entry)) at (bytesOf 4 n) ⌝ }
+{
+    let len = s.len();
+    if len < 4 {
+        return;
+    }
+    if at <= len - 4 {
+        let n1 = n / 256;
+        let n2 = n1 / 256;
+        let n3 = n2 / 256;
+        s[at] = (n % 256) as u8;
+        s[at + 1] = (n1 % 256) as u8;
+        s[at + 2] = (n2 % 256) as u8;
+        s[at + 3] = (n3 % 256) as u8;
+    }
+}
+
+// a + b, modulo 2^32.
+pub fn add32(a: u32, b: u32) -> u32
+    ensures { λ r. ⌜ r ≡ sum32 a b ⌝ }
+{
+    std::num::wrapping_add_u32(a, b)
+}
+
+// The number that a word stands for in two's complement.
+pub fn signed(w: u32) -> i32
+    ensures { λ r. ⌜ r ≡ signed32 w ⌝ }
+{
+    if w < 2147483648 {
+        w as i32
+    } else {
+        -1 - ((4294967295 - w) as i32)
+    }
+}

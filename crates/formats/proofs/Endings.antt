@@ -1,13 +1,13 @@
 -- Laws of where a tree ends, one for each way in which a reader can find it. Their premises are the tests that a reader makes. An ending tells
 -- the reading: `ended-by` and `stopped-by` turn it back.
 use Prim.Native.Nat.{ℕ, zero, suc, _+_, _-_, _≤_, _<_}
-use mathlib.Core.List.{List, [], _∷_, _++_}
+use mathlib.Core.List.{List, [], _++_}
 use mathlib.Core.Logic.{_≢_}
 use mathlib.Core.Path.{_≡_, refl, sym, ap, _∙_}
 use native.Mathlib.Nat.{zero-add}
 use native.Mathlib.Numerals.{add-one, sub-one}
 use native.Mathlib.Omega.{arith}
-use lib.ListN.{length, getD, take, length-append, length-take}
+use lib.ListN.{length, getD, take, length-append}
 use Rattle.formats.specs.Numbers.{Bytes, bytesOf}
 use Rattle.formats.specs.Refusals.{inputEnded, notATag, tooDeep}
 use Rattle.formats.specs.Tokens.{Tree, leaf, node, leafTag, nodeTag, mostDepth, tokens, Reading, tree, refused, treeAt, aNode, firstTree, ownBytes, Ending, ends, stops, endFrom, endAt, firstEnd}
@@ -104,7 +104,7 @@ pub end-first : (s : List ℕ) (e : Ending) → e ≡ endAt mostDepth s 0 → e 
 unfolding endAt firstEnd firstTree
 end-first s e h = h
 
--- its own bytes are the buffer's up to its end, which lies within the buffer
+-- its own bytes are the buffer's up to its end
 own-tokens : (s : List ℕ) (t : Tree) (o : ℕ) → Bytes s → firstTree s ≡ tree t → 0 + length (tokens t) ≡ o → take o s ≡ ownBytes (firstTree s)
 unfolding ownBytes
 own-tokens s t o bs e h = rw (e, ← h, zero-add) (tree-reader .gives s t bs e .own-bytes)
@@ -113,16 +113,7 @@ pub own-ends : (s : List ℕ) (o : ℕ) → Bytes s → ends o ≡ firstEnd s �
 unfolding firstEnd
 own-ends s o bs e = let t = ended-by 0 (firstTree s) o (sym e) in own-tokens s (t .it) o bs (t .is) (t .place)
 
-pub own-within : (s : List ℕ) (o : ℕ) → Bytes s → ends o ≡ firstEnd s → o ≤ length s
-unfolding firstEnd
-own-within s o bs e =
-    let t = ended-by 0 (firstTree s) o (sym e) in
-    omega (arith, t .place, simp length-take at (ap length (tree-reader .gives s (t .it) bs (t .is) .own-bytes)))
-
 -- there are none on a refusal
 pub own-stops : (s : List ℕ) (n q : ℕ) → stops n q ≡ firstEnd s → [] ≡ ownBytes (firstTree s)
 unfolding firstEnd ownBytes
 own-stops s n q e = rw (stopped-by 0 (firstTree s) n q (sym e))
-
--- what closes each way out of a reader
-pub ruleset endings = (end-past, end-cut, end-leaf, end-other, end-deep, end-left, end-right, end-first, own-ends, own-stops)

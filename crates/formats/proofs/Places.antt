@@ -4,7 +4,7 @@ use mathlib.Core.List.{List, [], _∷_, _++_, append-nil}
 use mathlib.Core.Path.{_≡_, refl, sym, ap, ap₂, subst, _∙_}
 use native.Mathlib.Nat.{add-zero, add-suc, suc-add}
 use native.Mathlib.Omega.{arith}
-use lib.ListN.{length, getD, take, drop, length-append, length-take, take-append-drop, List·getD-append}
+use lib.ListN.{length, getD, take, drop, length-append, length-take, List·getD-append}
 use lib.Seq.{drop-cons, getD-take, take-add}
 use Rattle.formats.specs.Places.{Opens, Lies, nothing, one-more}
 
@@ -41,17 +41,13 @@ lies-behind : {s vs : List ℕ} {p : ℕ} (b : ℕ) → Lies s p vs → Lies (b 
 lies-behind b nothing = nothing
 lies-behind b (one-more there is more) = one-more (suc-le-suc there) is (lies-behind b more)
 
--- what opens a buffer lies at its first place, and the other way round
+-- what opens a buffer lies at its first place
 pub lies-first : (vs rest : List ℕ) → Lies (vs ++ rest) 0 vs
 lies-first [] rest = nothing
 lies-first (v ∷ vs) rest = one-more {p = 0} (omega arith) refl (lies-behind v (lies-first vs rest))
 
 pub opens-lies : {vs s : List ℕ} → Opens vs s → Lies s 0 vs
 opens-lies {vs} h = subst (λ (l : List ℕ). Lies l 0 vs) (sym (h .joined)) (lies-first vs (h .rest))
-
-pub lies-opens : {s vs : List ℕ} → Lies s 0 vs → Opens vs s
-lies-opens {s} {vs} h =
-    record { rest = drop (length vs) s; joined = sym (take-append-drop (length vs) s) ∙ ap (λ (l : List ℕ). l ++ drop (length vs) s) (lies-part h) }
 
 -- the bytes that are there lie there
 pub lies-taken : (n : ℕ) (s : List ℕ) (p : ℕ) → p + n ≤ length s → Lies s p (take n (drop p s))

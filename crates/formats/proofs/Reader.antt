@@ -4,23 +4,23 @@
 use Prim.Native.Nat.{ℕ, zero, suc, _+_, _-_, _≤_, _<_, zero-le}
 use mathlib.Core.Bool.{Bool, true, false}
 use mathlib.Core.List.{List, [], _∷_, _++_, append-nil, append-assoc}
-use mathlib.Core.Logic.{_≢_, _↔_}
+use mathlib.Core.Logic.{_≢_}
 use mathlib.Core.Path.{_≡_, refl, sym, ap, subst, _∙_}
 use native.Mathlib.Nat.{le-antisymm, le-of-eq}
 use native.Mathlib.Numerals.{add-one}
 use native.Mathlib.Omega.{arith}
 use borrow.Author.Tests.{leb-true, leb-false}
-use lib.Dec.{leb, lit<, lit≤}
+use lib.Dec.{leb, lit<}
 use lib.ListN.{length, getD, take, drop, length-drop}
 use lib.Seq.{getD-drop, take-all, split-at}
-use Rattle.formats.specs.Numbers.{Bytes, bytesOf, numberOf}
+use Rattle.formats.specs.Numbers.{Bytes, numberOf}
 use Rattle.formats.specs.Places.{Opens, Lies, nothing, one-more}
 use Rattle.formats.specs.Refusals.{inputEnded, notATag, tooDeep}
-use Rattle.formats.specs.Tokens.{Tree, leaf, node, Labelled, depth, leafTag, nodeTag, labelBytes, mostDepth, tokens, Reading, tree, refused, Tag, ended, aLeaf, aNode, other, labelAt, treeAt, firstTree}
+use Rattle.formats.specs.Tokens.{Tree, leaf, node, Labelled, depth, leafTag, nodeTag, labelBytes, mostDepth, tokens, Reading, tree, refused, Tag, ended, aLeaf, aNode, labelAt, treeAt, firstTree}
 use Rattle.formats.specs.Reader.{Gave, Due, first, left, right, Refuses, no-tag, no-label, no-such-tag, under-too-many, Fits, Ended, FitsNone, TooDeep, TreeReader}
 use Rattle.formats.proofs.Numbers.{length-bytesOf, bytesOf-opens, numberOf-fits}
 use Rattle.formats.proofs.Places.{lies-left, lies-right, lies-part, lies-within, lies-first, opens-lies, lies-shared, lies-take, lies-all, head-is}
-use Rattle.formats.proofs.Tokens.{length-of-tokens, Look, past, at-leaf, at-node, at-other, look, read-ended, read-leaf, read-other, read-deep, label-whole, label-cut, left-refused, right-refused, read-node, reads-at, Stands, stands, Outcome, gave, stopped, outcome, never-both, one-tree}
+use Rattle.formats.proofs.Tokens.{length-of-tokens, Look, past, at-leaf, at-node, at-other, look, read-ended, read-leaf, read-other, read-deep, label-whole, label-cut, left-refused, right-refused, read-node, reads-at, stands, Outcome, gave, stopped, outcome, never-both, one-tree}
 
 takes : (t : Tree) (rest : List ℕ) → Labelled t → depth t ≤ mostDepth → firstTree (tokens t ++ rest) ≡ tree t
 unfolding firstTree
@@ -42,12 +42,12 @@ none s number p e t fits shallow o = never-both (reads-at t mostDepth s 0 fits s
 due-within : {s : List ℕ} {p above : ℕ} → Due s p above → p ≤ length s
 due-within first = zero-le
 due-within (left d room (one-more there is more)) = there
-due-within (right {p = p} l d room fits shallow h) = let within = lies-within h (due-within d) in omega arith
+due-within (right {p = p} l d fits shallow h) = let within = lies-within h (due-within d) in omega arith
 
 due-under : {s : List ℕ} {p above : ℕ} → Due s p above → above ≤ mostDepth
 due-under first = zero-le
 due-under (left d room tag) = room
-due-under (right l d room fits shallow h) = room
+due-under (right l d fits shallow h) = omega arith
 
 -- a fault found is the one that was asked for
 same-fault : {s : List ℕ} {r : Reading} {n q n′ q′ : ℕ} → r ≡ refused n q → r ≡ refused n′ q′ → Refuses s n q → Refuses s n′ q′
@@ -85,7 +85,7 @@ node-fault room s p above n q bs h part d (at-node there is) e = by-left (outcom
     by-right l f (gave r g) = never-both (read-node room k f g) e
     by-right l f (stopped m r g) =
         let was = stands room s (suc p) l bs f in
-        let due : Due s (suc p + length (tokens l)) (suc above) = right l d (omega arith) (was .labelled) (omega (arith, was .shallow)) (one-more there is (was .lies)) in
+        let due : Due s (suc p + length (tokens l)) (suc above) = right l d (was .labelled) (omega (arith, was .shallow)) (one-more there is (was .lies)) in
         same-fault (right-refused room k f g) e (part _ m r due g)
 
     by-left : Outcome (treeAt room s (suc p)) → Refuses s n q
@@ -124,7 +124,7 @@ whole-refused : {s : List ℕ} {p above n q : ℕ} → Due s p above → (room :
 unfolding firstTree
 whole-refused {s} {n = n} {q = q} first room h e = subst (λ (m : ℕ). treeAt m s 0 ≡ refused n q) (omega arith) e
 whole-refused (left d below (one-more there is more)) room h e = whole-refused d (suc room) (omega arith) (left-refused room (at-node there is) e)
-whole-refused {s} (right {p = p} l d below fits shallow (one-more there is more)) room h e =
+whole-refused {s} (right {p = p} l d fits shallow (one-more there is more)) room h e =
     whole-refused d (suc room) (omega arith) (right-refused room (at-node there is) (reads-at l room s (suc p) fits (omega arith) more) e)
 
 back : {s : List ℕ} {n q : ℕ} → Refuses s n q → firstTree s ≡ refused n q
@@ -151,7 +151,7 @@ filled {s} (left {p = p} d room tag) u fits =
     let f = filled d (node u (leaf 0)) (fits, lit< tt) in
     let longer : take (suc p) s ≡ take p s ++ (nodeTag ∷ []) = rw (← (add-one p)) (lies-take tag) in
     record { whole = f .whole; labelled = f .labelled; rest = tokens (leaf 0) ++ f .rest; joined = f .joined ∙ simp (longer, append-assoc) }
-filled {s} (right {p = p} l d room fl shallow h) u fits =
+filled {s} (right {p = p} l d fl shallow h) u fits =
     let f = filled d (node l u) (fl, fits) in
     let place : suc p + length (tokens l) ≡ p + suc (length (tokens l)) = omega arith in
     let longer : take (suc p + length (tokens l)) s ≡ take p s ++ (nodeTag ∷ tokens l) = ap (λ (n : ℕ). take n s) place ∙ lies-take h in
@@ -179,13 +179,13 @@ right-part {s} {p} (node k r) l fits fl (one-more there is more) (one-more t tag
 due-part : {s : List ℕ} {p above : ℕ} → Due s p above → (t : Tree) → Labelled t → Lies s 0 (tokens t) → PartAt s p
 due-part first t fits h = record { part = t; labelled = fits; lies = h }
 due-part (left d room (one-more there is more)) t fits h = let u = due-part d t fits h in left-part (u .part) (u .labelled) (u .lies) is
-due-part (right l d room fl shallow m) t fits h = let u = due-part d t fits h in right-part (u .part) l (u .labelled) fl (u .lies) m
+due-part (right l d fl shallow m) t fits h = let u = due-part d t fits h in right-part (u .part) l (u .labelled) fl (u .lies) m
 
 -- a place that is due in the first n bytes is due in each buffer that opens with these
 due-shared : {s : List ℕ} {p above : ℕ} (n : ℕ) (u : List ℕ) → Opens (take n s) u → Due s p above → p ≤ n → Due u p above
 due-shared n u o first h = first
 due-shared n u o (left d room tag) h = left (due-shared n u o d (omega arith)) room (lies-shared n u o tag (omega arith))
-due-shared n u o (right l d room fl shallow m) h = right l (due-shared n u o d (omega arith)) room fl shallow (lies-shared n u o m (omega arith))
+due-shared n u o (right l d fl shallow m) h = right l (due-shared n u o d (omega arith)) fl shallow (lies-shared n u o m (omega arith))
 
 -- the first byte of a tree's tokens is a tag
 tag-first : {s : List ℕ} {p : ℕ} (u : Tree) → Lies s p (tokens u) → getD s p 0 ≢ leafTag → getD s p 0 ≢ nodeTag → ⊥

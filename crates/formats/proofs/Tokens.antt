@@ -3,18 +3,18 @@
 -- stands there (`stands`), each by recursion on the room.
 use Prim.Native.Nat.{ℕ, zero, suc, _+_, _*_, _-_, _≤_, _<_, max, _^_}
 use mathlib.Core.Bool.{Bool, true, false}
-use mathlib.Core.List.{List, [], _∷_, _++_}
+use mathlib.Core.List.{List}
 use mathlib.Core.Logic.{_≢_}
-use mathlib.Core.Path.{_≡_, refl, sym, ap, ap₂, subst, _∙_}
-use native.Mathlib.Nat.{le-max-left, le-max-right, add-assoc}
+use mathlib.Core.Path.{_≡_, refl, sym, ap, subst, _∙_}
+use native.Mathlib.Nat.{le-max-left, le-max-right}
 use native.Mathlib.Omega.{arith}
 use borrow.Author.Tests.{lt-ltb, le-ltb, le-leb, lt-leb, eq-eqb, ne-eqb, ltb-true, ltb-false, leb-true, leb-false, eqb-true, eqb-false}
 use lib.Dec.{leb, ltb, eqb}
 use lib.ListN.{length, getD, take, drop, length-append}
 use Rattle.formats.specs.Numbers.{Bytes, bytesOf, numberOf, numberAt}
-use Rattle.formats.specs.Places.{Lies, nothing, one-more}
+use Rattle.formats.specs.Places.{Lies, one-more}
 use Rattle.formats.specs.Refusals.{inputEnded, notATag, tooDeep}
-use Rattle.formats.specs.Tokens.{Tree, leaf, node, Labelled, tips, depth, leafTag, nodeTag, labelBytes, tokens, Reading, tree, refused, Tag, ended, aLeaf, aNode, other, tagOf, tagAt, labelAt, andThen, partsAt, byTag, treeAt}
+use Rattle.formats.specs.Tokens.{Tree, leaf, node, Labelled, tips, depth, leafTag, nodeTag, labelBytes, tokens, Reading, tree, refused, Tag, ended, aLeaf, aNode, other, tagOf, tagAt, labelAt, partsAt, byTag, treeAt}
 use Rattle.formats.proofs.Numbers.{length-bytesOf, number-bytesOf, numberAt-lt, bytesOf-numberAt}
 use Rattle.formats.proofs.Places.{lies-left, lies-right, lies-part, lies-taken, lies-append, lies-within}
 

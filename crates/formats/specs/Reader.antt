@@ -27,7 +27,6 @@ pub data Due (s : List ℕ) : ℕ → ℕ → Type 0 where
   right :
       {p above : ℕ} (l : Tree)
       → Due s p above
-      → above < mostDepth
       → Labelled l
       → suc (above + depth l) ≤ mostDepth
       → Lies s p (nodeTag ∷ tokens l)

@@ -30,8 +30,8 @@ sums : map (sum32 4294967295) (0 ∷ 1 ∷ 2 ∷ []) ≡ 4294967295 ∷ 0 ∷ 1 
 unfolding sum32
 sums = refl
 
--- the number at a place, also where bytes are missing
-numbers : map (numberAt 2 (1 ∷ 2 ∷ 3 ∷ [])) (0 ∷ 1 ∷ 2 ∷ 3 ∷ []) ≡ 513 ∷ 770 ∷ 3 ∷ 0 ∷ []
+-- the number at a place, 0 where a byte is missing
+numbers : map (numberAt 2 (1 ∷ 2 ∷ 3 ∷ [])) (0 ∷ 1 ∷ 2 ∷ 3 ∷ []) ≡ 513 ∷ 770 ∷ 0 ∷ 0 ∷ []
 unfolding numberAt numberOf
 numbers = refl
 

@@ -6,7 +6,7 @@ use mathlib.Core.List.{List, [], _∷_}
 use mathlib.Core.Path.{_≡_, refl, sym, ap, ap₂, _∙_}
 use native.Mathlib.Nat.{mod-lt, mod-add-div, div-lt-iff-lt-mul, add-mul-mod-self-left, mod-eq-of-lt, add-mul-div-left, div-eq-of-lt, pow-suc, mul-comm, zero-add, lt-of-lt-of-le, pow-le-pow-right, le-of-suc-le-suc}
 use native.Mathlib.Omega.{arith}
-use borrow.Author.Tests.{ltb-true, ltb-false}
+use borrow.Author.Tests.{ltb-true, ltb-false, le-leb, lt-leb}
 use lib.Dec.{lit<, ltb}
 use lib.ListN.{length, getD, take, drop, length-take, length-drop, List·getD-eq-default}
 use lib.Seq.{getD-take, getD-drop}
@@ -67,18 +67,14 @@ numberOf-lt (b ∷ s) bs =
 pub numberOf-fits : (width : ℕ) (s : List ℕ) → Bytes s → length s ≤ width → numberOf s < 256 ^ width
 numberOf-fits width s bs h = lt-of-lt-of-le (numberOf-lt s bs) (pow-le-pow-right (lit< tt) h)
 
-none-left : (width : ℕ) → 0 ≡ 0 + 256 * numberOf (take width [])
-unfolding numberOf
-none-left zero = refl
-none-left (suc width) = refl
+-- the number at a place, where it is whole and where it is not
+pub numberAt-whole : (width : ℕ) (s : List ℕ) (p : ℕ) → p + width ≤ length s → numberAt width s p ≡ numberOf (take width (drop p s))
+unfolding numberAt
+numberAt-whole width s p h = simp (numberAt, le-leb _ _ h)
 
--- the number at a place is the byte there and 256 times the number behind it, past the end too
-pub numberAt-suc : (width : ℕ) (s : List ℕ) (p : ℕ) → numberAt (suc width) s p ≡ getD s p 0 + 256 * numberAt width s (suc p)
-unfolding numberAt numberOf
-numberAt-suc width [] zero = none-left width
-numberAt-suc width [] (suc p) = none-left width
-numberAt-suc width (b ∷ s) zero = refl
-numberAt-suc width (b ∷ s) (suc p) = numberAt-suc width s p
+pub numberAt-cut : (width : ℕ) (s : List ℕ) (p : ℕ) → length s < p + width → numberAt width s p ≡ 0
+unfolding numberAt
+numberAt-cut width s p h = simp (numberAt, lt-leb _ _ h)
 
 -- a part of bytes is bytes
 bytes-part : (width : ℕ) (s : List ℕ) (p : ℕ) → Bytes s → Bytes (take width (drop p s))
@@ -89,12 +85,11 @@ bytes-part width s p bs i = inside (ltb i width) refl
     inside false h = rw (List·getD-eq-default (take width (drop p s)) 0 {n = i} (simp length-take (omega (arith, ltb-false i width h)))) (lit< tt)
 
 -- the number at a place fits its width, and its bytes are those there
-pub numberAt-lt : (width : ℕ) (s : List ℕ) (p : ℕ) → Bytes s → numberAt width s p < 256 ^ width
-unfolding numberAt
-numberAt-lt width s p bs = numberOf-fits width (take width (drop p s)) (bytes-part width s p bs) (simp length-take (omega arith))
+pub numberAt-lt : (width : ℕ) (s : List ℕ) (p : ℕ) → Bytes s → p + width ≤ length s → numberAt width s p < 256 ^ width
+numberAt-lt width s p bs h = rw (numberAt-whole width s p h) (numberOf-fits width (take width (drop p s)) (bytes-part width s p bs) (simp length-take (omega arith)))
 
 pub bytesOf-numberAt : (width : ℕ) (s : List ℕ) (p : ℕ) → Bytes s → p + width ≤ length s → bytesOf width (numberAt width s p) ≡ take width (drop p s)
-unfolding numberAt
 bytesOf-numberAt width s p bs h =
     let there : length (take width (drop p s)) ≡ width = simp (length-take, length-drop) (omega arith) in
-    ap (λ (k : ℕ). bytesOf k (numberOf (take width (drop p s)))) (sym there) ∙ bytesOf-number (take width (drop p s)) (bytes-part width s p bs)
+    rw (numberAt-whole width s p h)
+    (ap (λ (k : ℕ). bytesOf k (numberOf (take width (drop p s)))) (sym there) ∙ bytesOf-number (take width (drop p s)) (bytes-part width s p bs))

@@ -15,7 +15,7 @@ use Rattle.formats.specs.Numbers.{Bytes, bytesOf, numberOf, numberAt}
 use Rattle.formats.specs.Places.{Lies, one-more}
 use Rattle.formats.specs.Refusals.{inputEnded, notATag, tooDeep}
 use Rattle.formats.specs.Tokens.{Tree, leaf, node, Labelled, tips, depth, leafTag, nodeTag, labelBytes, tokens, Reading, tree, refused, Tag, ended, aLeaf, aNode, other, tagOf, tagAt, labelAt, partsAt, byTag, treeAt}
-use Rattle.formats.proofs.Numbers.{length-bytesOf, number-bytesOf, numberAt-lt, bytesOf-numberAt}
+use Rattle.formats.proofs.Numbers.{length-bytesOf, number-bytesOf, numberAt-whole, numberAt-lt, bytesOf-numberAt}
 use Rattle.formats.proofs.Places.{lies-left, lies-right, lies-part, lies-taken, lies-append, lies-within}
 
 -- 01: "A tree of n leaves takes 6n − 1 bytes."
@@ -112,11 +112,10 @@ module _ (room : ℕ) {s : List ℕ} {p : ℕ} (k : Look s p aNode) where
 
 -- a label that stands at a place is read there, and lies within the buffer
 label-read : (s : List ℕ) (p x : ℕ) → x < 2 ^ 32 → p ≤ length s → Lies s p (bytesOf labelBytes x) → labelAt s p ≡ tree (leaf x)
-unfolding numberAt
 label-read s p x fits h label =
     let whole : p + labelBytes ≤ length s = rw length-bytesOf at (lies-within label h) in
     let is : take labelBytes (drop p s) ≡ bytesOf labelBytes x = rw length-bytesOf at (lies-part label) in
-    label-whole s p whole ∙ ap (λ (n : ℕ). tree (leaf n)) (ap numberOf is ∙ number-bytesOf labelBytes x fits)
+    label-whole s p whole ∙ ap (λ (n : ℕ). tree (leaf n)) (numberAt-whole labelBytes s p whole ∙ ap numberOf is ∙ number-bytesOf labelBytes x fits)
 
 -- a tree that stands at a place, with room for its depth, is read there
 pub reads-at : (t : Tree) (room : ℕ) (s : List ℕ) (p : ℕ) → Labelled t → depth t ≤ room → Lies s p (tokens t) → treeAt room s p ≡ tree t
@@ -159,7 +158,7 @@ leaf-stands room s p t bs (at-leaf there is) e = whole (leb (suc p + labelBytes)
         let label : Lies s (suc p) (bytesOf labelBytes (numberAt labelBytes s (suc p))) = rw (bytesOf-numberAt labelBytes s (suc p) bs within) (lies-taken labelBytes s (suc p) within) in
         let same : leaf (numberAt labelBytes s (suc p)) ≡ t = cc (label-whole s (suc p) within) in
         subst (Stands room s p) same
-        (record { lies = one-more there is label; labelled = numberAt-lt labelBytes s (suc p) bs; shallow = omega arith })
+        (record { lies = one-more there is label; labelled = numberAt-lt labelBytes s (suc p) bs within; shallow = omega arith })
     whole false h = never-both e (label-cut s (suc p) (leb-false _ _ h))
 
 -- a node that was read stands there, where its parts that were read do

@@ -2,8 +2,8 @@
 use Prim.Native.Nat.{ℕ, zero, suc, _+_, _-_, _*_, _/_, _%_, _^_, _<_}
 use mathlib.Core.Bool.{true, false}
 use mathlib.Core.List.{List, [], _∷_}
-use lib.ListN.{getD, take, drop}
-use lib.Dec.{ltb}
+use lib.ListN.{length, getD, take, drop}
+use lib.Dec.{leb, ltb}
 use lib.IntN.{ℤ, pos, negsuc}
 
 -- Each element is a byte. (Past the end `getD` gives 0.)
@@ -20,9 +20,9 @@ unfoldable pub numberOf : List ℕ → ℕ
 numberOf [] = 0
 numberOf (b ∷ s) = b + 256 * numberOf s
 
--- The number of that width at a place of s. Bytes past the end count as 0.
+-- The number of that width at place p of s, or 0 where s does not hold it whole.
 unfoldable pub numberAt : ℕ → List ℕ → ℕ → ℕ
-numberAt width s p = numberOf (take width (drop p s))
+numberAt width s p = elim (leb (p + width) (length s)) [ true ↦ numberOf (take width (drop p s)) | false ↦ 0 ]
 
 -- 01: "add (modulo 2^32)".
 unfoldable pub sum32 : ℕ → ℕ → ℕ

@@ -1,9 +1,7 @@
 // Numbers of 16 and 32 bits in byte slices, low byte first, and the sums and signs of 32-bit words. Nothing here asks anything of its caller:
-// a place may be anywhere, and only what lies within the slice is read or written.
+// a place may be anywhere, and a number is read or written whole or not at all.
 ghost use mathlib.Core.Path.{_≡_};
 ghost use mathlib.Core.List.{[], _∷_};
-ghost use Prim.Native.Nat.{_+_};
-ghost use lib.ListN.{getD};
 ghost use Rattle.formats.specs.Numbers.{bytesOf, numberOf, numberAt, sum32, signed32};
 ghost use Rattle.formats.specs.Written.{written};
 
@@ -21,63 +19,32 @@ fn word32(b0: u8, b1: u8, b2: u8, b3: u8) -> u32
     (b0 as u32) + 256 * ((b1 as u32) + 256 * ((b2 as u32) + 256 * (b3 as u32)))
 }
 
-// The byte k places behind a place. Past the end it is 0.
-fn byte(s: &[u8], at: usize, k: usize) -> u8
-    ensures { λ r. ⌜ r ≡ getD (now (s .entry)) (at + k) 0 ⌝ }
-{
-    let n = s.len();
-    if at < n {
-        if k < n - at { s[at + k] } else { 0 }
-    } else {
-        0
-    }
-}
-
-// `read16` near the end or past it.
-fn read16_short(s: &[u8], at: usize) -> u16
-    ensures { λ r. ⌜ r ≡ numberAt 2 (now (s .entry)) at ⌝ }
-{
-    word16(byte(s, at, 0), byte(s, at, 1))
-}
-
-// The 16-bit number at a place. Bytes past the end count as 0.
+// The 16-bit number at a place, or 0 where the slice does not hold it whole.
 pub fn read16(s: &[u8], at: usize) -> u16
     ensures { λ r. ⌜ r ≡ numberAt 2 (now (s .entry)) at ⌝ }
 {
     let n = s.len();
     if n < 2 {
-        read16_short(s, at)
-    } else if at <= n - 2 {
-        word16(s[at], s[at + 1])
-    } else {
-        read16_short(s, at)
+        return 0;
     }
+    if at <= n - 2 {
+        return word16(s[at], s[at + 1]);
+    }
+    0
 }
 
-// `read32` near the end or past it.
-fn read32_short(s: &[u8], at: usize) -> u32
-    ensures { λ r. ⌜ r ≡ numberAt 4 (now (s .entry)) at ⌝ }
-{
-    word32(
-        byte(s, at, 0),
-        byte(s, at, 1),
-        byte(s, at, 2),
-        byte(s, at, 3),
-    )
-}
-
-// The 32-bit number at a place. Bytes past the end count as 0.
+// The 32-bit number at a place, or 0 where the slice does not hold it whole.
 pub fn read32(s: &[u8], at: usize) -> u32
     ensures { λ r. ⌜ r ≡ numberAt 4 (now (s .entry)) at ⌝ }
 {
     let n = s.len();
     if n < 4 {
-        read32_short(s, at)
-    } else if at <= n - 4 {
-        word32(s[at], s[at + 1], s[at + 2], s[at + 3])
-    } else {
-        read32_short(s, at)
+        return 0;
     }
+    if at <= n - 4 {
+        return word32(s[at], s[at + 1], s[at + 2], s[at + 3]);
+    }
+    0
 }
 
 // Writes the two bytes of n at a place, or nothing where they do not fit.

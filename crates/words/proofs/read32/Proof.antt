@@ -1,8 +1,9 @@
--- `words::read32` meets its contract. Away from the end the bytes read are those from the place on, and they stand for the number there; near it
--- `read32_short` gives the number.
+-- `words::read32` meets its contract. Where the number is whole, the bytes read are those from the place on, and they stand for the number there.
+-- Elsewhere it reads as 0.
 use native.Mathlib.Nat.{add-zero}
+use native.Mathlib.Omega.{arith}
 use borrow.Author.Needs.{needs}
-use Rattle.words.proofs.Bytes.{number-read}
+use Rattle.words.proofs.Bytes.{number-read, number-cut}
 use Rattle.words.proofs.read32.Statement.{statement}
 use Rattle.words.proofs.read32.Tie as tie
 
@@ -10,16 +11,15 @@ pub read32-spec : {M : Type 1} → statement M
 read32-spec =
     tie.close
     (tie.spec
-    -- a short slice
-    (λ c κs. search needs)
+    -- a slice that is too short
+    (λ c. number-cut 4 _ _ (omega arith))
     -- each byte is within the slice
     (λ c. search needs)
     (λ c. search needs) (λ c. search needs)
     (λ c. search needs) (λ c. search needs)
     (λ c. search needs) (λ c. search needs)
-    -- the calls
-    (λ c κs. search needs) (λ c κs. search needs)
-    -- the three answers
-    (λ c. search needs)
+    -- the call, and the number
+    (λ c κs. search needs)
     (λ c. search (number-read, add-zero))
-    (λ c. search needs))
+    -- a place too near the end
+    (λ c. number-cut 4 _ _ (omega arith)))

@@ -1,0 +1,31 @@
+//! The command line: `hogvax VERB ...`.
+
+#![forbid(unsafe_code)]
+
+mod help;
+mod outcome;
+mod refusals;
+mod streams;
+mod tree;
+mod verbs;
+mod why;
+
+use std::env;
+use std::ffi::OsString;
+use std::io::{self, Write};
+use std::process::ExitCode;
+
+use outcome::{Ended, Trouble};
+
+fn main() -> ExitCode {
+    let words: Vec<OsString> = env::args_os().skip(1).collect();
+    match verbs::perform(&words) {
+        Ok(Ended::Done) => ExitCode::SUCCESS,
+        Ok(Ended::Refused) => ExitCode::from(1),
+        Err(Trouble(message)) => {
+            // If standard error can't be written, the status still tells.
+            let _ = writeln!(io::stderr(), "hogvax: {message}");
+            ExitCode::from(2)
+        }
+    }
+}

@@ -1,0 +1,42 @@
+//! `tree [FILE]`: the length of the first tree.
+
+use std::ffi::{OsStr, OsString};
+
+use crate::outcome::{Ended, Outcome};
+use crate::streams;
+use crate::verbs::{self, Verb};
+
+pub const VERB: Verb = Verb {
+    name: "tree",
+    operands: "[FILE]",
+    summary: "the length of the tree that begins a token file",
+    description: "\
+Reads token bytes and prints 'tree BYTES', the length of the tree that begins
+them. Bytes after that tree are not looked at. If no tree begins them, it
+prints 'refused NUMBER PLACE', where the number is 15, 16 or 20 and the place
+is a byte, counted from 0; 'hogvax why NUMBER' says more.
+
+Example:
+  $ ./hogvax tree samples/small.tokens
+  tree 11
+",
+    run,
+};
+
+fn run(operands: &[OsString]) -> Option<Outcome> {
+    verbs::one_file(operands).map(tree)
+}
+
+fn tree(file: &OsStr) -> Outcome {
+    let input = streams::read(file)?;
+    match hogvax::tree(&input) {
+        Ok(bytes) => {
+            streams::print(&format!("tree {bytes}\n"))?;
+            Ok(Ended::Done)
+        }
+        Err(refused) => {
+            streams::print(&format!("{refused}\n"))?;
+            Ok(Ended::Refused)
+        }
+    }
+}

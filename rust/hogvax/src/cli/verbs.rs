@@ -1,0 +1,74 @@
+//! The table of verbs.
+
+use std::ffi::{OsStr, OsString};
+
+use crate::help;
+use crate::outcome::{Outcome, Trouble};
+use crate::tree;
+use crate::why;
+
+/// A verb of the command line. A new one is a line of `VERBS` and a module.
+pub struct Verb {
+    pub name: &'static str,
+    pub operands: &'static str,
+    /// What it does, in a few words, for the list of verbs.
+    pub summary: &'static str,
+    /// What it does, with an example.
+    pub description: &'static str,
+    /// Takes the words that follow the verb; `None` if they are not its
+    /// operands.
+    pub run: fn(&[OsString]) -> Option<Outcome>,
+}
+
+/// All verbs, in the order in which they are listed.
+pub const VERBS: &[Verb] = &[tree::VERB, why::VERB, help::VERB];
+
+impl Verb {
+    /// How it is called: its name and its operands.
+    pub fn call(&self) -> String {
+        format!("{} {}", self.name, self.operands)
+    }
+}
+
+pub fn find(name: &OsStr) -> Result<&'static Verb, Trouble> {
+    VERBS.iter().find(|verb| name == verb.name).ok_or_else(|| {
+        let name = name.to_string_lossy();
+        Trouble(format!("no verb '{name}'; 'hogvax help' lists them"))
+    })
+}
+
+fn asks_for_help(word: &OsString) -> bool {
+    word == "--help" || word == "-h"
+}
+
+/// Performs the command line's words, the program's name aside.
+pub fn perform(words: &[OsString]) -> Outcome {
+    let Some((name, operands)) = words.split_first() else {
+        return help::list();
+    };
+    if asks_for_help(name) {
+        return help::list();
+    }
+    let verb = find(name)?;
+    if operands.iter().any(asks_for_help) {
+        return help::describe(verb);
+    }
+    match (verb.run)(operands) {
+        Some(outcome) => outcome,
+        None => Err(Trouble(format!("usage: hogvax {}", verb.call()))),
+    }
+}
+
+/// The operand of a verb with at most one file; `-` if there is none. A word
+/// that looks like an option is no operand.
+pub fn one_file(operands: &[OsString]) -> Option<&OsStr> {
+    match operands {
+        [] => Some(OsStr::new("-")),
+        [file] if file == "-" || !looks_like_an_option(file) => Some(file),
+        _ => None,
+    }
+}
+
+fn looks_like_an_option(word: &OsStr) -> bool {
+    word.as_encoded_bytes().starts_with(b"-")
+}

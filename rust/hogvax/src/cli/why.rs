@@ -1,0 +1,58 @@
+//! `why NUMBER`: what a refusal means.
+
+use std::ffi::OsString;
+
+use crate::outcome::{Ended, Outcome, Trouble};
+use crate::refusals::{Refusal, REFUSALS};
+use crate::streams;
+use crate::verbs::Verb;
+
+pub const VERB: Verb = Verb {
+    name: "why",
+    operands: "NUMBER",
+    summary: "what a refusal means",
+    description: "\
+Says what a refusal's number means and what its place counts, with an example.
+
+Example:
+  $ ./hogvax why 16
+",
+    run,
+};
+
+fn run(operands: &[OsString]) -> Option<Outcome> {
+    match operands {
+        [word] => {
+            let word = word.to_str()?;
+            let digits = !word.is_empty() && word.bytes().all(|byte| byte.is_ascii_digit());
+            digits.then(|| why(word))
+        }
+        _ => None,
+    }
+}
+
+/// The refusal with that number, which may be too large for any integer.
+fn find(word: &str) -> Option<&'static Refusal> {
+    let number: u32 = word.parse().ok()?;
+    REFUSALS.iter().find(|refusal| refusal.number == number)
+}
+
+fn why(word: &str) -> Outcome {
+    let Some(refusal) = find(word) else {
+        let most = REFUSALS.len();
+        return Err(Trouble(format!(
+            "no refusal has the number {word}; they are 1 to {most}"
+        )));
+    };
+    let Refusal {
+        number,
+        name,
+        meaning,
+        place,
+        example,
+    } = refusal;
+    streams::print(&format!(
+        "{number}: {name}\n\n{meaning}\nPlace: {place}\nExample: {example}\n"
+    ))?;
+    Ok(Ended::Done)
+}

@@ -1,6 +1,6 @@
 -- A law for each way out of the tree reader's functions. What stands at a place where a tag is due says which refusal arises there; as one
 -- number, an end is at most the buffer's length, and a refusal's number is larger, since a buffer has fewer than 2^63 bytes.
-use Prim.Native.Nat.{ℕ, suc, _+_, _-_, _*_, _^_, _≤_, _<_}
+use Prim.Native.Nat.{ℕ, suc, _+_, _-_, _^_, _≤_, _<_}
 use mathlib.Core.List.{List, []}
 use mathlib.Core.Logic.{_≢_}
 use mathlib.Core.Path.{_≡_, refl, sym, ap, _∙_}
@@ -62,26 +62,26 @@ unfolding toldBy
 told-stop s r h = simp (toldBy, lt-leb _ _ h)
 
 -- a place within the buffer, told as a refusal's
-told-place : (s : List ℕ) (p : ℕ) → p ≤ length s → length s * 1 < 2 ^ 63 → toldBy s (allOnes - p) ≡ refusalAt s p
+told-place : (s : List ℕ) (p : ℕ) → p ≤ length s → length s < 2 ^ 63 → toldBy s (allOnes - p) ≡ refusalAt s p
 told-place s p h short =
     let back : allOnes - (allOnes - p) ≡ p = omega arith in
     told-stop s (allOnes - p) (omega arith) ∙ ap (refusalAt s) back
 
 -- ---- the ways out of `tree_end`
 
-pub told-past : (room : ℕ) (s : List ℕ) (p : ℕ) → p ≤ length s → length s * 1 < 2 ^ 63 → length s ≤ p → toldBy s (allOnes - p) ≡ endAt room s p
+pub told-past : (room : ℕ) (s : List ℕ) (p : ℕ) → p ≤ length s → length s < 2 ^ 63 → length s ≤ p → toldBy s (allOnes - p) ≡ endAt room s p
 told-past room s p within short h = told-place s p within short ∙ sym (refused-past s p h) ∙ end-past room s p h
 
-pub told-cut : (room : ℕ) (s : List ℕ) (p : ℕ) → length s * 1 < 2 ^ 63 → p < length s → getD s p 0 ≡ leafTag → length s - p < 5 → toldBy s (allOnes - p) ≡ endAt room s p
+pub told-cut : (room : ℕ) (s : List ℕ) (p : ℕ) → length s < 2 ^ 63 → p < length s → getD s p 0 ≡ leafTag → length s - p < 5 → toldBy s (allOnes - p) ≡ endAt room s p
 told-cut room s p short there is cut = told-place s p (omega arith) short ∙ sym (refused-label s p there is) ∙ end-cut room s p there is cut
 
 pub told-leaf : (room : ℕ) (s : List ℕ) (p : ℕ) → p < length s → getD s p 0 ≡ leafTag → 5 ≤ length s - p → toldBy s (p + 5) ≡ endAt room s p
 told-leaf room s p there is whole = told-end s (p + 5) (omega arith) ∙ end-leaf room s p there is whole
 
-pub told-other : (room : ℕ) (s : List ℕ) (p : ℕ) → length s * 1 < 2 ^ 63 → p < length s → getD s p 0 ≢ leafTag → getD s p 0 ≢ nodeTag → toldBy s (allOnes - p) ≡ endAt room s p
+pub told-other : (room : ℕ) (s : List ℕ) (p : ℕ) → length s < 2 ^ 63 → p < length s → getD s p 0 ≢ leafTag → getD s p 0 ≢ nodeTag → toldBy s (allOnes - p) ≡ endAt room s p
 told-other room s p short there nl nn = told-place s p (omega arith) short ∙ sym (refused-other s p there nl nn) ∙ end-other room s p there nl nn
 
-pub told-deep : (room : ℕ) (s : List ℕ) (p : ℕ) → length s * 1 < 2 ^ 63 → p < length s → getD s p 0 ≡ nodeTag → room ≡ 0 → toldBy s (allOnes - p) ≡ endAt room s p
+pub told-deep : (room : ℕ) (s : List ℕ) (p : ℕ) → length s < 2 ^ 63 → p < length s → getD s p 0 ≡ nodeTag → room ≡ 0 → toldBy s (allOnes - p) ≡ endAt room s p
 told-deep room s p short there is none = told-place s p (omega arith) short ∙ sym (refused-node s p there is) ∙ end-deep room s p there is none
 
 -- a left tree that is refused

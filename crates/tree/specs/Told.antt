@@ -1,5 +1,5 @@
 -- The end of a tree, or its refusal, told by one number.
-use Prim.Native.Nat.{ℕ, suc, _-_, _^_}
+use Prim.Native.Nat.{ℕ, suc, _-_, _^_, _≤_, _<_}
 use mathlib.Core.Bool.{true, false}
 use mathlib.Core.List.{List}
 use lib.Dec.{leb}
@@ -16,6 +16,11 @@ refusalAt s p =
       | aNode ↦ stops tooDeep p
       | other ↦ stops notATag p
     ]
+
+-- A place of a buffer, or its end. A buffer has fewer than 2^63 bytes.
+pub record Placed (s : List ℕ) (p : ℕ) : Type 0 where
+  pub within : p ≤ length s
+  pub short : length s < 2 ^ 63
 
 -- The largest 64-bit number.
 abbrev pub allOnes : ℕ

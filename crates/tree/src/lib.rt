@@ -2,11 +2,9 @@
 // its place.
 use refusal::Refusal;
 ghost use mathlib.Core.Path.{_≡_};
-ghost use Prim.Native.Nat.{_≤_};
-ghost use lib.ListN.{length};
 ghost use Rattle.formats.specs.Tokens.{endAt, firstEnd, firstTree, ownBytes};
 ghost use Rattle.tree.specs.Answer.{answered};
-ghost use Rattle.tree.specs.Told.{refusalAt, toldBy};
+ghost use Rattle.tree.specs.Told.{Placed, refusalAt, toldBy};
 
 const LEAF_TAG: u8 = 1;
 
@@ -29,10 +27,11 @@ pub enum TreeAnswer {
 // Where the tree ends that begins at `at`, with room for so many nodes above its leaves: a node's left tree first, then
 // its right tree behind that one. The bytes left fall at each call, and the calls nest no deeper than the room.
 //
-// The answer is one number, which stays in a register (`toldBy` says how): an enum here takes 1.7 times as long.
-fn tree_end(input: &[u8], at: usize, room: usize) -> usize
-    requires { ⌜ at ≤ length (now input) ⌝ }
-    ensures { λ r. ⌜ toldBy (now (input .entry)) r ≡ endAt room (now (input .entry)) at ⌝ }
+// The answer is one number (`toldBy` says how), and the slice comes by a reference to it, so that all passes in
+// registers: with an enum for the answer and the slice itself the reader takes twice as long.
+fn tree_end(input: &&[u8], at: usize, room: usize) -> usize
+    requires { ⌜ Placed (now (now input)) at ⌝ }
+    ensures { λ r. ⌜ toldBy (now (now (input .entry))) r ≡ endAt room (now (now (input .entry))) at ⌝ }
 {
     if input.len() <= at {
         return usize::MAX - at;
@@ -78,7 +77,7 @@ fn refusal_at(input: &[u8], at: usize) -> TreeAnswer
 pub fn tree_answer(input: &[u8]) -> TreeAnswer
     ensures { λ r. ⌜ answered r ≡ firstEnd (now (input .entry)) ⌝ }
 {
-    let end = tree_end(input, 0, MOST_DEPTH);
+    let end = tree_end(&input, 0, MOST_DEPTH);
     if end <= input.len() {
         return TreeAnswer::Tree(end);
     }
@@ -89,7 +88,7 @@ pub fn tree_answer(input: &[u8]) -> TreeAnswer
 pub fn first_tree(input: &[u8]) -> &[u8]
     ensures { λ r. ⌜ now r ≡ ownBytes (firstTree (now (input .entry))) ⌝ }
 {
-    let end = tree_end(input, 0, MOST_DEPTH);
+    let end = tree_end(&input, 0, MOST_DEPTH);
     if end <= input.len() {
         return &input[..end];
     }

@@ -1,3 +1,2 @@
--- The laws that the functions' proofs cite: of the bytes of a number, and of a word's sign.
+-- The laws of the bytes of a number, which the functions' proofs cite.
 pub mod Bytes
-pub mod Sign

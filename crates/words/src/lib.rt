@@ -1,8 +1,8 @@
-// Numbers of 16 and 32 bits in byte slices, low byte first, and the sums and signs of 32-bit words. Nothing here asks anything of its caller:
+// Numbers of 16 and 32 bits in byte slices, low byte first. Nothing here asks anything of its caller:
 // a place may be anywhere, and a number is read or written whole or not at all.
 ghost use mathlib.Core.Path.{_≡_};
 ghost use mathlib.Core.List.{[], _∷_};
-ghost use Rattle.formats.specs.Numbers.{bytesOf, numberOf, numberAt, sum32, signed32};
+ghost use Rattle.formats.specs.Numbers.{bytesOf, numberOf, numberAt};
 ghost use Rattle.formats.specs.Written.{written};
 
 // The number that two bytes stand for.
@@ -77,23 +77,5 @@ pub fn write32(s: &mut [u8], at: usize, n: u32)
         s[at + 1] = (n1 % 256) as u8;
         s[at + 2] = (n2 % 256) as u8;
         s[at + 3] = (n3 % 256) as u8;
-    }
-}
-
-// a + b, modulo 2^32.
-pub fn add32(a: u32, b: u32) -> u32
-    ensures { λ r. ⌜ r ≡ sum32 a b ⌝ }
-{
-    std::num::wrapping_add_u32(a, b)
-}
-
-// The number that a word stands for in two's complement.
-pub fn signed(w: u32) -> i32
-    ensures { λ r. ⌜ r ≡ signed32 w ⌝ }
-{
-    if w < 2147483648 {
-        w as i32
-    } else {
-        -1 - ((4294967295 - w) as i32)
     }
 }

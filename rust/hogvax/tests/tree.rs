@@ -117,7 +117,7 @@ fn tags(random: &mut Random) -> Vec<u8> {
 fn random_inputs_are_answered_as_the_reference_does() {
     let mut random = Random::new(11);
     let mut seen = Seen::default();
-    for _ in 0..400_000 {
+    for _ in 0..1_000_000 {
         let whole = small_tree(&mut random);
         seen.count(assert_like_reference(&whole));
         seen.count(assert_like_reference(&cut(&mut random, whole.clone())));

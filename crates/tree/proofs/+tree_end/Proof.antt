@@ -14,15 +14,15 @@ use Rattle.tree.proofs.+tree_end.Lts-tree_end as tree-end-lts
 use Rattle.tree.proofs.+tree_end.{statement}
 use Rattle.tree.proofs.+tree_end.Tie.{close}
 
-abbrev μ-tree-end : Measures 1 tree-end-kinds.ps ℕ
-μ-tree-end κs a = length (a .0 .now) - a .1 .0
+abbrev μ-tree-end : Measures 2 tree-end-kinds.ps ℕ
+μ-tree-end κs a = length (now (now (a .0))) - a .1 .0
 
-abbrev tree-end-at : ℕ → In 1 tree-end-kinds.ps
-tree-end-at t = and 1 tree-end-kinds.ps (is 1 tree-end-kinds.ps μ-tree-end t) tree-end.Pre
+abbrev tree-end-at : ℕ → In 2 tree-end-kinds.ps
+tree-end-at t = and 2 tree-end-kinds.ps (is 2 tree-end-kinds.ps μ-tree-end t) tree-end.Pre
 
-abbrev tree-end-below : ℕ → In 1 tree-end-kinds.ps
+abbrev tree-end-below : ℕ → In 2 tree-end-kinds.ps
 tree-end-below t =
-    and 1 tree-end-kinds.ps (falls 1 tree-end-kinds.ps _<_ μ-tree-end t) tree-end.Pre
+    and 2 tree-end-kinds.ps (falls 2 tree-end-kinds.ps _<_ μ-tree-end t) tree-end.Pre
 
 tree-end-sub-result :
     (t : ℕ) →
@@ -34,11 +34,10 @@ tree-end-returns :
     tree-end-lts.Need-returns (tree-end-below t, tree-end.Post) (tree-end-at t) tree-end.Post
 tree-end-returns t c = search ends-told
 
-tree-end-shared-slice-read-tag : (t : ℕ) → tree-end-lts.Need-shared-slice-read-tag (
-  tree-end-below t,
-  tree-end.Post,
-) (tree-end-at t) tree-end.Post
-tree-end-shared-slice-read-tag t c = search needs
+tree-end-index-1-tag :
+    (t : ℕ) →
+    tree-end-lts.Need-index-1-tag (tree-end-below t, tree-end.Post) (tree-end-at t) tree-end.Post
+tree-end-index-1-tag t c = search needs
 
 tree-end-sub-if3 :
     (t : ℕ) →
@@ -117,9 +116,9 @@ tree-end-tree-end-requires-2 : (t : ℕ) → tree-end-lts.Need-tree-end-requires
   tree-end.Post,
 ) (tree-end-at t) tree-end.Post
 tree-end-tree-end-requires-2 t c κs =
-    let a = c .before .before .before .before .before .before .before .before .args in
+    let a = c .before .before .before .before .before .before .before .args in
     let behind : a .at + 1 < c .before .tree-end .result =
-    told-behind (a .room - 1) (now (a .input)) (a .at + 1) (c .before .tree-end .result) (c .before .tree-end .ensures) (c .if6 .left) in
+    told-behind (a .room - 1) (now (now (a .input))) (a .at + 1) (c .before .tree-end .result) (c .before .tree-end .ensures) (c .if6 .left) in
     omega arith
 
 tree-end-returns-7 :
@@ -137,7 +136,7 @@ pub +tree-end-spec : {M : Type 1} → statement M
     tree-end.Post
     (tree-end-sub-result t)
     (tree-end-returns t)
-    (tree-end-shared-slice-read-tag t)
+    (tree-end-index-1-tag t)
     (tree-end-sub-if3 t)
     (tree-end-sub-result-2 t)
     (tree-end-returns-2 t)

@@ -17,7 +17,7 @@ slice-aggregate-result c = search (needs, length-take-le)
 
 returns : tie.Need-returns
 returns c =
-    let bytes : Bytes (now (c .before .before .before .before .args .input)) = λ i. omega (arith, c .before .before .before .shared-slice-known .given i) in
+    let bytes : Bytes (now (c .before .before .before .before .before .args .t1)) = λ i. omega (arith, c .before .before .before .before .shared-slice-known .given i) in
     search first-told
 
 slice-aggregate-result-2 : tie.Need-slice-aggregate-result-2

@@ -1,11 +1,11 @@
--- `words::signed` meets its contract. A word of the lower half is read off as it is; in the upper half the difference is the word's number.
+-- `numbers::signed` meets its contract. A word of the lower half is read off as it is; in the upper half the difference is the word's number.
 use mathlib.Core.Path.{_∙_}
 use native.Mathlib.Omega.{arith}
 use mir.Facts.{toZ-ofZ}
 use borrow.Author.Needs.{needs}
-use Rattle.words.proofs.Sign.{signed-is, signed-high, signed-high-fits}
-use Rattle.words.proofs.signed.Statement.{statement}
-use Rattle.words.proofs.signed.Tie as tie
+use Rattle.numbers.proofs.Sign.{signed-is, signed-high, signed-high-fits}
+use Rattle.numbers.proofs.signed.Statement.{statement}
+use Rattle.numbers.proofs.signed.Tie as tie
 
 -- the difference fits
 sub-result-2 : tie.Need-sub-result-2

@@ -1,0 +1,2 @@
+-- The laws of a word's sign.
+pub mod Sign

@@ -3,7 +3,7 @@
 use std::fs::File;
 use std::io::{ErrorKind, Write};
 use std::path::PathBuf;
-use std::process::{Command, Output, Stdio};
+use std::process::{Child, Command, Output, Stdio};
 
 const VERBS: [&str; 3] = ["tree", "why", "help"];
 
@@ -20,14 +20,17 @@ fn run(words: &[&str]) -> Output {
     command(words).output().unwrap()
 }
 
+/// Starts with a pipe at each standard stream.
+fn piped(words: &[&str]) -> Child {
+    let mut command = command(words);
+    command.stdin(Stdio::piped());
+    command.stdout(Stdio::piped()).stderr(Stdio::piped());
+    command.spawn().unwrap()
+}
+
 /// Runs with these bytes on standard input.
 fn run_on(words: &[&str], input: &[u8]) -> Output {
-    let mut child = command(words)
-        .stdin(Stdio::piped())
-        .stdout(Stdio::piped())
-        .stderr(Stdio::piped())
-        .spawn()
-        .unwrap();
+    let mut child = piped(words);
     let written = child.stdin.take().unwrap().write_all(input);
     // A verb that does not read its input closes the pipe.
     assert!(written.is_ok() || written.unwrap_err().kind() == ErrorKind::BrokenPipe);
@@ -216,12 +219,7 @@ fn words_need_not_be_text() {
 #[test]
 fn a_broken_pipe_is_no_panic() {
     for words in [&["help"][..], &["why", "1"], &["tree"]] {
-        let mut child = command(words)
-            .stdin(Stdio::piped())
-            .stdout(Stdio::piped())
-            .stderr(Stdio::piped())
-            .spawn()
-            .unwrap();
+        let mut child = piped(words);
         drop(child.stdout.take());
         drop(child.stdin.take());
         let output = child.wait_with_output().unwrap();

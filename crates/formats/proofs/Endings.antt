@@ -10,7 +10,7 @@ use native.Mathlib.Omega.{arith}
 use lib.ListN.{length, getD, take, length-append}
 use Rattle.formats.specs.Numbers.{Bytes, bytesOf}
 use Rattle.formats.specs.Refusals.{inputEnded, notATag, tooDeep}
-use Rattle.formats.specs.Tokens.{Tree, leaf, node, leafTag, nodeTag, mostDepth, tokens, Reading, tree, refused, treeAt, aNode, firstTree, ownBytes, Ending, ends, stops, endFrom, endAt, firstEnd}
+use Rattle.formats.specs.Tokens.{Tree, leaf, node, leafTag, nodeTag, leafBytes, mostDepth, tokens, Reading, tree, refused, treeAt, aNode, firstTree, ownBytes, Ending, ends, stops, endFrom, endAt, firstEnd}
 use Rattle.formats.proofs.Tokens.{Look, past, at-leaf, at-node, at-other, read-ended, read-leaf, read-other, read-deep, label-whole, label-cut, left-refused, right-refused, read-node, Outcome, gave, stopped, outcome}
 use Rattle.formats.proofs.Reader.{tree-reader}
 
@@ -37,11 +37,11 @@ pub end-past : (room : ℕ) (s : List ℕ) (p : ℕ) → length s ≤ p → stop
 unfolding endAt endFrom
 end-past room s p h = sym (ap (endFrom p) (read-ended room (past h)))
 
-pub end-cut : (room : ℕ) (s : List ℕ) (p : ℕ) → p < length s → getD s p 0 ≡ leafTag → length s - p < 5 → stops inputEnded (p + 1) ≡ endAt room s p
+pub end-cut : (room : ℕ) (s : List ℕ) (p : ℕ) → p < length s → getD s p 0 ≡ leafTag → length s - p < leafBytes → stops inputEnded (p + 1) ≡ endAt room s p
 unfolding endAt endFrom
 end-cut room s p there is cut = rw add-one (sym (ap (endFrom p) (read-leaf room (at-leaf there is) ∙ label-cut s (suc p) (omega arith))))
 
-pub end-leaf : (room : ℕ) (s : List ℕ) (p : ℕ) → p < length s → getD s p 0 ≡ leafTag → 5 ≤ length s - p → ends (p + 5) ≡ endAt room s p
+pub end-leaf : (room : ℕ) (s : List ℕ) (p : ℕ) → p < length s → getD s p 0 ≡ leafTag → leafBytes ≤ length s - p → ends (p + leafBytes) ≡ endAt room s p
 unfolding endAt endFrom tokens bytesOf
 end-leaf room s p there is whole = sym (ap (endFrom p) (read-leaf room (at-leaf there is) ∙ label-whole s (suc p) (omega arith)))
 

@@ -4,7 +4,7 @@ use Prim.Native.Nat.{ℕ, zero, suc, _+_, _*_, _/_, _%_, _^_, _≤_, _<_}
 use mathlib.Core.Bool.{Bool, true, false}
 use mathlib.Core.List.{List, [], _∷_}
 use mathlib.Core.Path.{_≡_, refl, sym, ap, ap₂, _∙_}
-use native.Mathlib.Nat.{mod-lt, mod-add-div, div-lt-iff-lt-mul, add-mul-mod-self-left, mod-eq-of-lt, add-mul-div-left, div-eq-of-lt, pow-suc, mul-comm, zero-add, lt-of-lt-of-le, pow-le-pow-right, le-of-suc-le-suc}
+use native.Mathlib.Nat.{mod-add-div, div-lt-iff-lt-mul, add-mul-mod-self-left, mod-eq-of-lt, add-mul-div-left, div-eq-of-lt, pow-suc, mul-comm, zero-add, lt-of-lt-of-le, pow-le-pow-right, le-of-suc-le-suc}
 use native.Mathlib.Omega.{arith}
 use borrow.Author.Tests.{ltb-true, ltb-false, le-leb, lt-leb}
 use lib.Dec.{lit<, ltb}
@@ -18,12 +18,6 @@ unfolding bytesOf
 length-bytesOf zero n = refl
 length-bytesOf (suc width) n = ap suc (length-bytesOf width (n / 256))
 
-pub bytes-bytesOf : (width n : ℕ) → Bytes (bytesOf width n)
-unfolding bytesOf
-bytes-bytesOf zero n i = lit< tt
-bytes-bytesOf (suc width) n zero = mod-lt n (lit< tt)
-bytes-bytesOf (suc width) n (suc i) = bytes-bytesOf width (n / 256) i
-
 -- a number that fits the width is what its bytes stand for
 pub number-bytesOf : (width n : ℕ) → n < 256 ^ width → numberOf (bytesOf width n) ≡ n
 unfolding bytesOf numberOf
@@ -32,28 +26,28 @@ number-bytesOf (suc width) n h =
     let high : n / 256 < 256 ^ width = div-lt-iff-lt-mul (lit< tt) .1 (rw pow-suc at h) in
     ap (λ (m : ℕ). n % 256 + 256 * m) (number-bytesOf width (n / 256) high) ∙ mod-add-div n 256
 
--- a number's low byte and the rest
-low-byte : (b n : ℕ) → b < 256 → (b + 256 * n) % 256 ≡ b
-low-byte b n h = add-mul-mod-self-left b 256 n ∙ mod-eq-of-lt h
-
-high-bytes : (b n : ℕ) → b < 256 → (b + 256 * n) / 256 ≡ n
-high-bytes b n h = add-mul-div-left b n (lit< tt) ∙ ap (λ (q : ℕ). q + n) (div-eq-of-lt h) ∙ zero-add n
-
--- bytes open those of the number that they stand for, and are those where the width is theirs
-pub bytesOf-opens : (width : ℕ) (s : List ℕ) → Bytes s → length s ≤ width → Opens s (bytesOf width (numberOf s))
+-- a byte in front of bytes is the first byte of the number that they stand for together
+bytesOf-cons : (width b : ℕ) (s : List ℕ) → b < 256 → bytesOf (suc width) (numberOf (b ∷ s)) ≡ b ∷ bytesOf width (numberOf s)
 unfolding bytesOf numberOf
+bytesOf-cons width b s h =
+    let low : (b + 256 * numberOf s) % 256 ≡ b = add-mul-mod-self-left b 256 (numberOf s) ∙ mod-eq-of-lt h in
+    let high : (b + 256 * numberOf s) / 256 ≡ numberOf s =
+    add-mul-div-left b (numberOf s) (lit< tt) ∙ ap (λ (q : ℕ). q + numberOf s) (div-eq-of-lt h) ∙ zero-add (numberOf s) in
+    ap₂ _∷_ low (ap (bytesOf width) high)
+
+-- bytes open those of the number that they stand for ..
+pub bytesOf-opens : (width : ℕ) (s : List ℕ) → Bytes s → length s ≤ width → Opens s (bytesOf width (numberOf s))
 bytesOf-opens width [] bs h = record { rest = bytesOf width (numberOf []); joined = refl }
 bytesOf-opens zero (b ∷ s) bs h = absurd (omega arith)
-bytesOf-opens (suc width) (b ∷ s) bs h = more (bytesOf-opens width s (λ i. bs (suc i)) (le-of-suc-le-suc h))
-  where
-    more : Opens s (bytesOf width (numberOf s)) → Opens (b ∷ s) (bytesOf (suc width) (numberOf (b ∷ s)))
-    more o = record { rest = o .rest; joined = ap₂ _∷_ (low-byte b (numberOf s) (bs 0)) (ap (bytesOf width) (high-bytes b (numberOf s) (bs 0)) ∙ o .joined) }
+bytesOf-opens (suc width) (b ∷ s) bs h =
+    let o = bytesOf-opens width s (λ i. bs (suc i)) (le-of-suc-le-suc h) in
+    record { rest = o .rest; joined = bytesOf-cons width b s (bs 0) ∙ ap (λ (l : List ℕ). b ∷ l) (o .joined) }
 
+-- .. and are those where the width is theirs
 pub bytesOf-number : (s : List ℕ) → Bytes s → bytesOf (length s) (numberOf s) ≡ s
-unfolding bytesOf numberOf
+unfolding bytesOf
 bytesOf-number [] bs = refl
-bytesOf-number (b ∷ s) bs =
-    ap₂ _∷_ (low-byte b (numberOf s) (bs 0)) (ap (bytesOf (length s)) (high-bytes b (numberOf s) (bs 0)) ∙ bytesOf-number s (λ i. bs (suc i)))
+bytesOf-number (b ∷ s) bs = bytesOf-cons (length s) b s (bs 0) ∙ ap (λ (l : List ℕ). b ∷ l) (bytesOf-number s (λ i. bs (suc i)))
 
 -- a number fits the width of its bytes
 numberOf-lt : (s : List ℕ) → Bytes s → numberOf s < 256 ^ length s

@@ -110,7 +110,7 @@ module _ (room : ℕ) {s : List ℕ} {p : ℕ} (k : Look s p aNode) where
   unfolding partsAt
   read-node e f = rw (read-parts room k) (simp (partsAt, e, f))
 
--- a label that stands at a place is read there, and lies within the buffer
+-- a label that stands at a place is read there
 label-read : (s : List ℕ) (p x : ℕ) → x < 2 ^ 32 → p ≤ length s → Lies s p (bytesOf labelBytes x) → labelAt s p ≡ tree (leaf x)
 label-read s p x fits h label =
     let whole : p + labelBytes ≤ length s = rw length-bytesOf at (lies-within label h) in
@@ -121,7 +121,7 @@ label-read s p x fits h label =
 pub reads-at : (t : Tree) (room : ℕ) (s : List ℕ) (p : ℕ) → Labelled t → depth t ≤ room → Lies s p (tokens t) → treeAt room s p ≡ tree t
 unfolding depth tokens
 reads-at (leaf x) room s p fits h (one-more there is more) =
-    read-leaf room (at-leaf there is) ∙ label-read s (suc p) x fits (omega arith) (more)
+    read-leaf room (at-leaf there is) ∙ label-read s (suc p) x fits (omega arith) more
 reads-at (node l r) zero s p fits h (one-more there is more) = absurd (omega arith)
 reads-at (node l r) (suc room) s p fits h (one-more there is more) =
     read-node room (at-node there is)

@@ -34,6 +34,9 @@ leafTag = 1
 abbrev pub labelBytes : ℕ
 labelBytes = 4
 
+abbrev pub leafBytes : ℕ
+leafBytes = suc labelBytes
+
 -- 01: "A node is byte 2, then its left and right trees."
 abbrev pub nodeTag : ℕ
 nodeTag = 2

@@ -13,25 +13,25 @@ use Rattle.refusal.specs.Number.{number}
 use Rattle.tree.specs.Answer.{answered}
 use Rattle.tree.specs.declared.TreeAnswer.{TreeAnswer}
 use Rattle.tree.specs.declared.TreeAnswer.the-variants.{Tree, Refused}
-use Rattle.hogvax_c.specs.TreeCall.{refusalOf, placesOf, Answers}
+use Rattle.hogvax_c.specs.TreeCall.{treePlaces, refusalOf, placesOf, Answers}
 
--- an answer has two places
-two : (e : Ending) → length (placesOf e) ≡ 2
+-- an answer takes as many places as it says
+length-places : (e : Ending) → length (placesOf e) ≡ treePlaces
 unfolding placesOf
-two (ends o) = refl
-two (stops n q) = refl
+length-places (ends o) = refl
+length-places (stops n q) = refl
 
 -- two stores from the first place on are the two numbers written there
-stored : (before : List ℕ) (a b : ℕ) → 2 ≤ length before → set (set before 0 a) 1 b ≡ written before 0 (a ∷ b ∷ [])
+stored : (before : List ℕ) (a b : ℕ) → treePlaces ≤ length before → set (set before 0 a) 1 b ≡ written before 0 (a ∷ b ∷ [])
 stored before a b h = written-sets before 0 (a ∷ b ∷ []) h
 
-pub too-few : (s before : List ℕ) (r : ℕ) → length before < 2 → r ≡ spaceTooShort → Answers s before before r
+pub too-few : (s before : List ℕ) (r : ℕ) → length before < treePlaces → r ≡ spaceTooShort → Answers s before before r
 too-few s before r h e = record {
   number = rw (lt-ltb _ _ h) e;
-  places = sym (written-short before 0 (placesOf (firstEnd s)) (rw two h));
+  places = sym (written-short before 0 (placesOf (firstEnd s)) (rw length-places h));
 }
 
-pub a-tree : (s before : List ℕ) (found : TreeAnswer) (o : ℕ) → 2 ≤ length before → answered found ≡ firstEnd s → found ≡ Tree o → Answers s before (set (set before 0 0) 1 o) 0
+pub a-tree : (s before : List ℕ) (found : TreeAnswer) (o : ℕ) → treePlaces ≤ length before → answered found ≡ firstEnd s → found ≡ Tree o → Answers s before (set (set before 0 0) 1 o) 0
 unfolding refusalOf placesOf
 a-tree s before found o h told case =
     let end : firstEnd s ≡ ends o = sym told ∙ ap answered case in
@@ -39,7 +39,7 @@ a-tree s before found o h told case =
 
 pub a-refusal :
     (s before : List ℕ) (found : TreeAnswer) (why : Refusal) (q r : ℕ)
-    → 2 ≤ length before
+    → treePlaces ≤ length before
     → answered found ≡ firstEnd s
     → found ≡ Refused why q
     → r ≡ number why

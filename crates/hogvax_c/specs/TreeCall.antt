@@ -9,6 +9,10 @@ use Rattle.formats.specs.Refusals.{spaceTooShort}
 use Rattle.formats.specs.Tokens.{Ending, ends, stops, firstEnd}
 use Rattle.formats.specs.Written.{written}
 
+-- How many places the answer takes.
+abbrev pub treePlaces : ℕ
+treePlaces = 2
+
 -- 0 for a tree, else the refusal's number.
 unfoldable pub refusalOf : Ending → ℕ
 refusalOf (ends end) = 0
@@ -19,7 +23,7 @@ unfoldable pub placesOf : Ending → List ℕ
 placesOf (ends end) = 0 ∷ end ∷ []
 placesOf (stops number place) = place ∷ 0 ∷ []
 
--- What the call answers for the bytes s, and what its answer's places then hold: 13 where there are fewer than 2, which are then untouched.
+-- What the call answers for the bytes s, and what its answer's places then hold: 13 where there are too few, which are then untouched.
 pub record Answers (s before after : List ℕ) (r : ℕ) : Type 0 where
-  pub number : r ≡ elim (ltb (length before) 2) [ true ↦ spaceTooShort | false ↦ refusalOf (firstEnd s) ]
+  pub number : r ≡ elim (ltb (length before) treePlaces) [ true ↦ spaceTooShort | false ↦ refusalOf (firstEnd s) ]
   pub places : after ≡ written before 0 (placesOf (firstEnd s))

@@ -6,6 +6,9 @@ ghost use lib.ListN.{length};
 ghost use Rattle.formats.specs.Tokens.{firstTree, ownBytes};
 ghost use Rattle.hogvax_c.specs.TreeCall.{Answers};
 
+// How many places `hogvax_tree` answers in. Later ones will stand behind these.
+const TREE_PLACES: usize = 2;
+
 // The length of the first tree's own bytes, which begin the input; 0 on a refusal.
 #[no_mangle]
 pub extern "C" fn hogvax_tree_bytes(input: &[u8]) -> usize
@@ -21,7 +24,7 @@ pub extern "C" fn hogvax_tree_bytes(input: &[u8]) -> usize
 pub extern "C" fn hogvax_tree(input: &[u8], answer: &mut [u64]) -> u32
     ensures { λ r. ⌜ Answers (now (input .entry)) (now (answer .entry)) (now (answer .exit)) r ⌝ }
 {
-    if answer.len() < 2 {
+    if answer.len() < TREE_PLACES {
         return refusal::number_of(Refusal::SpaceTooShort);
     }
     let found = tree::tree_answer(input);

@@ -10,7 +10,7 @@ use borrow.Author.Tests.{le-leb, lt-leb}
 use lib.ListN.{length, getD, take}
 use Rattle.formats.specs.Numbers.{Bytes}
 use Rattle.formats.specs.Refusals.{inputEnded, notATag, tooDeep}
-use Rattle.formats.specs.Tokens.{leafTag, nodeTag, mostDepth, Tag, ended, aLeaf, aNode, other, tagAt, Ending, ends, stops, endAt, firstEnd, firstTree, ownBytes}
+use Rattle.formats.specs.Tokens.{leafTag, nodeTag, leafBytes, mostDepth, Tag, ended, aLeaf, aNode, other, tagAt, Ending, ends, stops, endAt, firstEnd, firstTree, ownBytes}
 use Rattle.formats.proofs.Tokens.{Look, past, at-leaf, at-node, at-other, tag-is}
 use Rattle.formats.proofs.Endings.{end-past, end-cut, end-leaf, end-other, end-deep, end-left, end-right, end-behind, end-first, own-ends, own-stops}
 use Rattle.tree.specs.Answer.{answered}
@@ -72,11 +72,11 @@ told-place s p h short =
 pub told-past : (room : ℕ) (s : List ℕ) (p : ℕ) → p ≤ length s → length s < 2 ^ 63 → length s ≤ p → toldBy s (allOnes - p) ≡ endAt room s p
 told-past room s p within short h = told-place s p within short ∙ sym (refused-past s p h) ∙ end-past room s p h
 
-pub told-cut : (room : ℕ) (s : List ℕ) (p : ℕ) → length s < 2 ^ 63 → p < length s → getD s p 0 ≡ leafTag → length s - p < 5 → toldBy s (allOnes - p) ≡ endAt room s p
+pub told-cut : (room : ℕ) (s : List ℕ) (p : ℕ) → length s < 2 ^ 63 → p < length s → getD s p 0 ≡ leafTag → length s - p < leafBytes → toldBy s (allOnes - p) ≡ endAt room s p
 told-cut room s p short there is cut = told-place s p (omega arith) short ∙ sym (refused-label s p there is) ∙ end-cut room s p there is cut
 
-pub told-leaf : (room : ℕ) (s : List ℕ) (p : ℕ) → p < length s → getD s p 0 ≡ leafTag → 5 ≤ length s - p → toldBy s (p + 5) ≡ endAt room s p
-told-leaf room s p there is whole = told-end s (p + 5) (omega arith) ∙ end-leaf room s p there is whole
+pub told-leaf : (room : ℕ) (s : List ℕ) (p : ℕ) → p < length s → getD s p 0 ≡ leafTag → leafBytes ≤ length s - p → toldBy s (p + leafBytes) ≡ endAt room s p
+told-leaf room s p there is whole = told-end s (p + leafBytes) (omega arith) ∙ end-leaf room s p there is whole
 
 pub told-other : (room : ℕ) (s : List ℕ) (p : ℕ) → length s < 2 ^ 63 → p < length s → getD s p 0 ≢ leafTag → getD s p 0 ≢ nodeTag → toldBy s (allOnes - p) ≡ endAt room s p
 told-other room s p short there nl nn = told-place s p (omega arith) short ∙ sym (refused-other s p there nl nn) ∙ end-other room s p there nl nn

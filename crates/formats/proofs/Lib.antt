@@ -5,4 +5,14 @@ pub mod Written
 pub mod Tokens
 pub mod Reader
 pub mod Endings
+pub mod Results
+pub mod Records
+pub mod Prefix
+pub mod Programs
+pub mod Rows
+pub mod Words
+pub mod Blocks
+pub mod Files
+pub mod ProgramFiles
 pub mod Cases
+pub mod ProgramCases

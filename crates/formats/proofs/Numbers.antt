@@ -1,15 +1,15 @@
 -- Bytes of a number and back, both ways, over every width. Each goes by recursion on the width or the bytes: a number is its low byte and 256
 -- times the rest.
 use Prim.Native.Nat.{ℕ, zero, suc, _+_, _*_, _/_, _%_, _^_, _≤_, _<_}
-use mathlib.Core.Bool.{Bool, true, false}
-use mathlib.Core.List.{List, [], _∷_}
+use mathlib.Core.List.{List, [], _∷_, _++_}
 use mathlib.Core.Path.{_≡_, refl, sym, ap, ap₂, _∙_}
-use native.Mathlib.Nat.{mod-add-div, div-lt-iff-lt-mul, add-mul-mod-self-left, mod-eq-of-lt, add-mul-div-left, div-eq-of-lt, pow-suc, mul-comm, zero-add, lt-of-lt-of-le, pow-le-pow-right, le-of-suc-le-suc}
+use native.Mathlib.Nat.{mod-lt, one-le-pow, add-zero, mod-add-div, div-lt-iff-lt-mul, add-mul-mod-self-left, mod-eq-of-lt, add-mul-div-left, div-eq-of-lt, pow-suc, mul-comm, zero-add, lt-of-lt-of-le, pow-le-pow-right, le-of-suc-le-suc}
+use native.Mathlib.Decide.{decLe}
 use native.Mathlib.Omega.{arith}
-use borrow.Author.Tests.{ltb-true, ltb-false, le-leb, lt-leb}
-use lib.Dec.{lit<, ltb}
-use lib.ListN.{length, getD, take, drop, length-take, length-drop, List·getD-eq-default}
-use lib.Seq.{getD-take, getD-drop}
+use borrow.Author.Tests.{le-leb, lt-leb}
+use lib.Dec.{lit<}
+use lib.ListN.{length, take, drop, length-append, length-take, length-drop}
+use lib.Seq.{getD-drop, drop-append-add, take-at}
 use Rattle.formats.specs.Places.{Opens}
 use Rattle.formats.specs.Numbers.{Bytes, bytesOf, numberOf, numberAt}
 
@@ -70,13 +70,34 @@ pub numberAt-cut : (width : ℕ) (s : List ℕ) (p : ℕ) → length s < p + wid
 unfolding numberAt
 numberAt-cut width s p h = simp (numberAt, lt-leb _ _ h)
 
--- a part of bytes is bytes
+-- ---- bytes
+
+-- bytes behind bytes are bytes, and so are parts of bytes
+pub bytes-append : (s t : List ℕ) → Bytes s → Bytes t → Bytes (s ++ t)
+bytes-append [] t bs bt i = bt i
+bytes-append (b ∷ s) t bs bt zero = bs 0
+bytes-append (b ∷ s) t bs bt (suc i) = bytes-append s t (λ j. bs (suc j)) bt i
+
+pub bytes-take : (n : ℕ) (s : List ℕ) → Bytes s → Bytes (take n s)
+bytes-take zero s bs i = lit< tt
+bytes-take (suc n) [] bs i = lit< tt
+bytes-take (suc n) (b ∷ s) bs zero = bs 0
+bytes-take (suc n) (b ∷ s) bs (suc i) = bytes-take n s (λ k. bs (suc k)) i
+
+pub bytes-drop : (n : ℕ) (s : List ℕ) → Bytes s → Bytes (drop n s)
+bytes-drop n s bs i = rw getD-drop (bs (n + i))
+
 bytes-part : (width : ℕ) (s : List ℕ) (p : ℕ) → Bytes s → Bytes (take width (drop p s))
-bytes-part width s p bs i = inside (ltb i width) refl
-  where
-    inside : (b : Bool) → ltb i width ≡ b → getD (take width (drop p s)) i 0 < 256
-    inside true h = rw (getD-take width (drop p s) i 0 (ltb-true _ _ h), getD-drop) (bs (p + i))
-    inside false h = rw (List·getD-eq-default (take width (drop p s)) 0 {n = i} (simp length-take (omega (arith, ltb-false i width h)))) (lit< tt)
+bytes-part width s p bs = bytes-take width (drop p s) (bytes-drop p s bs)
+
+-- the bytes of a number are bytes
+pub bytes-bytesOf : (width n : ℕ) → Bytes (bytesOf width n)
+unfolding bytesOf
+bytes-bytesOf zero n i = lit< tt
+bytes-bytesOf (suc width) n zero = mod-lt n (lit< tt)
+bytes-bytesOf (suc width) n (suc i) = bytes-bytesOf width (n / 256) i
+
+-- ---- numbers at their places
 
 -- the number at a place fits its width, and its bytes are those there
 pub numberAt-lt : (width : ℕ) (s : List ℕ) (p : ℕ) → Bytes s → p + width ≤ length s → numberAt width s p < 256 ^ width
@@ -87,3 +108,29 @@ bytesOf-numberAt width s p bs h =
     let there : length (take width (drop p s)) ≡ width = simp (length-take, length-drop) (omega arith) in
     rw (numberAt-whole width s p h)
     (ap (λ (k : ℕ). bytesOf k (numberOf (take width (drop p s)))) (sym there) ∙ bytesOf-number (take width (drop p s)) (bytes-part width s p bs))
+
+-- the number of that width at a place is there, or it is cut off
+by-width : {A : Type 0} (width : ℕ) (s : List ℕ) (p : ℕ) → (p + width ≤ length s → A) → (length s < p + width → A) → A
+by-width width s p whole cut = elim (decLe (p + width) (length s)) [ yes h ↦ whole h | no h ↦ cut (omega arith) ]
+
+-- it fits its width, also where it is cut off
+pub numberAt-fits : (width : ℕ) (s : List ℕ) (p : ℕ) → Bytes s → numberAt width s p < 256 ^ width
+numberAt-fits width s p bs = by-width width s p (numberAt-lt width s p bs) (λ h. rw (numberAt-cut width s p h) (one-le-pow width 256 (lit< tt)))
+
+-- bytes in front move the place
+pub numberAt-behind : (width : ℕ) (xs s : List ℕ) (p : ℕ) → numberAt width (xs ++ s) (length xs + p) ≡ numberAt width s p
+numberAt-behind width xs s p = by-width width s p
+    (λ h. numberAt-whole width (xs ++ s) (length xs + p) (omega (arith, length-append xs s))
+    ∙ ap (λ (l : List ℕ). numberOf (take width l)) (drop-append-add xs s p)
+    ∙ sym (numberAt-whole width s p h))
+    (λ h. numberAt-cut width (xs ++ s) (length xs + p) (omega (arith, length-append xs s)) ∙ sym (numberAt-cut width s p h))
+
+-- a number whose bytes stand at a place is the number there
+pub numberAt-there : (width n : ℕ) (xs s : List ℕ) (p : ℕ) → length xs ≡ p → n < 256 ^ width → numberAt width (xs ++ (bytesOf width n ++ s)) p ≡ n
+numberAt-there width n xs s p e h =
+    let long : 0 + width ≤ length (bytesOf width n ++ s) = omega (arith, length-append (bytesOf width n) s, length-bytesOf width n) in
+    ap (numberAt width (xs ++ (bytesOf width n ++ s))) (sym (add-zero (length xs) ∙ e))
+    ∙ numberAt-behind width xs (bytesOf width n ++ s) 0
+    ∙ numberAt-whole width (bytesOf width n ++ s) 0 long
+    ∙ ap numberOf (take-at (bytesOf width n) s width (length-bytesOf width n))
+    ∙ number-bytesOf width n h

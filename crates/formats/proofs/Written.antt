@@ -97,7 +97,7 @@ written-append s p vs ws fits =
     ∙ simp (written-fits s p (vs ++ ws) fits, drop-drop, append-assoc, length-append, add-assoc))
 
 -- to set one byte is to write it
-written-one : (s : List ℕ) (p v : ℕ) → p < length s → set s p v ≡ written s p (v ∷ [])
+pub written-one : (s : List ℕ) (p v : ℕ) → p < length s → set s p v ≡ written s p (v ∷ [])
 written-one s p v h =
     let fits : p + 1 ≤ length s = omega arith in
     set-split s p v h ∙ (rw (written-fits s p (v ∷ []) fits, add-one))

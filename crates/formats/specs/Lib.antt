@@ -4,4 +4,10 @@ pub mod Places
 pub mod Written
 pub mod Refusals
 pub mod Tokens
+pub mod Results
+pub mod Records
+pub mod Programs
+pub mod Rows
+pub mod Blocks
+pub mod ProgramFiles
 pub mod Reader

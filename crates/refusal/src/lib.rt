@@ -46,6 +46,12 @@ pub enum Refusal {
     TooDeep,
 }
 
+// What a check says: passed, or the first refusal and its place.
+pub enum Verdict {
+    Passed,
+    Refused(Refusal, usize),
+}
+
 // A refusal's number in the document's table.
 pub fn number_of(r: Refusal) -> u32
     ensures { λ n. ⌜ n ≡ number r ⌝ }

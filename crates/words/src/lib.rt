@@ -1,7 +1,8 @@
-// Numbers of 16 and 32 bits in byte slices, low byte first. Nothing here asks anything of its caller:
-// a place may be anywhere, and a number is read or written whole or not at all.
+// Numbers of 8, 16 and 32 bits in byte slices, low byte first, and bytes copied into them. Nothing here asks anything of
+// its caller: a place may be anywhere, and what is read or written there is read or written whole or not at all.
 ghost use mathlib.Core.Path.{_≡_};
 ghost use mathlib.Core.List.{[], _∷_};
+ghost use lib.ListN.{getD};
 ghost use Rattle.formats.specs.Numbers.{bytesOf, numberOf, numberAt};
 ghost use Rattle.formats.specs.Written.{written};
 
@@ -17,6 +18,16 @@ fn word32(b0: u8, b1: u8, b2: u8, b3: u8) -> u32
     ensures { λ r. ⌜ r ≡ numberOf (b0 ∷ b1 ∷ b2 ∷ b3 ∷ []) ⌝ }
 {
     (b0 as u32) + 256 * ((b1 as u32) + 256 * ((b2 as u32) + 256 * (b3 as u32)))
+}
+
+// The byte at a place, or 0 where there is none.
+pub fn read8(s: &[u8], at: usize) -> u8
+    ensures { λ r. ⌜ r ≡ getD (now (s .entry)) at 0 ⌝ }
+{
+    if at < s.len() {
+        return s[at];
+    }
+    0
 }
 
 // The 16-bit number at a place, or 0 where the slice does not hold it whole.
@@ -77,5 +88,23 @@ pub fn write32(s: &mut [u8], at: usize, n: u32)
         s[at + 1] = (n1 % 256) as u8;
         s[at + 2] = (n2 % 256) as u8;
         s[at + 3] = (n3 % 256) as u8;
+    }
+}
+
+// Writes bytes at a place, or nothing where they do not all fit.
+pub fn write_bytes(s: &mut [u8], at: usize, from: &[u8])
+    ensures { λ _. ⌜ now (s .exit) ≡ written (now (s .entry)) at (now (from .entry)) ⌝ }
+{
+    let n = from.len();
+    let room = s.len();
+    if room < n {
+        return;
+    }
+    if at <= room - n {
+        let mut k = 0;
+        while k < n {
+            s[at + k] = from[k];
+            k = k + 1;
+        }
     }
 }

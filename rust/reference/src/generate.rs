@@ -1,8 +1,18 @@
-//! Generators of trees, labels and inputs for tests. Equal seeds give equal
-//! results.
+//! Generators of trees, labels, programs and inputs for tests. Equal seeds
+//! give equal results.
 
 use crate::random::Random;
 use crate::tree::{Token, Tree};
+
+pub mod file_damage;
+pub mod program_shapes;
+pub mod programs;
+pub mod random_damage;
+pub mod record_damage;
+
+pub use file_damage::FileDamage;
+pub use random_damage::{changed_file, damaged_file, damaged_records, resized_file};
+pub use record_damage::RecordDamage;
 
 /// Labels likely to be got wrong: the extremes, and labels whose bytes look
 /// like tags.

@@ -1,12 +1,20 @@
-//! Reference implementation for tests: trees, their tokens and the tree
-//! reader, with generators of random inputs.
+//! Reference implementation for tests: trees, their tokens, the tree reader,
+//! programs, their records and program files, with generators of random
+//! inputs.
 
 #![forbid(unsafe_code)]
 
 pub mod generate;
+pub mod program;
 pub mod random;
 pub mod tree;
 
+pub use program::{
+    kind, lay_out, lay_out_runs, mend_checks, part_count, read_file, read_file_into, write_file,
+    write_file_into, Expr, Function, Program, Record,
+};
+pub use program::{BLOCK_BYTES, BLOCK_LIMIT, BLOCK_RECORDS, RECORD_BYTES};
+pub use program::{FUNCTION_LIMIT, NODE_LIMIT, PARAMETER_LIMIT};
 pub use random::Random;
 pub use tree::{
     read_tree, tree_bytes, tree_end, tree_refusal, Prefix, Refusal, Token, Tree, DEPTH_LIMIT,

@@ -186,14 +186,15 @@ fn take_nodes(tree: &mut Tree, pending: &mut Vec<Tree>) {
     }
 }
 
-/// A refusal: its number and the place, a byte of the input.
+/// A refusal: its number and the place, which is a byte for the tree reader,
+/// a block or a record for the rows of a program file.
 #[derive(Clone, Copy, Debug, PartialEq, Eq)]
 pub struct Refusal {
     pub number: u8,
     pub place: usize,
 }
 
-fn refuse<T>(number: u8, place: usize) -> Result<T, Refusal> {
+pub(crate) fn refuse<T>(number: u8, place: usize) -> Result<T, Refusal> {
     Err(Refusal { number, place })
 }
 

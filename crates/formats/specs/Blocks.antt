@@ -1,0 +1,166 @@
+-- Document 01, "Program file": blocks, the file of flat records, and the reading of a file.
+use Prim.Native.Nat.{ℕ, zero, suc, _+_, _*_, _-_, _/_, _%_, _^_}
+use mathlib.Core.Bool.{Bool, true, false, _&&_}
+use mathlib.Core.List.{List, [], _∷_, _++_}
+use lib.ListN.{length, take, drop, replicate}
+use lib.Dec.{leb, ltb, eqb}
+use Rattle.formats.specs.Numbers.{bytesOf, numberOf, numberAt}
+use Rattle.formats.specs.Written.{written}
+use Rattle.formats.specs.Refusals.{fileLength, blockCheck, blockField, spaceTooShort}
+use Rattle.formats.specs.Results.{Result, done, refusal, andThen, onValue, check, each}
+use Rattle.formats.specs.Records.{recordBytes}
+use Rattle.formats.specs.Programs.{Program}
+use Rattle.formats.specs.Rows.{readProgram}
+
+-- 01: "Blocks of 512 bytes, 1 to 17."
+abbrev pub blockBytes : ℕ
+blockBytes = 512
+
+abbrev pub mostBlocks : ℕ
+mostBlocks = 17
+
+-- 01: "Bytes 0–503: 63 records of 8 bytes."
+abbrev pub blockRecords : ℕ
+blockRecords = 63
+
+abbrev pub partBytes : ℕ
+partBytes = recordBytes * blockRecords
+
+-- 01: "504–505: block number from 0. 506–507: records used .. 508–509: number of blocks."
+abbrev pub numberPlace : ℕ
+numberPlace = 504
+
+abbrev pub usedPlace : ℕ
+usedPlace = 506
+
+abbrev pub blocksPlace : ℕ
+blocksPlace = 508
+
+-- 01: "510–511: check".
+abbrev pub checkPlace : ℕ
+checkPlace = 510
+
+-- The sum of 16-bit words, low byte first. (A last byte alone is no word.)
+unfoldable pub wordSum : List ℕ → ℕ
+wordSum [] = 0
+wordSum (low ∷ []) = 0
+wordSum (low ∷ (high ∷ s)) = numberOf (low ∷ high ∷ []) + wordSum s
+
+-- 01: ".. so that the block's 256 16-bit words sum to 65,535 modulo 65,536."
+abbrev pub checkSum : ℕ
+checkSum = 65535
+
+abbrev pub wordLimit : ℕ
+wordLimit = 2 ^ 16
+
+unfoldable pub checkWord : List ℕ → ℕ
+checkWord s = checkSum - wordSum s % wordLimit
+
+-- The block with that number, of so many, whose used records are these. 01: "Unused records are zero."
+unfoldable pub blockBody : List ℕ → ℕ → ℕ → List ℕ
+blockBody part j blocks =
+    part ++ (replicate (partBytes - length part) 0 ++ (bytesOf 2 j ++ (bytesOf 2 (length part / recordBytes) ++ bytesOf 2 blocks)))
+
+unfoldable pub blockOf : List ℕ → ℕ → ℕ → List ℕ
+blockOf part j blocks = blockBody part j blocks ++ bytesOf 2 (checkWord (blockBody part j blocks))
+
+-- So many blocks from number j on, with the flat records s. 01: "63 in all but the last".
+unfoldable pub blocksFrom : ℕ → ℕ → ℕ → List ℕ → List ℕ
+blocksFrom blocks zero j s = []
+blocksFrom blocks (suc n) j s = blockOf (take partBytes s) j blocks ++ blocksFrom blocks n (suc j) (drop partBytes s)
+
+-- The least number of blocks that holds so many bytes of flat records.
+unfoldable pub blocksFor : ℕ → ℕ
+blocksFor bytes = (bytes + (partBytes - 1)) / partBytes
+
+-- The file of flat records.
+unfoldable pub fileOf : List ℕ → List ℕ
+fileOf s = blocksFrom (blocksFor (length s)) (blocksFor (length s)) 0 s
+
+-- ---- the reading
+
+-- 01: "1 length is not 1 to 17 whole blocks", at 0. The number of blocks.
+unfoldable pub lengthRow : List ℕ → Result ℕ
+lengthRow s =
+    let n = length s / blockBytes in
+    check (eqb (length s) (blockBytes * n) && (leb 1 n && leb n mostBlocks)) fileLength 0 n
+
+-- Every byte is zero.
+unfoldable pub zeros : List ℕ → Bool
+zeros [] = true
+zeros (b ∷ s) = eqb b 0 && zeros s
+
+-- 01: "records used, 1 to 63, 63 in all but the last", in the block with number j of so many.
+unfoldable pub usedFits : ℕ → ℕ → ℕ → Bool
+usedFits blocks j used = elim (ltb (suc j) blocks) [ true ↦ eqb used blockRecords | false ↦ leb 1 used && leb used blockRecords ]
+
+-- The fields other than the check, and the unused records, of the block with number j of so many.
+unfoldable pub fieldsFit : ℕ → ℕ → List ℕ → Bool
+fieldsFit blocks j block =
+    eqb (numberAt 2 block numberPlace) j
+    && (usedFits blocks j (numberAt 2 block usedPlace)
+    && (eqb (numberAt 2 block blocksPlace) blocks
+    && zeros (drop (recordBytes * numberAt 2 block usedPlace) (take partBytes block))))
+
+-- 01: "2 check, then 3 other block fields or unused records", at the block. The records that it uses.
+unfoldable pub usedOf : ℕ → ℕ → List ℕ → Result (List ℕ)
+usedOf blocks j block =
+    elim (eqb (wordSum block % wordLimit) checkSum) [
+      | false ↦ refusal blockCheck j
+      | true ↦ check (fieldsFit blocks j block) blockField j (take (recordBytes * numberAt 2 block usedPlace) block)
+    ]
+
+unfoldable pub blockAt : ℕ → List ℕ → ℕ → Result (List ℕ)
+blockAt blocks s j = usedOf blocks j (take blockBytes (drop (blockBytes * j) s))
+
+-- 01: "the two block tests go together block by block".
+unfoldable pub blockRow : ℕ → List ℕ → Result (List (List ℕ))
+blockRow blocks s = each (blockAt blocks s) blocks 0
+
+-- The parts one behind the other.
+unfoldable pub joined : List (List ℕ) → List ℕ
+joined [] = []
+joined (part ∷ parts) = part ++ joined parts
+
+-- The flat records of a file, or the first refusal of the block rows.
+unfoldable pub flatIn : List ℕ → Result (List ℕ)
+flatIn s = andThen (lengthRow s) (λ n. onValue joined (blockRow n s))
+
+-- The program in a file.
+unfoldable pub programIn : List ℕ → Result Program
+programIn s = andThen (flatIn s) readProgram
+
+-- Flat records that are a program, or the first refusal of the rows header to prefix form.
+unfoldable pub programRecords : List ℕ → Result (List ℕ)
+programRecords r = onValue (λ program. r) (readProgram r)
+
+-- The flat records of a file that holds a program, or the first refusal.
+unfoldable pub readFile : List ℕ → Result (List ℕ)
+readFile s = andThen (flatIn s) programRecords
+
+-- The file of flat records that are a program. 01: "The file writer takes records, applies rows header to prefix form".
+unfoldable pub writeFile : List ℕ → Result (List ℕ)
+writeFile r = onValue (λ program. fileOf r) (readProgram r)
+
+-- ---- into a lent buffer
+
+-- 01: "13 code, file or work buffer too short", at 0: the bytes, where the buffer has room for them.
+unfoldable pub within : ℕ → List ℕ → Result (List ℕ)
+within room bytes = check (leb (length bytes) room) spaceTooShort 0 bytes
+
+unfoldable pub flatInto : ℕ → List ℕ → Result (List ℕ)
+flatInto room s = andThen (flatIn s) (within room)
+
+unfoldable pub programInto : ℕ → List ℕ → Result (List ℕ)
+programInto room r = andThen (programRecords r) (within room)
+
+unfoldable pub readInto : ℕ → List ℕ → Result (List ℕ)
+readInto room s = andThen (readFile s) (within room)
+
+unfoldable pub writeInto : ℕ → List ℕ → Result (List ℕ)
+writeInto room r = andThen (writeFile r) (within room)
+
+-- What the lent buffer then holds. 01: "A refusal leaves every output buffer untouched".
+unfoldable pub lent : List ℕ → Result (List ℕ) → List ℕ
+lent before (done bytes) = written before 0 bytes
+lent before (refusal number place) = before

@@ -1,0 +1,130 @@
+-- Document 01, "Program file": records and the nine kinds.
+use Prim.Native.Nat.{ℕ, zero, suc, _+_, _*_, _^_, _<_}
+use mathlib.Core.Bool.{Bool, true, _&&_}
+use mathlib.Core.List.{List, [], _∷_, _++_}
+use mathlib.Core.Option.{Option, none, some}
+use lib.ListN.{length, getD}
+use lib.Dec.{ltb, eqb}
+use Rattle.formats.specs.Numbers.{bytesOf, numberAt}
+use Rattle.formats.specs.Refusals.{nodeField}
+use Rattle.formats.specs.Results.{Result, refusal, check}
+
+-- 01: "63 records of 8 bytes".
+abbrev pub recordBytes : ℕ
+recordBytes = 8
+
+-- A record's fields. 01: "byte 0 (byte 1 is a, bytes 2–3 b, bytes 4–7 i ..)".
+pub data Record : Type 0 where
+  fields : ℕ → ℕ → ℕ → ℕ → Record
+
+-- Each field fits its bytes.
+abbrev pub Ranged : Record → Type 0
+Ranged (fields x a b i) = (x < 256) × (a < 256) × (b < 2 ^ 16) × (i < 2 ^ 32)
+
+-- A record's eight bytes.
+unfoldable pub bytesOfRecord : Record → List ℕ
+bytesOfRecord (fields x a b i) = x ∷ a ∷ (bytesOf 2 b ++ bytesOf 4 i)
+
+-- Flat records: their bytes, one record behind the other.
+unfoldable pub flat : List Record → List ℕ
+flat [] = []
+flat (r ∷ rs) = bytesOfRecord r ++ flat rs
+
+-- Record number k of flat records. What is not there reads as 0.
+unfoldable pub recordAt : List ℕ → ℕ → Record
+recordAt s k =
+    let p = recordBytes * k in
+    fields (getD s p 0) (getD s (p + 1) 0) (numberAt 2 s (p + 2)) (numberAt 4 s (p + 4))
+
+-- 01: "Nine kinds of record". A kind with its operands, in the order of the table.
+pub data Kind : Type 0 where
+  -- i
+  Const : ℕ → Kind
+  -- a: number name
+  Var : ℕ → Kind
+  Add : Kind
+  IfZero : Kind
+  Let : Kind
+  Leaf : Kind
+  Node : Kind
+  -- a: tree name
+  Case : ℕ → Kind
+  -- a: tree name, b: function
+  Call : ℕ → ℕ → Kind
+
+-- 01: "by byte 0 (.. unused ones zero)". The fields of each kind's record.
+unfoldable pub fieldsOf : Kind → Record
+fieldsOf (Const i) = fields 0 0 0 i
+fieldsOf (Var a) = fields 1 a 0 0
+fieldsOf Add = fields 2 0 0 0
+fieldsOf IfZero = fields 3 0 0 0
+fieldsOf Let = fields 4 0 0 0
+fieldsOf Leaf = fields 5 0 0 0
+fieldsOf Node = fields 6 0 0 0
+fieldsOf (Case a) = fields 7 a 0 0
+fieldsOf (Call a b) = fields 8 a b 0
+
+-- The kinds of an edition, by their number, with the operands that the fields give. (Later editions may have more.)
+unfoldable pub kinds : ℕ → ℕ → ℕ → ℕ → List Kind
+kinds edition a b i = Const i ∷ Var a ∷ Add ∷ IfZero ∷ Let ∷ Leaf ∷ Node ∷ Case a ∷ Call a b ∷ []
+
+-- The element at a place of a list, if there is one.
+unfoldable pub nth : {A : Type 0} → List A → ℕ → Option A
+nth [] k = none
+nth (x ∷ xs) zero = some x
+nth (x ∷ xs) (suc k) = nth xs k
+
+unfoldable pub kindOf : ℕ → Record → Option Kind
+kindOf edition (fields x a b i) = nth (kinds edition a b i) x
+
+unfoldable pub same : Record → Record → Bool
+same (fields x a b i) (fields y c d j) = eqb x y && (eqb a c && (eqb b d && eqb i j))
+
+-- A Call's function is one of so many.
+unfoldable pub below : ℕ → Kind → Bool
+below functions (Call a b) = ltb b functions
+below functions (Const i) = true
+below functions (Var a) = true
+below functions Add = true
+below functions IfZero = true
+below functions Let = true
+below functions Leaf = true
+below functions Node = true
+below functions (Case a) = true
+
+-- 01: "A record read is its kind with its operands, or a refusal with its place." A node record whose number is k.
+-- 01: "6 kind above 8, unused field not zero, b not below F". Unused fields are zero where the record is the one that its kind has.
+unfoldable pub nodeRecord : ℕ → ℕ → ℕ → Record → Result Kind
+nodeRecord edition functions k r =
+    elim (kindOf edition r) [
+      | none ↦ refusal nodeField k
+      | some kind ↦ check (same (fieldsOf kind) r && below functions kind) nodeField k kind
+    ]
+
+-- The type of a part. 01: "Add's parts, tests, Let's first part, Leaf's part and arguments are numbers; Node's parts are trees; other parts take
+-- the type expected of the whole."
+pub data Part : Type 0 where
+  aNumber : Part
+  aTree : Part
+  asWhole : Part
+
+-- A kind's parts in order: these, or a function's number arguments.
+pub data Parts : Type 0 where
+  these : List Part → Parts
+  argumentsOf : ℕ → Parts
+
+unfoldable pub partsOf : Kind → Parts
+partsOf (Const i) = these []
+partsOf (Var a) = these []
+partsOf Add = these (aNumber ∷ aNumber ∷ [])
+partsOf IfZero = these (aNumber ∷ asWhole ∷ asWhole ∷ [])
+partsOf Let = these (aNumber ∷ asWhole ∷ [])
+partsOf Leaf = these (aNumber ∷ [])
+partsOf Node = these (aTree ∷ aTree ∷ [])
+partsOf (Case a) = these (asWhole ∷ asWhole ∷ [])
+partsOf (Call a b) = argumentsOf b
+
+-- How many they are, where each function has so many number parameters.
+unfoldable pub partCount : (ℕ → ℕ) → Parts → ℕ
+partCount arity (these ps) = length ps
+partCount arity (argumentsOf b) = arity b

@@ -1,0 +1,122 @@
+-- Document 01, "Where each refusal arises": the rows header, functions, nodes and prefix form over flat records. "A check row is finished for the
+-- whole file before the next begins."
+use Prim.Native.Nat.{ℕ, zero, suc, _+_, _*_}
+use mathlib.Core.Bool.{_&&_}
+use mathlib.Core.List.{List, [], _∷_}
+use mathlib.Core.Option.{Option, none, some}
+use lib.ListN.{length, take, drop}
+use lib.Dec.{leb, eqb}
+use Rattle.formats.specs.Refusals.{headerField, functionField, prefixForm}
+use Rattle.formats.specs.Results.{Result, done, refusal, andThen, check, each}
+use Rattle.formats.specs.Records.{Record, fields, recordBytes, recordAt, Kind, Const, Var, Add, IfZero, Let, Leaf, Node, Case, Call, nth, nodeRecord}
+use Rattle.formats.specs.Programs.{Expr, const, var, add, ifZero, letIn, leafOf, nodeOf, caseOf, call, Args, noArgs, arg}
+use Rattle.formats.specs.Programs.{Sort, numberValued, treeValued, Signature, arityOf, total, Function, Program, Header, firstEdition, mostFunctions, mostNodes, mostParameters}
+
+-- 01: "4 a field, or the record count", at record 0. So many bytes of flat records begin with these fields.
+unfoldable pub headerFrom : ℕ → Record → Result Header
+headerFrom bytes (fields edition f n i) =
+    check
+    (eqb edition firstEdition
+    && ((leb 1 f && leb f mostFunctions) && ((leb 1 n && leb n mostNodes) && (eqb i 0 && eqb bytes (recordBytes * suc (f + n))))))
+    headerField
+    0
+    (record { edition = edition; functions = f; nodes = n })
+
+unfoldable pub headerRow : List ℕ → Result Header
+headerRow s = headerFrom (length s) (recordAt s 0)
+
+-- The header's fields, right or not.
+unfoldable pub headerIn : List ℕ → Header
+headerIn s = elim (recordAt s 0) [ fields edition f n i ↦ record { edition = edition; functions = f; nodes = n } ]
+
+-- The sorts of an edition, by their number.
+unfoldable pub sorts : ℕ → List Sort
+sorts edition = numberValued ∷ treeValued ∷ []
+
+-- 01: "5 a field", at the record, for function j.
+unfoldable pub functionFrom : ℕ → ℕ → Record → Result Signature
+functionFrom edition j (fields x a n i) =
+    elim (nth (sorts edition) x) [
+      | none ↦ refusal functionField (suc j)
+      | some sort ↦
+          check (leb a (mostParameters j) && (leb 1 n && eqb i 0)) functionField (suc j) (record { sort = sort; parameters = a; count = n })
+    ]
+
+unfoldable pub functionAt : ℕ → List ℕ → ℕ → Result Signature
+functionAt edition s j = functionFrom edition j (recordAt s (suc j))
+
+-- 01: "a wrong sum of counts at the last one". It is looked at once all fields are right.
+unfoldable pub functionRow : Header → List ℕ → Result (List Signature)
+functionRow h s =
+    andThen (each (functionAt (h .edition) s) (h .functions) 0) (λ gs. check (eqb (total gs) (h .nodes)) functionField (h .functions) gs)
+
+-- 01: "6 ..", at the record.
+unfoldable pub nodeAt : Header → List ℕ → ℕ → Result Kind
+nodeAt h s k = nodeRecord (h .edition) (h .functions) k (recordAt s k)
+
+-- Record k as a node, by the header's own fields.
+unfoldable pub nodeIn : List ℕ → ℕ → Result Kind
+nodeIn s k = nodeAt (headerIn s) s k
+
+unfoldable pub nodeRow : Header → List ℕ → Result (List Kind)
+nodeRow h s = each (nodeAt h s) (h .nodes) (suc (h .functions))
+
+-- ---- prefix form
+
+-- The next expression goes on to what follows; there may be none.
+abbrev pub pop : List Expr → (Expr → List Expr → Option (List Expr)) → Option (List Expr)
+pop [] next = none
+pop (e ∷ es) next = next e es
+
+-- So many expressions, as arguments, go on to what follows.
+unfoldable pub popArgs : ℕ → List Expr → (Args → List Expr → Option (List Expr)) → Option (List Expr)
+popArgs zero es next = next noArgs es
+popArgs (suc n) es next = pop es (λ x rest. popArgs n rest (λ xs behind. next (arg x xs) behind))
+
+-- A record in front of expressions takes its parts from them, and is one expression with these.
+unfoldable pub build : (ℕ → ℕ) → Kind → List Expr → Option (List Expr)
+build arity (Const i) es = some (const i ∷ es)
+build arity (Var a) es = some (var a ∷ es)
+build arity Add es = pop es (λ p es′. pop es′ (λ q rest. some (add p q ∷ rest)))
+build arity IfZero es = pop es (λ t es′. pop es′ (λ z es″. pop es″ (λ o rest. some (ifZero t z o ∷ rest))))
+build arity Let es = pop es (λ p es′. pop es′ (λ body rest. some (letIn p body ∷ rest)))
+build arity Leaf es = pop es (λ p rest. some (leafOf p ∷ rest))
+build arity Node es = pop es (λ p es′. pop es′ (λ q rest. some (nodeOf p q ∷ rest)))
+build arity (Case a) es = pop es (λ p es′. pop es′ (λ q rest. some (caseOf a p q ∷ rest)))
+build arity (Call a b) es = popArgs (arity b) es (λ xs rest. some (call a b xs ∷ rest))
+
+-- The expressions that records are, one behind the other, found from the last record on; none where parts are missing.
+unfoldable pub exprsOf : (ℕ → ℕ) → List Kind → Option (List Expr)
+exprsOf arity [] = some []
+exprsOf arity (k ∷ ks) = elim (exprsOf arity ks) [ none ↦ none | some es ↦ build arity k es ]
+
+-- 01: "7 a function's records aren't exactly one expression", at "its first node's record".
+unfoldable pub exactlyOne : ℕ → Option (List Expr) → Result Expr
+exactlyOne r none = refusal prefixForm r
+exactlyOne r (some []) = refusal prefixForm r
+exactlyOne r (some (e ∷ [])) = done e
+exactlyOne r (some (e ∷ (d ∷ es))) = refusal prefixForm r
+
+-- The bodies of functions with these signatures, whose nodes are these kinds from record r on: each function's count of them.
+unfoldable pub bodies : (ℕ → ℕ) → List Signature → List Kind → ℕ → Result (List Function)
+bodies arity [] ks r = done []
+bodies arity (g ∷ gs) ks r =
+    andThen
+    (exactlyOne r (exprsOf arity (take (g .count) ks)))
+    (λ e. andThen
+    (bodies arity gs (drop (g .count) ks) (r + g .count))
+    (λ fs. done (record { sort = g .sort; parameters = g .parameters; body = e } ∷ fs)))
+
+unfoldable pub prefixRow : Header → List Signature → List Kind → Result (List Function)
+prefixRow h gs ks = bodies (arityOf gs) gs ks (suc (h .functions))
+
+-- The program that flat records are, or the first refusal of the rows.
+unfoldable pub readProgram : List ℕ → Result Program
+readProgram s =
+    andThen
+    (headerRow s)
+    (λ h. andThen
+    (functionRow h s)
+    (λ gs. andThen
+    (nodeRow h s)
+    (λ ks. andThen (prefixRow h gs ks) (λ fs. done (record { edition = h .edition; functions = fs })))))

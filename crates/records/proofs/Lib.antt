@@ -1,0 +1,2 @@
+-- Laws that the proofs of the functions over node records cite.
+pub mod Laws

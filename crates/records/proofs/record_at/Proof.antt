@@ -1,0 +1,18 @@
+-- `records::record_at` meets its contract: the fields are read where record k stands, and are those of a node of the header's program.
+use borrow.Author.Needs.{needs}
+use Rattle.records.proofs.Laws.{read-there}
+use Rattle.records.proofs.record_at.Statement.{statement}
+use Rattle.records.proofs.record_at.Tie as tie
+
+pub record-at-spec : {M : Type 1} → statement M
+record-at-spec =
+    tie.close
+    (tie.spec
+    (λ c κs. search needs) (λ c κs. search needs)
+    (λ c. search needs)
+    (λ c κs. search needs)
+    (λ c. search needs)
+    (λ c κs. search needs)
+    (λ c. search needs)
+    (λ c κs. search needs) (λ c κs. search needs) (λ c κs. search needs)
+    (λ c. search read-there))

@@ -1,0 +1,71 @@
+-- A record read, as document 01 has it: each case with its kind, operands and parts.
+use Prim.Native.Nat.{ℕ, _+_, _*_, _≤_}
+use mathlib.Core.List.{List, [], _∷_}
+use mathlib.Core.Path.{_≡_}
+use lib.ListN.{length, getD}
+use Rattle.formats.specs.Numbers.{numberAt}
+use Rattle.formats.specs.Results.{Result, done, refusal, onValue}
+use Rattle.formats.specs.Records.{Kind, fields, recordBytes, nodeRecord, aNumber, aTree, asWhole, these, argumentsOf, partsOf}
+use Rattle.formats.specs.Records.{Part as TypeOfPart, Parts as PartsOfKind}
+use Rattle.formats.specs.Records.{Const as aConst, Var as aVar, Add as anAdd, IfZero as anIfZero, Let as aLet, Leaf as aLeaf, Node as aNode, Case as aCase, Call as aCall}
+use Rattle.refusal.specs.Number.{number}
+use Rattle.records.specs.declared.Record.{Record}
+use Rattle.records.specs.declared.Record.the-variants.{Const, Var, Add, IfZero, Let, Leaf, Node, Case, Call}
+use Rattle.records.specs.declared.Part.{Part}
+use Rattle.records.specs.declared.Part.the-variants.{Number, Tree, Whole}
+use Rattle.records.specs.declared.Parts.{Parts}
+use Rattle.records.specs.declared.Parts.the-variants.{None, One, Two, Three, Arguments}
+use Rattle.records.specs.declared.RecordRead.{RecordRead}
+use Rattle.records.specs.declared.RecordRead.the-variants.{Read, Refused}
+
+-- A record's kind with its operands.
+abbrev pub meant : Record → Kind
+meant (Const c) = aConst (c .i)
+meant (Var v) = aVar (v .a)
+meant Add = anAdd
+meant IfZero = anIfZero
+meant Let = aLet
+meant Leaf = aLeaf
+meant Node = aNode
+meant (Case t) = aCase (t .a)
+meant (Call c) = aCall (c .a) (c .b)
+
+abbrev pub typeOf : Part → TypeOfPart
+typeOf Number = aNumber
+typeOf Tree = aTree
+typeOf Whole = asWhole
+
+abbrev pub listed : Parts → PartsOfKind
+listed None = these []
+listed (One p) = these (typeOf p ∷ [])
+listed (Two p q) = these (typeOf p ∷ typeOf q ∷ [])
+listed (Three p q r) = these (typeOf p ∷ typeOf q ∷ typeOf r ∷ [])
+listed (Arguments b) = argumentsOf b
+
+-- A kind and its parts.
+pub record Shape : Type 0 where
+  pub kind : Kind
+  pub parts : PartsOfKind
+
+abbrev pub shapeOf : Kind → Shape
+shapeOf kind = record { kind = kind; parts = partsOf kind }
+
+abbrev pub shaped : Record → Parts → Shape
+shaped r ps = record { kind = meant r; parts = listed ps }
+
+-- A record read: its kind and parts, or the refusal's number and place.
+abbrev pub described : RecordRead → Result Shape
+described (Read r ps) = done (shaped r ps)
+described (Refused why place) = refusal (number why) place
+
+-- What these fields read as, in every edition.
+pub record OfKind (functions place kind a b i : ℕ) (r : RecordRead) : Type 0 where
+  pub is : (edition : ℕ) → described r ≡ onValue shapeOf (nodeRecord edition functions place (fields kind a b i))
+
+-- The fields read at place p are those of record k.
+pub record StandsAt (s : List ℕ) (k p : ℕ) : Type 0 where
+  pub within : p ≤ length s
+  pub byte-0 : getD s p 0 ≡ getD s (recordBytes * k) 0
+  pub byte-1 : getD s (p + 1) 0 ≡ getD s (recordBytes * k + 1) 0
+  pub bytes-2 : numberAt 2 s (p + 2) ≡ numberAt 2 s (recordBytes * k + 2)
+  pub bytes-4 : numberAt 4 s (p + 4) ≡ numberAt 4 s (recordBytes * k + 4)

@@ -62,7 +62,7 @@ used-some blocks j used = cases (ltb (suc j) blocks)
         (leb-true 1 used (h .0), leb-true used blockRecords (h .1))
 
 -- .. and 63 in all but the last
-used-full : (blocks j used : ℕ) → usedFits blocks j used ≡ true → suc j < blocks → used ≡ blockRecords
+pub used-full : (blocks j used : ℕ) → usedFits blocks j used ≡ true → suc j < blocks → used ≡ blockRecords
 unfolding usedFits
 used-full blocks j used e h = eqb-true used blockRecords (simp (usedFits, lt-ltb _ _ h) at e)
 
@@ -78,14 +78,14 @@ used-fits blocks j used some few full = cases (ltb (suc j) blocks) refl
 -- ---- the block that is written
 
 -- a part and its unused records
-abbrev padded : List ℕ → List ℕ
+abbrev pub padded : List ℕ → List ℕ
 padded part = part ++ replicate (partBytes - length part) 0
 
 -- its lengths
-length-padded : (part : List ℕ) → length part ≤ partBytes → length (padded part) ≡ partBytes
+pub length-padded : (part : List ℕ) → length part ≤ partBytes → length (padded part) ≡ partBytes
 length-padded part h = simp (length-append, length-replicate) (omega arith)
 
-length-body : (part : List ℕ) (j blocks : ℕ) → length part ≤ partBytes → length (blockBody part j blocks) ≡ checkPlace
+pub length-body : (part : List ℕ) (j blocks : ℕ) → length part ≤ partBytes → length (blockBody part j blocks) ≡ checkPlace
 unfolding blockBody
 length-body part j blocks h = simp (blockBody, length-append, length-bytesOf, length-replicate) (omega arith)
 

@@ -6,7 +6,8 @@ use lib.IntN.{pos, negsuc}
 use lib.ListN.{take, replicate}
 use Rattle.formats.specs.Numbers.{bytesOf, numberOf, numberAt, sum32, signed32}
 use Rattle.formats.specs.Written.{written}
-use Rattle.formats.specs.Tokens.{Tree, leaf, node, tips, depth, nodeTag, tokens, tree, tagOf, tagAt, labelAt, partsAt, byTag, treeAt, firstTree, ownBytes, ends, stops, endFrom, firstEnd}
+use Rattle.formats.specs.Tokens.{Tree, leaf, node, tips, depth, nodeTag, tokens, tagOf, tagAt, labelAt, partsAt, byTag, treeAt, firstTree, ownBytes, endFrom, firstEnd}
+use Rattle.formats.specs.Results.{done, refusal}
 
 -- document 01's tree T, and its bytes 02 01 05 00 00 00 01 07 00 00 00
 t : Tree
@@ -51,7 +52,7 @@ cuts zero = []
 cuts (suc n) = take n t-bytes ∷ cuts n
 
 cut-ends : map firstEnd ((t-bytes ++ (9 ∷ [])) ∷ cuts 12)
-    ≡ ends 11 ∷ ends 11 ∷ stops 15 7 ∷ stops 15 7 ∷ stops 15 7 ∷ stops 15 7 ∷ stops 15 6 ∷ stops 15 2 ∷ stops 15 2 ∷ stops 15 2 ∷ stops 15 2 ∷ stops 15 1 ∷ stops 15 0 ∷ []
+    ≡ done 11 ∷ done 11 ∷ refusal 15 7 ∷ refusal 15 7 ∷ refusal 15 7 ∷ refusal 15 7 ∷ refusal 15 6 ∷ refusal 15 2 ∷ refusal 15 2 ∷ refusal 15 2 ∷ refusal 15 2 ∷ refusal 15 1 ∷ refusal 15 0 ∷ []
 unfolding firstEnd endFrom firstTree treeAt byTag partsAt tagAt tagOf labelAt numberAt numberOf tokens bytesOf cuts t-bytes
 cut-ends = refl
 
@@ -61,13 +62,13 @@ deep : List ℕ
 deep = replicate 1025 nodeTag ++ (7 ∷ [])
 
 other-ends : map firstEnd ((3 ∷ []) ∷ (0 ∷ t-bytes) ∷ (2 ∷ 1 ∷ 2 ∷ 2 ∷ 2 ∷ 2 ∷ 3 ∷ []) ∷ (1 ∷ 2 ∷ 2 ∷ 2 ∷ 2 ∷ []) ∷ deep ∷ [])
-    ≡ stops 16 0 ∷ stops 16 0 ∷ stops 16 6 ∷ ends 5 ∷ stops 20 1024 ∷ []
+    ≡ refusal 16 0 ∷ refusal 16 0 ∷ refusal 16 6 ∷ done 5 ∷ refusal 20 1024 ∷ []
 unfolding firstEnd endFrom firstTree treeAt byTag partsAt tagAt tagOf labelAt numberAt numberOf tokens bytesOf deep t-bytes
 other-ends = refl
 
 -- left before right; the tree's own bytes alone, and none on a refusal
 read-trees : map firstTree (t-bytes ∷ (t-bytes ++ t-bytes) ∷ (1 ∷ 2 ∷ 1 ∷ 0 ∷ 0 ∷ []) ∷ [])
-    ≡ tree t ∷ tree t ∷ tree (leaf 258) ∷ []
+    ≡ done t ∷ done t ∷ done (leaf 258) ∷ []
 unfolding firstTree treeAt byTag partsAt tagAt tagOf labelAt numberAt numberOf tokens bytesOf t t-bytes
 read-trees = refl
 

@@ -10,78 +10,80 @@ use native.Mathlib.Omega.{arith}
 use lib.ListN.{length, getD, take, length-append}
 use Rattle.formats.specs.Numbers.{Bytes, bytesOf}
 use Rattle.formats.specs.Refusals.{inputEnded, notATag, tooDeep}
-use Rattle.formats.specs.Tokens.{Tree, leaf, node, leafTag, nodeTag, leafBytes, mostDepth, tokens, Reading, tree, refused, treeAt, aNode, firstTree, ownBytes, Ending, ends, stops, endFrom, endAt, firstEnd}
-use Rattle.formats.proofs.Tokens.{Look, past, at-leaf, at-node, at-other, read-ended, read-leaf, read-other, read-deep, label-whole, label-cut, left-refused, right-refused, read-node, Outcome, gave, stopped, outcome}
+use Rattle.formats.specs.Tokens.{Tree, leaf, node, leafTag, nodeTag, leafBytes, mostDepth, tokens, treeAt, aNode, firstTree, ownBytes, endFrom, endAt, firstEnd}
+use Rattle.formats.proofs.Tokens.{Look, past, at-leaf, at-node, at-other, read-ended, read-leaf, read-other, read-deep, label-whole, label-cut, left-refused, right-refused, read-node}
 use Rattle.formats.proofs.Reader.{tree-reader}
+use Rattle.formats.specs.Results.{Result, done, refusal}
+use Rattle.formats.proofs.Results.{Outcome, gave, stopped, outcome}
 
 -- ---- from the ending back to the reading
 
-record EndedBy (p : ℕ) (r : Reading) (o : ℕ) : Type 0 where
+record EndedBy (p : ℕ) (r : Result Tree) (o : ℕ) : Type 0 where
   it : Tree
-  is : r ≡ tree it
+  is : r ≡ done it
   place : p + length (tokens it) ≡ o
 
-ended-by : (p : ℕ) (r : Reading) (o : ℕ) → endFrom p r ≡ ends o → EndedBy p r o
+ended-by : (p : ℕ) (r : Result Tree) (o : ℕ) → endFrom p r ≡ done o → EndedBy p r o
 unfolding endFrom
-ended-by p (tree t) o e = record { it = t; is = refl; place = cc }
-ended-by p (refused n q) o e = let z : _≡_ {A = ℕ} 0 1 = cc in absurd (omega arith)
+ended-by p (done t) o e = record { it = t; is = refl; place = cc }
+ended-by p (refusal n q) o e = let z : _≡_ {A = ℕ} 0 1 = cc in absurd (omega arith)
 
-stopped-by : (p : ℕ) (r : Reading) (n q : ℕ) → endFrom p r ≡ stops n q → r ≡ refused n q
+stopped-by : (p : ℕ) (r : Result Tree) (n q : ℕ) → endFrom p r ≡ refusal n q → r ≡ refusal n q
 unfolding endFrom
-stopped-by p (tree t) n q e = let z : _≡_ {A = ℕ} 0 1 = cc in absurd (omega arith)
-stopped-by p (refused m r) n q e = cc
+stopped-by p (done t) n q e = let z : _≡_ {A = ℕ} 0 1 = cc in absurd (omega arith)
+stopped-by p (refusal m r) n q e = cc
 
 -- ---- by the tag
 
-pub end-past : (room : ℕ) (s : List ℕ) (p : ℕ) → length s ≤ p → stops inputEnded p ≡ endAt room s p
+pub end-past : (room : ℕ) (s : List ℕ) (p : ℕ) → length s ≤ p → refusal inputEnded p ≡ endAt room s p
 unfolding endAt endFrom
 end-past room s p h = sym (ap (endFrom p) (read-ended room (past h)))
 
-pub end-cut : (room : ℕ) (s : List ℕ) (p : ℕ) → p < length s → getD s p 0 ≡ leafTag → length s - p < leafBytes → stops inputEnded (p + 1) ≡ endAt room s p
+pub end-cut : (room : ℕ) (s : List ℕ) (p : ℕ) → p < length s → getD s p 0 ≡ leafTag → length s - p < leafBytes → refusal inputEnded (p + 1) ≡ endAt room s p
 unfolding endAt endFrom
 end-cut room s p there is cut = rw add-one (sym (ap (endFrom p) (read-leaf room (at-leaf there is) ∙ label-cut s (suc p) (omega arith))))
 
-pub end-leaf : (room : ℕ) (s : List ℕ) (p : ℕ) → p < length s → getD s p 0 ≡ leafTag → leafBytes ≤ length s - p → ends (p + leafBytes) ≡ endAt room s p
+pub end-leaf : (room : ℕ) (s : List ℕ) (p : ℕ) → p < length s → getD s p 0 ≡ leafTag → leafBytes ≤ length s - p → done (p + leafBytes) ≡ endAt room s p
 unfolding endAt endFrom tokens bytesOf
 end-leaf room s p there is whole = sym (ap (endFrom p) (read-leaf room (at-leaf there is) ∙ label-whole s (suc p) (omega arith)))
 
-pub end-other : (room : ℕ) (s : List ℕ) (p : ℕ) → p < length s → getD s p 0 ≢ leafTag → getD s p 0 ≢ nodeTag → stops notATag p ≡ endAt room s p
+pub end-other : (room : ℕ) (s : List ℕ) (p : ℕ) → p < length s → getD s p 0 ≢ leafTag → getD s p 0 ≢ nodeTag → refusal notATag p ≡ endAt room s p
 unfolding endAt endFrom
 end-other room s p there nl nn = sym (ap (endFrom p) (read-other room (at-other there nl nn)))
 
-pub end-deep : (room : ℕ) (s : List ℕ) (p : ℕ) → p < length s → getD s p 0 ≡ nodeTag → room ≡ 0 → stops tooDeep p ≡ endAt room s p
+pub end-deep : (room : ℕ) (s : List ℕ) (p : ℕ) → p < length s → getD s p 0 ≡ nodeTag → room ≡ 0 → refusal tooDeep p ≡ endAt room s p
 unfolding endAt endFrom
 end-deep room s p there is none = rw none (sym (ap (endFrom p) (read-deep (at-node there is))))
 
 -- ---- of a node: the left tree's refusal, or else what comes of the right tree
 
-left-stops : (room : ℕ) (s : List ℕ) (p n q : ℕ) → p < length s → getD s p 0 ≡ nodeTag → stops n q ≡ endAt room s (suc p) → stops n q ≡ endAt (suc room) s p
+left-stops : (room : ℕ) (s : List ℕ) (p n q : ℕ) → p < length s → getD s p 0 ≡ nodeTag → refusal n q ≡ endAt room s (suc p) → refusal n q ≡ endAt (suc room) s p
 unfolding endAt endFrom
 left-stops room s p n q there is e = sym (ap (endFrom p) (left-refused room (at-node there is) (stopped-by (suc p) (treeAt room s (suc p)) n q (sym e))))
 
-right-decides : (room : ℕ) (s : List ℕ) (p : ℕ) (l : Tree) → Look s p aNode → treeAt room s (suc p) ≡ tree l → Outcome (treeAt room s (suc p + length (tokens l))) → endAt (suc room) s p ≡ endAt room s (suc p + length (tokens l))
+right-decides : (room : ℕ) (s : List ℕ) (p : ℕ) (l : Tree) → Look s p aNode → treeAt room s (suc p) ≡ done l → Outcome (treeAt room s (suc p + length (tokens l))) → endAt (suc room) s p ≡ endAt room s (suc p + length (tokens l))
 unfolding endAt endFrom tokens
 right-decides room s p l k f (stopped n q g) = ap (endFrom p) (right-refused room k f g) ∙ sym (ap (endFrom (suc p + length (tokens l))) g)
 right-decides room s p l k f (gave r g) =
     let joined : p + suc (length (tokens l ++ tokens r)) ≡ suc p + length (tokens l) + length (tokens r) = simp length-append (omega arith) in
-    ap (endFrom p) (read-node room k f g) ∙ ap ends joined ∙ sym (ap (endFrom (suc p + length (tokens l))) g)
+    ap (endFrom p) (read-node room k f g) ∙ ap done joined ∙ sym (ap (endFrom (suc p + length (tokens l))) g)
 
-left-ends : (room : ℕ) (s : List ℕ) (p o : ℕ) → p < length s → getD s p 0 ≡ nodeTag → ends o ≡ endAt room s (suc p) → endAt (suc room) s p ≡ endAt room s o
+left-ends : (room : ℕ) (s : List ℕ) (p o : ℕ) → p < length s → getD s p 0 ≡ nodeTag → done o ≡ endAt room s (suc p) → endAt (suc room) s p ≡ endAt room s o
 unfolding endAt
 left-ends room s p o there is e =
     let l = ended-by (suc p) (treeAt room s (suc p)) o (sym e) in
     right-decides room s p (l .it) (at-node there is) (l .is) (outcome _) ∙ ap (endAt room s) (l .place)
 
-pub end-left : (room : ℕ) (s : List ℕ) (p n q : ℕ) → p < length s → getD s p 0 ≡ nodeTag → room ≢ 0 → stops n q ≡ endAt (room - 1) s (p + 1) → stops n q ≡ endAt room s p
+pub end-left : (room : ℕ) (s : List ℕ) (p n q : ℕ) → p < length s → getD s p 0 ≡ nodeTag → room ≢ 0 → refusal n q ≡ endAt (room - 1) s (p + 1) → refusal n q ≡ endAt room s p
 end-left zero s p n q there is some e = absurd (some refl)
 end-left (suc room) s p n q there is some e = left-stops room s p n q there is (simp (add-one, sub-one) at e)
 
 pub end-right :
-    (room : ℕ) (s : List ℕ) (p o : ℕ) (e : Ending)
+    (room : ℕ) (s : List ℕ) (p o : ℕ) (e : Result ℕ)
     → p < length s
     → getD s p 0 ≡ nodeTag
     → room ≢ 0
-    → ends o ≡ endAt (room - 1) s (p + 1)
+    → done o ≡ endAt (room - 1) s (p + 1)
     → e ≡ endAt (room - 1) s o
     → e ≡ endAt room s p
 end-right zero s p o e there is some l r = absurd (some refl)
@@ -93,27 +95,27 @@ unfolding tokens
 some-bytes (leaf x) = omega arith
 some-bytes (node l r) = omega arith
 
-pub end-behind : (room : ℕ) (s : List ℕ) (p o : ℕ) → ends o ≡ endAt room s p → p < o
+pub end-behind : (room : ℕ) (s : List ℕ) (p o : ℕ) → done o ≡ endAt room s p → p < o
 unfolding endAt
 end-behind room s p o e = let t = ended-by p (treeAt room s p) o (sym e) in omega (arith, t .place, some-bytes (t .it))
 
 -- ---- of the first tree
 
 -- it is read from place 0 on, with room for 1,024 nodes
-pub end-first : (s : List ℕ) (e : Ending) → e ≡ endAt mostDepth s 0 → e ≡ firstEnd s
+pub end-first : (s : List ℕ) (e : Result ℕ) → e ≡ endAt mostDepth s 0 → e ≡ firstEnd s
 unfolding endAt firstEnd firstTree
 end-first s e h = h
 
 -- its own bytes are the buffer's up to its end
-own-tokens : (s : List ℕ) (t : Tree) (o : ℕ) → Bytes s → firstTree s ≡ tree t → 0 + length (tokens t) ≡ o → take o s ≡ ownBytes (firstTree s)
+own-tokens : (s : List ℕ) (t : Tree) (o : ℕ) → Bytes s → firstTree s ≡ done t → 0 + length (tokens t) ≡ o → take o s ≡ ownBytes (firstTree s)
 unfolding ownBytes
 own-tokens s t o bs e h = rw (e, ← h, zero-add) (tree-reader .gives s t bs e .own-bytes)
 
-pub own-ends : (s : List ℕ) (o : ℕ) → Bytes s → ends o ≡ firstEnd s → take o s ≡ ownBytes (firstTree s)
+pub own-ends : (s : List ℕ) (o : ℕ) → Bytes s → done o ≡ firstEnd s → take o s ≡ ownBytes (firstTree s)
 unfolding firstEnd
 own-ends s o bs e = let t = ended-by 0 (firstTree s) o (sym e) in own-tokens s (t .it) o bs (t .is) (t .place)
 
 -- there are none on a refusal
-pub own-stops : (s : List ℕ) (n q : ℕ) → stops n q ≡ firstEnd s → [] ≡ ownBytes (firstTree s)
+pub own-stops : (s : List ℕ) (n q : ℕ) → refusal n q ≡ firstEnd s → [] ≡ ownBytes (firstTree s)
 unfolding firstEnd ownBytes
 own-stops s n q e = rw (stopped-by 0 (firstTree s) n q (sym e))

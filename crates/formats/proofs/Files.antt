@@ -17,7 +17,7 @@ use Rattle.formats.specs.Blocks.{blockBytes, mostBlocks, blockRecords, p
 use Rattle.formats.specs.ProgramFiles.{Fewest}
 use Rattle.formats.proofs.Numbers.{bytes-append, bytes-take, bytes-drop}
 use Rattle.formats.proofs.Results.{then-inv, then-done, each-inv, each-none, each-done, check-inv, both-held, value-inv}
-use Rattle.formats.proofs.Blocks.{length-block, block-bytes, used-some, used-fits, used-done, used-inv, Used}
+use Rattle.formats.proofs.Blocks.{length-block, block-bytes, used-some, used-fits, passed, used-done, used-inv, Used}
 
 -- ---- how many blocks
 
@@ -63,7 +63,7 @@ length-first : (blocks j : ℕ) (r : List ℕ) → length (blockOf (take partByt
 length-first blocks j r = length-block (take partBytes r) j blocks (simp length-take (omega arith))
 
 -- and so is each other one
-length-blocks : (blocks n j : ℕ) (r : List ℕ) → length (blocksFrom blocks n j r) ≡ blockBytes * n
+pub length-blocks : (blocks n j : ℕ) (r : List ℕ) → length (blocksFrom blocks n j r) ≡ blockBytes * n
 unfolding blocksFrom
 length-blocks blocks zero j r = refl
 length-blocks blocks (suc n) j r =
@@ -200,6 +200,7 @@ record Read (s r : List ℕ) : Type 0 where
   blocks : ℕ
   parts : List (List ℕ)
   measure : length s ≡ blockBytes * blocks
+  few-blocks : blocks ≤ mostBlocks
   row : each (blockAt blocks s) blocks 0 ≡ done parts
   gives : joined parts ≡ r
 
@@ -208,7 +209,8 @@ unfolding flatIn blockRow
 read-inv s r e =
     let t = then-inv (lengthRow s) _ r e in
     let v = value-inv joined (blockRow (t .value) s) r (t .second) in
-    record { blocks = t .value; parts = v .value; measure = length-inv s (t .value) (t .first) .measure; row = v .first; gives = v .second }
+    let w = length-inv s (t .value) (t .first) in
+    record { blocks = t .value; parts = v .value; measure = w .measure; few-blocks = w .few-blocks; row = v .first; gives = v .second }
 
 -- all of it is written for its parts
 read-rest : (s r : List ℕ) (bs : Bytes s) (d : Read s r) → Rest (d .blocks) s bs (d .measure) (d .blocks) 0 (d .parts)
@@ -227,6 +229,28 @@ pub flat-in-bytes : (s r : List ℕ) → Bytes s → flatIn s ≡ done r → Byt
 flat-in-bytes s r bs e =
     let d = read-inv s r e in
     subst Bytes (d .gives) (read-rest s r bs d .bytes)
+
+-- flat records are no more than the most blocks hold: no part is longer than a block's records
+part-short : (blocks : ℕ) (s : List ℕ) (j : ℕ) (part : List ℕ) → blockAt blocks s j ≡ done part → length part ≤ partBytes
+unfolding blockAt
+part-short blocks s j part e =
+    let p = passed blocks j _ part e in
+    let few = used-some blocks j _ (p .fits) .1 in
+    rw (← (p .gives)) (simp length-take (omega arith))
+
+parts-short : (blocks : ℕ) (s : List ℕ) (n j : ℕ) (parts : List (List ℕ)) → each (blockAt blocks s) n j ≡ done parts → length (joined parts) ≤ partBytes * n
+unfolding joined
+parts-short blocks s zero j parts e = rw (each-none (blockAt blocks s) j parts e) (omega arith)
+parts-short blocks s (suc n) j parts e =
+    let i = each-inv (blockAt blocks s) n j parts e in
+    let first = part-short blocks s j (i .head) (i .here) in
+    let others = parts-short blocks s n (suc j) (i .tail) (i .later) in
+    rw (i .both, length-append) (omega arith)
+
+pub flat-short : (s r : List ℕ) → flatIn s ≡ done r → length r ≤ partBytes * mostBlocks
+flat-short s r e =
+    let d = read-inv s r e in
+    rw (← (d .gives)) (omega (arith, parts-short (d .blocks) s (d .blocks) 0 (d .parts) (d .row), d .few-blocks))
 
 -- ---- from flat records to their file and back to the records
 

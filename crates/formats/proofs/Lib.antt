@@ -1,11 +1,11 @@
 -- The laws of the definitions in specs/, a file for each of theirs.
 pub mod Numbers
+pub mod Results
 pub mod Places
 pub mod Written
 pub mod Tokens
 pub mod Reader
 pub mod Endings
-pub mod Results
 pub mod Records
 pub mod Prefix
 pub mod Programs

@@ -117,10 +117,14 @@ long = flat (fields 1 1 62 0 ∷ fields 1 0 62 0 ∷ (replicate 61 (fields 5 0 0
 read : List ℕ → Result (Unit {0})
 read s = verdict (readFile s)
 
--- the file of a program, and its words: 65,535 less the others is the check
+-- Grow's file, and its last words: number 0, 10 records used, 1 block, and the check 64444
 grow-file : fileOf grow-flat ≡ block grow-flat 0 10 1
 unfolding readFile programRecords flatIn lengthRow blockRow blockAt usedOf fieldsFit usedFits zeros joined fileOf blocksFor blocksFrom blockOf blockBody checkWord wordSum readProgram headerRow headerFrom functionRow functionAt functionFrom sorts mostParameters nodeRow nodeAt nodeRecord kindOf kinds nth same below fieldsOf each prefixRow bodies exactlyOne exprsOf build popArgs arityOf total recordAt flat bytesOfRecord bytesOf numberAt numberOf block grow-flat grow-records
 grow-file = refl
+
+grow-words : drop 504 (fileOf grow-flat) ≡ 0 ∷ 0 ∷ 10 ∷ 0 ∷ 1 ∷ 0 ∷ 188 ∷ 251 ∷ []
+unfolding readFile programRecords flatIn lengthRow blockRow blockAt usedOf fieldsFit usedFits zeros joined fileOf blocksFor blocksFrom blockOf blockBody checkWord wordSum readProgram headerRow headerFrom functionRow functionAt functionFrom sorts mostParameters nodeRow nodeAt nodeRecord kindOf kinds nth same below fieldsOf each prefixRow bodies exactlyOne exprsOf build popArgs arityOf total recordAt flat bytesOfRecord bytesOf numberAt numberOf block grow-flat grow-records
+grow-words = refl
 
 -- 1: lengths 0, 511, 513 and 18 blocks
 length-cases : map read ([] ∷ take 511 (block grow-flat 0 10 1) ∷ (block grow-flat 0 10 1 ++ (0 ∷ [])) ∷ replicate 9216 0 ∷ []) ≡ replicate 4 (refusal 1 0)

@@ -16,25 +16,27 @@ use lib.Seq.{getD-drop, take-all, split-at}
 use Rattle.formats.specs.Numbers.{Bytes, numberOf}
 use Rattle.formats.specs.Places.{Opens, Lies, nothing, one-more}
 use Rattle.formats.specs.Refusals.{inputEnded, notATag, tooDeep}
-use Rattle.formats.specs.Tokens.{Tree, leaf, node, Labelled, depth, leafTag, nodeTag, labelBytes, mostDepth, tokens, Reading, tree, refused, Tag, ended, aLeaf, aNode, labelAt, treeAt, firstTree}
+use Rattle.formats.specs.Tokens.{Tree, leaf, node, Labelled, depth, leafTag, nodeTag, labelBytes, mostDepth, tokens, Tag, ended, aLeaf, aNode, labelAt, treeAt, firstTree}
 use Rattle.formats.specs.Reader.{Gave, Due, first, left, right, Refuses, no-tag, no-label, no-such-tag, under-too-many, Fits, Ended, FitsNone, TooDeep, TreeReader}
 use Rattle.formats.proofs.Numbers.{length-bytesOf, bytesOf-opens, numberOf-fits}
 use Rattle.formats.proofs.Places.{lies-left, lies-right, lies-part, lies-within, lies-first, opens-lies, lies-shared, lies-take, lies-all, head-is}
-use Rattle.formats.proofs.Tokens.{length-of-tokens, Look, past, at-leaf, at-node, at-other, look, read-ended, read-leaf, read-other, read-deep, label-whole, label-cut, left-refused, right-refused, read-node, reads-at, stands, Outcome, gave, stopped, outcome, never-both, one-tree}
+use Rattle.formats.proofs.Tokens.{length-of-tokens, Look, past, at-leaf, at-node, at-other, look, read-ended, read-leaf, read-other, read-deep, label-whole, label-cut, left-refused, right-refused, read-node, reads-at, stands, one-tree}
+use Rattle.formats.specs.Results.{Result, done, refusal}
+use Rattle.formats.proofs.Results.{Outcome, gave, stopped, outcome, done-not}
 
-takes : (t : Tree) (rest : List ℕ) → Labelled t → depth t ≤ mostDepth → firstTree (tokens t ++ rest) ≡ tree t
+takes : (t : Tree) (rest : List ℕ) → Labelled t → depth t ≤ mostDepth → firstTree (tokens t ++ rest) ≡ done t
 unfolding firstTree
 takes t rest fits shallow = reads-at t mostDepth (tokens t ++ rest) 0 fits shallow (lies-first (tokens t) rest)
 
-gives : (s : List ℕ) (t : Tree) → Bytes s → firstTree s ≡ tree t → Gave s t
+gives : (s : List ℕ) (t : Tree) → Bytes s → firstTree s ≡ done t → Gave s t
 unfolding firstTree
 gives s t bs e =
     let h = stands mostDepth s 0 t bs e in
     record { own-bytes = lies-part (h .lies); labelled = h .labelled; shallow = h .shallow; only = λ u lu o. one-tree u t s 0 lu (h .labelled) (opens-lies o) (h .lies) }
 
-none : (s : List ℕ) (number p : ℕ) → firstTree s ≡ refused number p → (t : Tree) → Labelled t → depth t ≤ mostDepth → Opens (tokens t) s → ⊥
+none : (s : List ℕ) (number p : ℕ) → firstTree s ≡ refusal number p → (t : Tree) → Labelled t → depth t ≤ mostDepth → Opens (tokens t) s → ⊥
 unfolding firstTree
-none s number p e t fits shallow o = never-both (reads-at t mostDepth s 0 fits shallow (opens-lies o)) e
+none s number p e t fits shallow o = done-not (reads-at t mostDepth s 0 fits shallow (opens-lies o)) e
 
 -- ---- from a place that is due to the first fault
 
@@ -50,18 +52,18 @@ due-under (left d room tag) = room
 due-under (right l d fits shallow h) = omega arith
 
 -- a fault found is the one that was asked for
-same-fault : {s : List ℕ} {r : Reading} {n q n′ q′ : ℕ} → r ≡ refused n q → r ≡ refused n′ q′ → Refuses s n q → Refuses s n′ q′
+same-fault : {s : List ℕ} {r : Result Tree} {n q n′ q′ : ℕ} → r ≡ refusal n q → r ≡ refusal n′ q′ → Refuses s n q → Refuses s n′ q′
 same-fault {s} {n = n} {q = q} {n′ = n′} {q′ = q′} e f h =
     let number : n ≡ n′ = cc in
     let place : q ≡ q′ = cc in
     rw (← number, ← place) h
 
 -- at a leaf that is due: a label that is not whole
-leaf-fault : (s : List ℕ) (p above n q : ℕ) → Due s p above → Look s p aLeaf → labelAt s (suc p) ≡ refused n q → Refuses s n q
+leaf-fault : (s : List ℕ) (p above n q : ℕ) → Due s p above → Look s p aLeaf → labelAt s (suc p) ≡ refusal n q → Refuses s n q
 leaf-fault s p above n q d (at-leaf there is) e = whole (leb (suc p + labelBytes) (length s)) refl
   where
     whole : (b : Bool) → leb (suc p + labelBytes) (length s) ≡ b → Refuses s n q
-    whole true h = never-both (label-whole s (suc p) (leb-true _ _ h)) e
+    whole true h = done-not (label-whole s (suc p) (leb-true _ _ h)) e
     whole false h =
         let cut : length s < suc p + labelBytes = leb-false _ _ h in
         same-fault (label-cut s (suc p) cut) e (no-label d (one-more there is nothing) cut)
@@ -71,18 +73,18 @@ node-fault :
     (room : ℕ) (s : List ℕ) (p above n q : ℕ)
     → Bytes s
     → above + suc room ≡ mostDepth
-    → ((o m r : ℕ) → Due s o (suc above) → treeAt room s o ≡ refused m r → Refuses s m r)
+    → ((o m r : ℕ) → Due s o (suc above) → treeAt room s o ≡ refusal m r → Refuses s m r)
     → Due s p above
     → Look s p aNode
-    → treeAt (suc room) s p ≡ refused n q
+    → treeAt (suc room) s p ≡ refusal n q
     → Refuses s n q
 node-fault room s p above n q bs h part d (at-node there is) e = by-left (outcome (treeAt room s (suc p)))
   where
     k : Look s p aNode
     k = at-node there is
 
-    by-right : (l : Tree) → treeAt room s (suc p) ≡ tree l → Outcome (treeAt room s (suc p + length (tokens l))) → Refuses s n q
-    by-right l f (gave r g) = never-both (read-node room k f g) e
+    by-right : (l : Tree) → treeAt room s (suc p) ≡ done l → Outcome (treeAt room s (suc p + length (tokens l))) → Refuses s n q
+    by-right l f (gave r g) = done-not (read-node room k f g) e
     by-right l f (stopped m r g) =
         let was = stands room s (suc p) l bs f in
         let due : Due s (suc p + length (tokens l)) (suc above) = right l d (was .labelled) (omega (arith, was .shallow)) (one-more there is (was .lies)) in
@@ -99,7 +101,7 @@ fault-by-tag :
     → (Look s p aNode → Refuses s n q)
     → {g : Tag}
     → Look s p g
-    → treeAt room s p ≡ refused n q
+    → treeAt room s p ≡ refusal n q
     → Refuses s n q
 fault-by-tag room s p above n q d below (past h) e = same-fault (read-ended room (past h)) e (no-tag d (le-antisymm (due-within d) h))
 fault-by-tag room s p above n q d below (at-leaf there is) e = leaf-fault s p above n q d (at-leaf there is) (sym (read-leaf room (at-leaf there is)) ∙ e)
@@ -110,7 +112,7 @@ fault-by-tag room s p above n q d below (at-other there nl nn) e = same-fault (r
 deep-fault : {s : List ℕ} {p above : ℕ} → above ≡ mostDepth → Due s p above → Look s p aNode → Refuses s tooDeep p
 deep-fault {s} {p} e d (at-node there is) = under-too-many (subst (Due s p) e d) (one-more there is nothing)
 
-fault : (room : ℕ) (s : List ℕ) (p above n q : ℕ) → Bytes s → above + room ≡ mostDepth → Due s p above → treeAt room s p ≡ refused n q → Refuses s n q
+fault : (room : ℕ) (s : List ℕ) (p above n q : ℕ) → Bytes s → above + room ≡ mostDepth → Due s p above → treeAt room s p ≡ refusal n q → Refuses s n q
 fault zero s p above n q bs h d e = fault-by-tag zero s p above n q d (λ k. same-fault (read-deep k) e (deep-fault (omega arith) d k)) (look s p) e
 fault (suc room) s p above n q bs h d e =
     fault-by-tag (suc room) s p above n q d
@@ -120,14 +122,14 @@ fault (suc room) s p above n q bs h d e =
 -- ---- from a fault back to the whole buffer
 
 -- what is refused where a tag is due is refused of the buffer
-whole-refused : {s : List ℕ} {p above n q : ℕ} → Due s p above → (room : ℕ) → above + room ≡ mostDepth → treeAt room s p ≡ refused n q → firstTree s ≡ refused n q
+whole-refused : {s : List ℕ} {p above n q : ℕ} → Due s p above → (room : ℕ) → above + room ≡ mostDepth → treeAt room s p ≡ refusal n q → firstTree s ≡ refusal n q
 unfolding firstTree
-whole-refused {s} {n = n} {q = q} first room h e = subst (λ (m : ℕ). treeAt m s 0 ≡ refused n q) (omega arith) e
+whole-refused {s} {n = n} {q = q} first room h e = subst (λ (m : ℕ). treeAt m s 0 ≡ refusal n q) (omega arith) e
 whole-refused (left d below (one-more there is more)) room h e = whole-refused d (suc room) (omega arith) (left-refused room (at-node there is) e)
 whole-refused {s} (right {p = p} l d fits shallow (one-more there is more)) room h e =
     whole-refused d (suc room) (omega arith) (right-refused room (at-node there is) (reads-at l room s (suc p) fits (omega arith) more) e)
 
-back : {s : List ℕ} {n q : ℕ} → Refuses s n q → firstTree s ≡ refused n q
+back : {s : List ℕ} {n q : ℕ} → Refuses s n q → firstTree s ≡ refusal n q
 back (no-tag {above = above} d e) = whole-refused d (mostDepth - above) (omega (arith, due-under d)) (read-ended _ (past (le-of-eq (sym e))))
 back {s} (no-label {p = p} {above = above} d (one-more there is more) cut) =
     whole-refused d (mostDepth - above) (omega (arith, due-under d)) (read-leaf _ (at-leaf there is) ∙ label-cut s (suc p) cut)
@@ -264,7 +266,7 @@ too-deep (under-too-many d tag) is = record { tag = tag; under = d }
 
 -- ---- the statement
 
-fault-first : (s : List ℕ) (n q : ℕ) → Bytes s → firstTree s ≡ refused n q → Refuses s n q
+fault-first : (s : List ℕ) (n q : ℕ) → Bytes s → firstTree s ≡ refusal n q → Refuses s n q
 unfolding firstTree
 fault-first s n q bs e = fault mostDepth s 0 0 n q bs refl first e
 

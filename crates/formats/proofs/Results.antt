@@ -1,19 +1,28 @@
 -- Laws of readings: what each of several gives when all are done, and where the first refusal stands.
-use Prim.Native.Nat.{ℕ, zero, suc, _+_, _≤_, _<_}
+use Prim.Native.Nat.{ℕ, zero, suc, _+_, _-_, _≤_, _<_}
 use mathlib.Core.Bool.{Bool, true, false, _&&_, false≢true}
 use mathlib.Core.List.{List, [], _∷_}
 use mathlib.Core.Option.{some}
 use mathlib.Core.Path.{_≡_, refl, sym, ap, _∙_}
 use native.Mathlib.Nat.{add-suc, suc-add, add-zero, le-of-suc-le-suc}
+use native.Mathlib.Numerals.{add-one}
 use native.Mathlib.Omega.{arith}
-use lib.ListN.{length, take, drop}
+use lib.ListN.{length, take, drop, length-drop}
+use lib.Seq.{take-all}
 use Rattle.formats.specs.Results.{Result, done, refusal, andThen, onValue, verdict, check, each}
 use Rattle.formats.specs.Records.{nth}
 
--- a reading is a value or a refusal
+-- a reading is a value or a refusal, with the equation kept
+pub data Outcome {A : Type 0} (r : Result A) : Type 0 where
+  gave : (x : A) → r ≡ done x → Outcome r
+  stopped : (number place : ℕ) → r ≡ refusal number place → Outcome r
+
+pub outcome : {A : Type 0} (r : Result A) → Outcome r
+outcome (done x) = gave x refl
+outcome (refusal number place) = stopped number place refl
+
 pub byResult : {A C : Type 0} (r : Result A) → ((x : A) → r ≡ done x → C) → ((number place : ℕ) → r ≡ refusal number place → C) → C
-byResult (done x) value none = value x refl
-byResult (refusal number place) value none = none number place refl
+byResult r value none = elim (outcome r) [ gave x e ↦ value x e | stopped number place e ↦ none number place e ]
 
 -- values of done readings
 pub done-injective : {A : Type 0} {x y : A} → _≡_ {A = Result A} (done x) (done y) → x ≡ y
@@ -58,6 +67,31 @@ pub record Checked {A : Type 0} (test : Bool) (x y : A) : Type 0 where
 pub check-inv : {A : Type 0} (test : Bool) (number place : ℕ) (x y : A) → check test number place x ≡ done y → Checked test x y
 check-inv true number place x y e = record { held = refl; same = done-injective e }
 check-inv false number place x y e = done-not e refl
+
+-- what a check says does not depend on its value
+pub check-said : {A : Type 0} (test : Bool) (number place : ℕ) (x : A) → check test number place tt ≡ verdict (check test number place x)
+check-said true number place x = refl
+check-said false number place x = refl
+
+-- what a test that is told says, where it holds and where it does not
+pub test-holds : (test : Bool) (number place : ℕ) (r : Result (Unit {0})) → check test number place tt ≡ r → test ≡ true → done tt ≡ r
+test-holds test number place r told h = ap (λ t. check t number place tt) (sym h) ∙ told
+
+pub test-fails : (test : Bool) (number place : ℕ) (r : Result (Unit {0})) → check test number place tt ≡ r → test ≡ false → refusal number place ≡ r
+test-fails test number place r told h = ap (λ t. check t number place tt) (sym h) ∙ told
+
+-- where a check passes there is a value, and what it refuses is refused
+pub record Value {A : Type 0} (r : Result A) : Type 0 where
+  pub value : A
+  pub is : r ≡ done value
+
+pub passed-is : {A : Type 0} (r : Result A) → verdict r ≡ done tt → Value r
+passed-is (done x) e = record { value = x; is = refl }
+passed-is (refusal number place) e = done-not e refl
+
+pub refused-is : {A : Type 0} (r : Result A) (number place : ℕ) → verdict r ≡ refusal number place → r ≡ refusal number place
+refused-is (done x) number place e = done-not refl e
+refused-is (refusal n p) number place e = cc
 
 -- two tests that hold together
 pub both-held : (a b : Bool) → (a && b) ≡ true → (a ≡ true) × (b ≡ true)
@@ -153,3 +187,29 @@ module _ {A : Type 0} (f : ℕ → Result A) where
   check-refused n k number place e = byResult (f k)
       (λ x h. done-not (ap verdict h) e)
       (λ c q h. ap verdict (then-refused _ h) ∙ sym (ap verdict h) ∙ e)
+
+-- so many of the readings less, from further on, give the rest of the values
+pub each-behind : {A : Type 0} (f : ℕ → Result A) (n m k : ℕ) (xs : List A) → each f n k ≡ done xs → m ≤ n → each f (n - m) (k + m) ≡ done (drop m xs)
+each-behind f n m k xs e h =
+    let long : length (drop m xs) ≡ n - m = length-drop m xs ∙ ap (λ l. l - m) (each-length f n k xs e) in
+    each-part f n m (n - m) k xs e (omega arith) ∙ ap done (take-all (n - m) (drop m xs) (omega arith))
+
+-- those below k have passed: the checks from k up to the end say what all of them do
+pub record Passing {A : Type 0} (f : ℕ → Result A) (all : Result (Unit {0})) (end k : ℕ) : Type 0 where
+  pub left : all ≡ verdict (each f (end - k) k)
+
+module _ {A : Type 0} (f : ℕ → Result A) (all : Result (Unit {0})) (end k : ℕ) where
+  pub pass-more : k < end → Passing f all end k → verdict (f k) ≡ done tt → Passing f all end (k + 1)
+  pass-more more p e =
+      let next : end - k ≡ suc (end - (k + 1)) = omega arith in
+      record { left = p .left ∙ ap (λ n. verdict (each f n k)) next ∙ check-passed f (end - (k + 1)) k e ∙ ap (λ m. verdict (each f (end - (k + 1)) m)) (sym (add-one k)) }
+
+  pub pass-refused : (number place : ℕ) → k < end → Passing f all end k → verdict (f k) ≡ refusal number place → refusal number place ≡ all
+  pass-refused number place more p e =
+      let next : end - k ≡ suc (end - (k + 1)) = omega arith in
+      sym (p .left ∙ ap (λ n. verdict (each f n k)) next ∙ check-refused f (end - (k + 1)) k number place e)
+
+  pub pass-all : end ≤ k → Passing f all end k → done tt ≡ all
+  pass-all over p =
+      let none : end - k ≡ 0 = omega arith in
+      check-none f k ∙ sym (p .left ∙ ap (λ n. verdict (each f n k)) none)

@@ -14,9 +14,11 @@ use lib.ListN.{length, getD, take, drop, length-append}
 use Rattle.formats.specs.Numbers.{Bytes, bytesOf, numberOf, numberAt}
 use Rattle.formats.specs.Places.{Lies, one-more}
 use Rattle.formats.specs.Refusals.{inputEnded, notATag, tooDeep}
-use Rattle.formats.specs.Tokens.{Tree, leaf, node, Labelled, tips, depth, leafTag, nodeTag, labelBytes, tokens, Reading, tree, refused, Tag, ended, aLeaf, aNode, other, tagOf, tagAt, labelAt, partsAt, byTag, treeAt}
+use Rattle.formats.specs.Tokens.{Tree, leaf, node, Labelled, tips, depth, leafTag, nodeTag, labelBytes, tokens, Tag, ended, aLeaf, aNode, other, tagOf, tagAt, labelAt, partsAt, byTag, treeAt}
 use Rattle.formats.proofs.Numbers.{length-bytesOf, number-bytesOf, numberAt-whole, numberAt-lt, bytesOf-numberAt}
 use Rattle.formats.proofs.Places.{lies-left, lies-right, lies-part, lies-taken, lies-append, lies-within}
+use Rattle.formats.specs.Results.{done, refusal}
+use Rattle.formats.proofs.Results.{Outcome, gave, stopped, outcome, done-not}
 
 -- 01: "A tree of n leaves takes 6n − 1 bytes."
 six-a-tip : (t : Tree) → suc (length (tokens t)) ≡ 6 * tips t
@@ -64,7 +66,7 @@ tag-is {s} {p} (at-node there is) =
 tag-is (at-other there nl nn) = simp (tagAt, tagOf, lt-ltb _ _ there, ne-eqb _ _ nl, ne-eqb _ _ nn)
 
 -- what the reading is, by the tag
-pub read-ended : (room : ℕ) {s : List ℕ} {p : ℕ} → Look s p ended → treeAt room s p ≡ refused inputEnded p
+pub read-ended : (room : ℕ) {s : List ℕ} {p : ℕ} → Look s p ended → treeAt room s p ≡ refusal inputEnded p
 unfolding treeAt byTag
 read-ended zero k = simp (treeAt, byTag, tag-is k)
 read-ended (suc room) k = simp (treeAt, byTag, tag-is k)
@@ -74,12 +76,12 @@ unfolding treeAt byTag
 read-leaf zero k = simp (treeAt, byTag, tag-is k)
 read-leaf (suc room) k = simp (treeAt, byTag, tag-is k)
 
-pub read-other : (room : ℕ) {s : List ℕ} {p : ℕ} → Look s p other → treeAt room s p ≡ refused notATag p
+pub read-other : (room : ℕ) {s : List ℕ} {p : ℕ} → Look s p other → treeAt room s p ≡ refusal notATag p
 unfolding treeAt byTag
 read-other zero k = simp (treeAt, byTag, tag-is k)
 read-other (suc room) k = simp (treeAt, byTag, tag-is k)
 
-pub read-deep : {s : List ℕ} {p : ℕ} → Look s p aNode → treeAt zero s p ≡ refused tooDeep p
+pub read-deep : {s : List ℕ} {p : ℕ} → Look s p aNode → treeAt zero s p ≡ refusal tooDeep p
 unfolding treeAt byTag
 read-deep k = simp (treeAt, byTag, tag-is k)
 
@@ -88,37 +90,37 @@ unfolding treeAt byTag
 read-parts room k = simp (treeAt, byTag, tag-is k)
 
 -- a label that is whole, and one that is not
-pub label-whole : (s : List ℕ) (p : ℕ) → p + labelBytes ≤ length s → labelAt s p ≡ tree (leaf (numberAt labelBytes s p))
+pub label-whole : (s : List ℕ) (p : ℕ) → p + labelBytes ≤ length s → labelAt s p ≡ done (leaf (numberAt labelBytes s p))
 unfolding labelAt
 label-whole s p h = simp (labelAt, le-leb _ _ h)
 
-pub label-cut : (s : List ℕ) (p : ℕ) → length s < p + labelBytes → labelAt s p ≡ refused inputEnded p
+pub label-cut : (s : List ℕ) (p : ℕ) → length s < p + labelBytes → labelAt s p ≡ refusal inputEnded p
 unfolding labelAt
 label-cut s p h = simp (labelAt, lt-leb _ _ h)
 
 -- a node's reading, by those of its parts
 module _ (room : ℕ) {s : List ℕ} {p : ℕ} (k : Look s p aNode) where
-  pub left-refused : {n q : ℕ} → treeAt room s (suc p) ≡ refused n q → treeAt (suc room) s p ≡ refused n q
+  pub left-refused : {n q : ℕ} → treeAt room s (suc p) ≡ refusal n q → treeAt (suc room) s p ≡ refusal n q
   unfolding partsAt
   left-refused e = rw (read-parts room k) (simp (partsAt, e))
 
-  pub right-refused : {l : Tree} {n q : ℕ} → treeAt room s (suc p) ≡ tree l → treeAt room s (suc p + length (tokens l)) ≡ refused n q → treeAt (suc room) s p ≡ refused n q
+  pub right-refused : {l : Tree} {n q : ℕ} → treeAt room s (suc p) ≡ done l → treeAt room s (suc p + length (tokens l)) ≡ refusal n q → treeAt (suc room) s p ≡ refusal n q
   unfolding partsAt
   right-refused e f = rw (read-parts room k) (simp (partsAt, e, f))
 
-  pub read-node : {l r : Tree} → treeAt room s (suc p) ≡ tree l → treeAt room s (suc p + length (tokens l)) ≡ tree r → treeAt (suc room) s p ≡ tree (node l r)
+  pub read-node : {l r : Tree} → treeAt room s (suc p) ≡ done l → treeAt room s (suc p + length (tokens l)) ≡ done r → treeAt (suc room) s p ≡ done (node l r)
   unfolding partsAt
   read-node e f = rw (read-parts room k) (simp (partsAt, e, f))
 
 -- a label that stands at a place is read there
-label-read : (s : List ℕ) (p x : ℕ) → x < 2 ^ 32 → p ≤ length s → Lies s p (bytesOf labelBytes x) → labelAt s p ≡ tree (leaf x)
+label-read : (s : List ℕ) (p x : ℕ) → x < 2 ^ 32 → p ≤ length s → Lies s p (bytesOf labelBytes x) → labelAt s p ≡ done (leaf x)
 label-read s p x fits h label =
     let whole : p + labelBytes ≤ length s = rw length-bytesOf at (lies-within label h) in
     let is : take labelBytes (drop p s) ≡ bytesOf labelBytes x = rw length-bytesOf at (lies-part label) in
-    label-whole s p whole ∙ ap (λ (n : ℕ). tree (leaf n)) (numberAt-whole labelBytes s p whole ∙ ap numberOf is ∙ number-bytesOf labelBytes x fits)
+    label-whole s p whole ∙ ap (λ (n : ℕ). done (leaf n)) (numberAt-whole labelBytes s p whole ∙ ap numberOf is ∙ number-bytesOf labelBytes x fits)
 
 -- a tree that stands at a place, with room for its depth, is read there
-pub reads-at : (t : Tree) (room : ℕ) (s : List ℕ) (p : ℕ) → Labelled t → depth t ≤ room → Lies s p (tokens t) → treeAt room s p ≡ tree t
+pub reads-at : (t : Tree) (room : ℕ) (s : List ℕ) (p : ℕ) → Labelled t → depth t ≤ room → Lies s p (tokens t) → treeAt room s p ≡ done t
 unfolding depth tokens
 reads-at (leaf x) room s p fits h (one-more there is more) =
     read-leaf room (at-leaf there is) ∙ label-read s (suc p) x fits (omega arith) more
@@ -134,21 +136,7 @@ pub record Stands (room : ℕ) (s : List ℕ) (p : ℕ) (t : Tree) : Type 0 wher
   pub labelled : Labelled t
   pub shallow : depth t ≤ room
 
--- a reading is a tree or a refusal, with the equation kept
-pub data Outcome (r : Reading) : Type 0 where
-  gave : (t : Tree) → r ≡ tree t → Outcome r
-  stopped : (n q : ℕ) → r ≡ refused n q → Outcome r
-
-pub outcome : (r : Reading) → Outcome r
-outcome (tree t) = gave t refl
-outcome (refused n q) = stopped n q refl
-
--- a reading that is a tree is no refusal
-pub never-both : {A : Type 0} {r : Reading} {t : Tree} {n q : ℕ} → r ≡ tree t → r ≡ refused n q → A
-never-both e f = let z : _≡_ {A = ℕ} 0 1 = cc in absurd (omega arith)
-
--- a leaf that was read stands there
-leaf-stands : (room : ℕ) (s : List ℕ) (p : ℕ) (t : Tree) → Bytes s → Look s p aLeaf → labelAt s (suc p) ≡ tree t → Stands room s p t
+leaf-stands : (room : ℕ) (s : List ℕ) (p : ℕ) (t : Tree) → Bytes s → Look s p aLeaf → labelAt s (suc p) ≡ done t → Stands room s p t
 unfolding tokens depth
 leaf-stands room s p t bs (at-leaf there is) e = whole (leb (suc p + labelBytes) (length s)) refl
   where
@@ -159,14 +147,14 @@ leaf-stands room s p t bs (at-leaf there is) e = whole (leb (suc p + labelBytes)
         let same : leaf (numberAt labelBytes s (suc p)) ≡ t = cc (label-whole s (suc p) within) in
         subst (Stands room s p) same
         (record { lies = one-more there is label; labelled = numberAt-lt labelBytes s (suc p) bs within; shallow = omega arith })
-    whole false h = never-both e (label-cut s (suc p) (leb-false _ _ h))
+    whole false h = done-not e (label-cut s (suc p) (leb-false _ _ h))
 
 -- a node that was read stands there, where its parts that were read do
 node-stands :
     (room : ℕ) (s : List ℕ) (p : ℕ) (t : Tree)
-    → ((q : ℕ) (u : Tree) → treeAt room s q ≡ tree u → Stands room s q u)
+    → ((q : ℕ) (u : Tree) → treeAt room s q ≡ done u → Stands room s q u)
     → Look s p aNode
-    → treeAt (suc room) s p ≡ tree t
+    → treeAt (suc room) s p ≡ done t
     → Stands (suc room) s p t
 unfolding tokens depth
 node-stands room s p t part (at-node there is) e = by-left (outcome (treeAt room s (suc p)))
@@ -174,8 +162,8 @@ node-stands room s p t part (at-node there is) e = by-left (outcome (treeAt room
     k : Look s p aNode
     k = at-node there is
 
-    by-right : (l : Tree) → treeAt room s (suc p) ≡ tree l → Outcome (treeAt room s (suc p + length (tokens l))) → Stands (suc room) s p t
-    by-right l f (stopped n q g) = never-both e (right-refused room k f g)
+    by-right : (l : Tree) → treeAt room s (suc p) ≡ done l → Outcome (treeAt room s (suc p + length (tokens l))) → Stands (suc room) s p t
+    by-right l f (stopped n q g) = done-not e (right-refused room k f g)
     by-right l f (gave r g) =
         let left = part (suc p) l f in
         let right = part (suc p + length (tokens l)) r g in
@@ -184,25 +172,25 @@ node-stands room s p t part (at-node there is) e = by-left (outcome (treeAt room
         (record { lies = one-more there is (lies-append (left .lies) (right .lies)); labelled = (left .labelled, right .labelled); shallow = omega (arith, left .shallow, right .shallow) })
 
     by-left : Outcome (treeAt room s (suc p)) → Stands (suc room) s p t
-    by-left (stopped n q f) = never-both e (left-refused room k f)
+    by-left (stopped n q f) = done-not e (left-refused room k f)
     by-left (gave l f) = by-right l f (outcome (treeAt room s (suc p + length (tokens l))))
 
 -- a tree that was read stands there, where this holds of a node
-by-tag : (room : ℕ) (s : List ℕ) (p : ℕ) (t : Tree) → Bytes s → (Look s p aNode → Stands room s p t) → {g : Tag} → Look s p g → treeAt room s p ≡ tree t → Stands room s p t
-by-tag room s p t bs below (past h) e = never-both e (read-ended room (past h))
+by-tag : (room : ℕ) (s : List ℕ) (p : ℕ) (t : Tree) → Bytes s → (Look s p aNode → Stands room s p t) → {g : Tag} → Look s p g → treeAt room s p ≡ done t → Stands room s p t
+by-tag room s p t bs below (past h) e = done-not e (read-ended room (past h))
 by-tag room s p t bs below (at-leaf there is) e = leaf-stands room s p t bs (at-leaf there is) (sym (read-leaf room (at-leaf there is)) ∙ e)
 by-tag room s p t bs below (at-node there is) e = below (at-node there is)
-by-tag room s p t bs below (at-other there nl nn) e = never-both e (read-other room (at-other there nl nn))
+by-tag room s p t bs below (at-other there nl nn) e = done-not e (read-other room (at-other there nl nn))
 
 -- a tree that was read stands there
-pub stands : (room : ℕ) (s : List ℕ) (p : ℕ) (t : Tree) → Bytes s → treeAt room s p ≡ tree t → Stands room s p t
-stands zero s p t bs e = by-tag zero s p t bs (λ k. never-both e (read-deep k)) (look s p) e
+pub stands : (room : ℕ) (s : List ℕ) (p : ℕ) (t : Tree) → Bytes s → treeAt room s p ≡ done t → Stands room s p t
+stands zero s p t bs e = by-tag zero s p t bs (λ k. done-not e (read-deep k)) (look s p) e
 stands (suc room) s p t bs e = by-tag (suc room) s p t bs (λ k. node-stands room s p t (λ q u f. stands room s q u bs f) k e) (look s p) e
 
 -- tokens are prefix-free: two trees that stand at one place are the same
 pub one-tree : (t u : Tree) (s : List ℕ) (p : ℕ) → Labelled t → Labelled u → Lies s p (tokens t) → Lies s p (tokens u) → t ≡ u
 one-tree t u s p lt lu ht hu =
     let room : ℕ = max (depth t) (depth u) in
-    let rt : treeAt room s p ≡ tree t = reads-at t room s p lt (le-max-left _ _) ht in
-    let ru : treeAt room s p ≡ tree u = reads-at u room s p lu (le-max-right _ _) hu in
+    let rt : treeAt room s p ≡ done t = reads-at t room s p lt (le-max-left _ _) ht in
+    let ru : treeAt room s p ≡ done u = reads-at u room s p lu (le-max-right _ _) hu in
     cc

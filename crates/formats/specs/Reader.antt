@@ -7,7 +7,8 @@ use lib.ListN.{length, getD, take}
 use Rattle.formats.specs.Numbers.{Bytes}
 use Rattle.formats.specs.Places.{Opens, Lies}
 use Rattle.formats.specs.Refusals.{inputEnded, notATag, tooDeep}
-use Rattle.formats.specs.Tokens.{Tree, Labelled, tips, depth, leafTag, nodeTag, labelBytes, mostDepth, tokens, tree, refused, firstTree}
+use Rattle.formats.specs.Tokens.{Tree, Labelled, tips, depth, leafTag, nodeTag, labelBytes, mostDepth, tokens, firstTree}
+use Rattle.formats.specs.Results.{done, refusal}
 
 -- The reader gave t for the buffer s.
 pub record Gave (s : List ℕ) (t : Tree) : Type 0 where
@@ -70,14 +71,14 @@ pub record TreeReader : Type 0 where
   -- "A tree of n leaves takes 6n − 1 bytes."
   pub length-of-tokens : (t : Tree) → length (tokens t) ≡ 6 * tips t - 1
   -- "The tree reader takes the first tree of a buffer": each tree at most 1,024 deep, whatever stands after it ..
-  pub takes : (t : Tree) (rest : List ℕ) → Labelled t → depth t ≤ mostDepth → firstTree (tokens t ++ rest) ≡ tree t
+  pub takes : (t : Tree) (rest : List ℕ) → Labelled t → depth t ≤ mostDepth → firstTree (tokens t ++ rest) ≡ done t
   -- .. and nothing else.
-  pub gives : (s : List ℕ) (t : Tree) → Bytes s → firstTree s ≡ tree t → Gave s t
+  pub gives : (s : List ℕ) (t : Tree) → Bytes s → firstTree s ≡ done t → Gave s t
   -- A refusal means that no such tree begins the buffer.
-  pub none : (s : List ℕ) (number p : ℕ) → firstTree s ≡ refused number p → (t : Tree) → Labelled t → depth t ≤ mostDepth → Opens (tokens t) s → ⊥
+  pub none : (s : List ℕ) (number p : ℕ) → firstTree s ≡ refusal number p → (t : Tree) → Labelled t → depth t ≤ mostDepth → Opens (tokens t) s → ⊥
   -- The number and the place are those of the table's row.
-  pub refuses : (s : List ℕ) (number p : ℕ) → Bytes s → (firstTree s ≡ refused number p) ↔ Refuses s number p
+  pub refuses : (s : List ℕ) (number p : ℕ) → Bytes s → (firstTree s ≡ refusal number p) ↔ Refuses s number p
   -- What each number means.
-  pub ended : (s : List ℕ) (p : ℕ) → Bytes s → firstTree s ≡ refused inputEnded p → Ended s
-  pub fits-none : (s : List ℕ) (p : ℕ) → Bytes s → firstTree s ≡ refused notATag p → FitsNone s p
-  pub too-deep : (s : List ℕ) (p : ℕ) → Bytes s → firstTree s ≡ refused tooDeep p → TooDeep s p
+  pub ended : (s : List ℕ) (p : ℕ) → Bytes s → firstTree s ≡ refusal inputEnded p → Ended s
+  pub fits-none : (s : List ℕ) (p : ℕ) → Bytes s → firstTree s ≡ refusal notATag p → FitsNone s p
+  pub too-deep : (s : List ℕ) (p : ℕ) → Bytes s → firstTree s ≡ refusal tooDeep p → TooDeep s p

@@ -10,36 +10,37 @@ use borrow.Author.Tests.{le-leb, lt-leb}
 use lib.ListN.{length, getD, take}
 use Rattle.formats.specs.Numbers.{Bytes}
 use Rattle.formats.specs.Refusals.{inputEnded, notATag, tooDeep}
-use Rattle.formats.specs.Tokens.{leafTag, nodeTag, leafBytes, mostDepth, Tag, ended, aLeaf, aNode, other, tagAt, Ending, ends, stops, endAt, firstEnd, firstTree, ownBytes}
+use Rattle.formats.specs.Tokens.{leafTag, nodeTag, leafBytes, mostDepth, Tag, ended, aLeaf, aNode, other, tagAt, endAt, firstEnd, firstTree, ownBytes}
 use Rattle.formats.proofs.Tokens.{Look, past, at-leaf, at-node, at-other, tag-is}
 use Rattle.formats.proofs.Endings.{end-past, end-cut, end-leaf, end-other, end-deep, end-left, end-right, end-behind, end-first, own-ends, own-stops}
 use Rattle.tree.specs.Answer.{answered}
 use Rattle.tree.specs.Told.{refusalAt, allOnes, toldBy}
 use Rattle.tree.specs.declared.TreeAnswer.{TreeAnswer}
+use Rattle.formats.specs.Results.{Result, done, refusal}
 
 -- ---- the refusal, by what stands where a tag is due
 
-pub refused-past : (s : List ℕ) (p : ℕ) → length s ≤ p → stops inputEnded p ≡ refusalAt s p
+pub refused-past : (s : List ℕ) (p : ℕ) → length s ≤ p → refusal inputEnded p ≡ refusalAt s p
 unfolding refusalAt
 refused-past s p h = let k : Look s p ended = past h in simp (refusalAt, tag-is k)
 
-pub refused-label : (s : List ℕ) (p : ℕ) → p < length s → getD s p 0 ≡ leafTag → stops inputEnded (p + 1) ≡ refusalAt s p
+pub refused-label : (s : List ℕ) (p : ℕ) → p < length s → getD s p 0 ≡ leafTag → refusal inputEnded (p + 1) ≡ refusalAt s p
 unfolding refusalAt
 refused-label s p there is = let k : Look s p aLeaf = at-leaf there is in simp (refusalAt, tag-is k, add-one)
 
-pub refused-node : (s : List ℕ) (p : ℕ) → p < length s → getD s p 0 ≡ nodeTag → stops tooDeep p ≡ refusalAt s p
+pub refused-node : (s : List ℕ) (p : ℕ) → p < length s → getD s p 0 ≡ nodeTag → refusal tooDeep p ≡ refusalAt s p
 unfolding refusalAt
 refused-node s p there is = let k : Look s p aNode = at-node there is in simp (refusalAt, tag-is k)
 
-pub refused-other : (s : List ℕ) (p : ℕ) → p < length s → getD s p 0 ≢ leafTag → getD s p 0 ≢ nodeTag → stops notATag p ≡ refusalAt s p
+pub refused-other : (s : List ℕ) (p : ℕ) → p < length s → getD s p 0 ≢ leafTag → getD s p 0 ≢ nodeTag → refusal notATag p ≡ refusalAt s p
 unfolding refusalAt
 refused-other s p there nl nn = let k : Look s p other = at-other there nl nn in simp (refusalAt, tag-is k)
 
 -- it is a refusal, whatever stands there
-record Stops (e : Ending) : Type 0 where
+record Stops (e : Result ℕ) : Type 0 where
   number : ℕ
   place : ℕ
-  is : e ≡ stops number place
+  is : e ≡ refusal number place
 
 refusal-stops : (s : List ℕ) (p : ℕ) → Stops (refusalAt s p)
 unfolding refusalAt
@@ -53,7 +54,7 @@ refusal-stops s p = by (tagAt s p) refl
 
 -- ---- one number
 
-told-end : (s : List ℕ) (r : ℕ) → r ≤ length s → toldBy s r ≡ ends r
+told-end : (s : List ℕ) (r : ℕ) → r ≤ length s → toldBy s r ≡ done r
 unfolding toldBy
 told-end s r h = simp (toldBy, le-leb _ _ h)
 
@@ -88,7 +89,7 @@ told-deep room s p short there is none = told-place s p (omega arith) short ∙ 
 pub told-left : (room : ℕ) (s : List ℕ) (p l : ℕ) → p < length s → getD s p 0 ≡ nodeTag → room ≢ 0 → toldBy s l ≡ endAt (room - 1) s (p + 1) → length s < l → toldBy s l ≡ endAt room s p
 told-left room s p l there is some left h =
     let f = refusal-stops s (allOnes - l) in
-    let stop : toldBy s l ≡ stops (f .number) (f .place) = told-stop s l h ∙ f .is in
+    let stop : toldBy s l ≡ refusal (f .number) (f .place) = told-stop s l h ∙ f .is in
     stop ∙ end-left room s p (f .number) (f .place) there is some (sym stop ∙ left)
 
 -- a left tree that ends, and what comes of the right one
@@ -111,7 +112,7 @@ pub ruleset ends-told = (told-past, told-cut, told-leaf, told-other, told-deep, 
 
 -- ---- the first tree
 
-pub first-ends : (s : List ℕ) (r : ℕ) → toldBy s r ≡ endAt mostDepth s 0 → r ≤ length s → ends r ≡ firstEnd s
+pub first-ends : (s : List ℕ) (r : ℕ) → toldBy s r ≡ endAt mostDepth s 0 → r ≤ length s → done r ≡ firstEnd s
 first-ends s r told h = sym (told-end s r h) ∙ end-first s (toldBy s r) told
 
 first-stops : (s : List ℕ) (r : ℕ) → toldBy s r ≡ endAt mostDepth s 0 → length s < r → refusalAt s (allOnes - r) ≡ firstEnd s

@@ -1,10 +1,11 @@
 -- The tree reader's answer as document 01 has it: each case with its number and values.
-use Rattle.formats.specs.Tokens.{Ending, ends, stops}
+use Prim.Native.Nat.{ℕ}
 use Rattle.refusal.specs.Number.{number}
 use Rattle.tree.specs.declared.TreeAnswer.{TreeAnswer}
 use Rattle.tree.specs.declared.TreeAnswer.the-variants.{Tree, Refused}
+use Rattle.formats.specs.Results.{Result, done, refusal}
 
 -- A tree: where it ends. A refusal: its number and its place.
-abbrev pub answered : TreeAnswer → Ending
-answered (Tree end) = ends end
-answered (Refused why place) = stops (number why) place
+abbrev pub answered : TreeAnswer → Result ℕ
+answered (Tree end) = done end
+answered (Refused why place) = refusal (number why) place

@@ -5,16 +5,17 @@ use mathlib.Core.List.{List}
 use lib.Dec.{leb}
 use lib.ListN.{length}
 use Rattle.formats.specs.Refusals.{inputEnded, notATag, tooDeep}
-use Rattle.formats.specs.Tokens.{ended, aLeaf, aNode, other, tagAt, Ending, ends, stops}
+use Rattle.formats.specs.Tokens.{ended, aLeaf, aNode, other, tagAt}
+use Rattle.formats.specs.Results.{Result, done, refusal}
 
 -- A tree is refused where a tag is due, and what stands there says why: nothing, a leaf whose label is cut, a node too deep, or no tag.
-unfoldable pub refusalAt : List ℕ → ℕ → Ending
+unfoldable pub refusalAt : List ℕ → ℕ → Result ℕ
 refusalAt s p =
     elim (tagAt s p) [
-      | ended ↦ stops inputEnded p
-      | aLeaf ↦ stops inputEnded (suc p)
-      | aNode ↦ stops tooDeep p
-      | other ↦ stops notATag p
+      | ended ↦ refusal inputEnded p
+      | aLeaf ↦ refusal inputEnded (suc p)
+      | aNode ↦ refusal tooDeep p
+      | other ↦ refusal notATag p
     ]
 
 -- A place of a buffer, or its end. A buffer has fewer than 2^63 bytes.
@@ -27,5 +28,5 @@ abbrev pub allOnes : ℕ
 allOnes = 2 ^ 64 - 1
 
 -- A number up to the buffer's length is an end. A larger one is all ones less the place of the tag where the tree is refused.
-unfoldable pub toldBy : List ℕ → ℕ → Ending
-toldBy s r = elim (leb r (length s)) [ true ↦ ends r | false ↦ refusalAt s (allOnes - r) ]
+unfoldable pub toldBy : List ℕ → ℕ → Result ℕ
+toldBy s r = elim (leb r (length s)) [ true ↦ done r | false ↦ refusalAt s (allOnes - r) ]

@@ -8,7 +8,29 @@ extern "C" {
     fn hogvax_tree_bytes(input: *const u8, input_len: usize) -> usize;
 
     fn hogvax_tree(input: *const u8, input_len: usize, answer: *mut u64, answer_len: usize) -> u32;
+
+    fn hogvax_pack(
+        records: *const u8,
+        records_len: usize,
+        file: *mut u8,
+        file_len: usize,
+        answer: *mut u64,
+        answer_len: usize,
+    ) -> u32;
+
+    fn hogvax_unpack(
+        file: *const u8,
+        file_len: usize,
+        records: *mut u8,
+        records_len: usize,
+        answer: *mut u64,
+        answer_len: usize,
+    ) -> u32;
 }
+
+/// A call that reads its first slice, writes to its second, and answers in
+/// its third.
+type Conversion = unsafe extern "C" fn(*const u8, usize, *mut u8, usize, *mut u64, usize) -> u32;
 
 /// The length of the first tree's own bytes, which begin the input; 0 on a
 /// refusal.
@@ -25,6 +47,38 @@ pub fn tree(input: &[u8], answer: &mut [u64]) -> u32 {
         hogvax_tree(
             input.as_ptr(),
             input.len(),
+            answer.as_mut_ptr(),
+            answer.len(),
+        )
+    }
+}
+
+/// The program file of these records; see `pack_into`.
+pub fn pack(records: &[u8], file: &mut [u8], answer: &mut [u64]) -> u32 {
+    // SAFETY: the library exports this call.
+    unsafe { convert(hogvax_pack, records, file, answer) }
+}
+
+/// The records of this program file; see `unpack_into`.
+pub fn unpack(file: &[u8], records: &mut [u8], answer: &mut [u64]) -> u32 {
+    // SAFETY: the library exports this call.
+    unsafe { convert(hogvax_unpack, file, records, answer) }
+}
+
+/// Lends the three slices to a call.
+///
+/// # Safety
+///
+/// The call is one that the library exports.
+unsafe fn convert(call: Conversion, input: &[u8], output: &mut [u8], answer: &mut [u64]) -> u32 {
+    // SAFETY: pointers and lengths are those of one slice each, and the
+    // slices written are borrowed mutably.
+    unsafe {
+        call(
+            input.as_ptr(),
+            input.len(),
+            output.as_mut_ptr(),
+            output.len(),
             answer.as_mut_ptr(),
             answer.len(),
         )

@@ -36,7 +36,9 @@ pub fn list() -> Outcome {
         text += &format!("  {:<width$}{}\n", verb.call(), verb.summary);
     }
     text += "
-FILE may be '-' or left out: then standard input is read.
+FILE may be '-' or left out: then standard input is read. A verb with --out
+writes data, to that file or, if it is '-' or left out, to standard output; its
+answer goes to standard error.
 Exit status: 0 done; 1 refused; 2 wrong usage, or a file that can't be read or
 written.
 ";

@@ -2,13 +2,17 @@
 
 #![forbid(unsafe_code)]
 
+mod data;
 mod help;
 mod outcome;
+mod pack;
 mod refusals;
 mod streams;
 mod tree;
+mod unpack;
 mod verbs;
 mod why;
+mod words;
 
 use std::env;
 use std::ffi::OsString;

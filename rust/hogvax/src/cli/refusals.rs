@@ -54,8 +54,8 @@ a file of one block that says there are two, its check being right:
         name: "header",
         meaning: "\
 In record 0 the edition is not 1, the functions are not 1 to 32, the nodes are
-not 1 to 1,024, or bytes 4 to 7 are not zero; or the number of records is not
-1 + functions + nodes.",
+not 1 to 1,024, or bytes 4 to 7 are not zero; or there are not exactly
+1 + functions + nodes records of 8 bytes.",
         place: "always 0, the header's record.",
         example: "\
 a header of 1 function and 8 nodes, with 7 node records in all:
@@ -161,9 +161,9 @@ node part of the one before and on its left tree:
         number: 13,
         name: "lent space",
         meaning: "\
-A buffer that the caller lends for code, for a file, for work words or for the
-answer is shorter than the call needs. This command lends enough; a program
-that calls the library may meet it.",
+A buffer that the caller lends for code, for a file, for records, for work
+words or for the answer is shorter than the call needs. This command lends
+enough; a program that calls the library may meet it.",
         place: "always 0.",
         example: "\
 a code buffer of 96 bytes for 13 instructions, which take 104:

@@ -4,7 +4,8 @@ use std::ffi::{OsStr, OsString};
 
 use crate::outcome::{Ended, Outcome};
 use crate::streams;
-use crate::verbs::{self, Verb};
+use crate::verbs::Verb;
+use crate::words::Words;
 
 pub const VERB: Verb = Verb {
     name: "tree",
@@ -23,8 +24,8 @@ Example:
     run,
 };
 
-fn run(operands: &[OsString]) -> Option<Outcome> {
-    verbs::one_file(operands).map(tree)
+fn run(words: &[OsString]) -> Option<Outcome> {
+    Words::sort(words, &[])?.one_file().map(tree)
 }
 
 fn tree(file: &OsStr) -> Outcome {

@@ -4,7 +4,9 @@ use std::ffi::{OsStr, OsString};
 
 use crate::help;
 use crate::outcome::{Outcome, Trouble};
+use crate::pack;
 use crate::tree;
+use crate::unpack;
 use crate::why;
 
 /// A verb of the command line. A new one is a line of `VERBS` and a module.
@@ -21,7 +23,7 @@ pub struct Verb {
 }
 
 /// All verbs, in the order in which they are listed.
-pub const VERBS: &[Verb] = &[tree::VERB, why::VERB, help::VERB];
+pub const VERBS: &[Verb] = &[tree::VERB, pack::VERB, unpack::VERB, why::VERB, help::VERB];
 
 impl Verb {
     /// How it is called: its name and its operands.
@@ -57,18 +59,4 @@ pub fn perform(words: &[OsString]) -> Outcome {
         Some(outcome) => outcome,
         None => Err(Trouble(format!("usage: hogvax {}", verb.call()))),
     }
-}
-
-/// The operand of a verb with at most one file; `-` if there is none. A word
-/// that looks like an option is no operand.
-pub fn one_file(operands: &[OsString]) -> Option<&OsStr> {
-    match operands {
-        [] => Some(OsStr::new("-")),
-        [file] if file == "-" || !looks_like_an_option(file) => Some(file),
-        _ => None,
-    }
-}
-
-fn looks_like_an_option(word: &OsStr) -> bool {
-    word.as_encoded_bytes().starts_with(b"-")
 }

@@ -1,14 +1,15 @@
 //! The command line: what each verb prints, and its exit status.
 
-use std::fs::File;
+mod programs;
+mod tree;
+mod why;
+
+use std::fs::{self, File};
 use std::io::{ErrorKind, Write};
-use std::path::PathBuf;
+use std::path::{Path, PathBuf};
 use std::process::{Child, Command, Output, Stdio};
 
-const VERBS: [&str; 3] = ["tree", "why", "help"];
-
-/// Document 01: "Tree T: 02 01 05 00 00 00 01 07 00 00 00."
-const T: [u8; 11] = [2, 1, 5, 0, 0, 0, 1, 7, 0, 0, 0];
+const VERBS: [&str; 5] = ["tree", "pack", "unpack", "why", "help"];
 
 fn command(words: &[&str]) -> Command {
     let mut command = Command::new(env!("CARGO_BIN_EXE_hogvax"));
@@ -68,90 +69,26 @@ fn trouble(output: Output) -> String {
     message
 }
 
+/// Where a sample is.
 fn sample(name: &str) -> String {
-    let root = PathBuf::from(env!("CARGO_MANIFEST_DIR")).join("../..");
+    let root = Path::new(env!("CARGO_MANIFEST_DIR")).join("../..");
     let path = root.join("samples").join(name);
     path.to_str().unwrap().to_owned()
 }
 
-// tree
-
-#[test]
-fn tree_prints_the_length_of_the_sample() {
-    assert_says(&run(&["tree", &sample("small.tokens")]), 0, "tree 11\n");
+/// The bytes with another one at this place.
+fn with(bytes: &[u8], place: usize, byte: u8) -> Vec<u8> {
+    let mut bytes = bytes.to_vec();
+    bytes[place] = byte;
+    bytes
 }
 
-#[test]
-fn tree_reads_standard_input() {
-    assert_says(&run_on(&["tree"], &T), 0, "tree 11\n");
-    assert_says(&run_on(&["tree", "-"], &T), 0, "tree 11\n");
-    assert_says(&run(&["tree"]), 1, "refused 15 0\n");
-}
-
-#[test]
-fn tree_prints_refusals() {
-    let deep = [2; 1_025];
-    for (input, line) in [
-        (&[][..], "refused 15 0\n"),
-        (&[1, 5, 0, 0], "refused 15 1\n"),
-        (&[3], "refused 16 0\n"),
-        (&T[..6], "refused 15 6\n"),
-        (&deep, "refused 20 1024\n"),
-    ] {
-        assert_says(&run_on(&["tree"], input), 1, line);
-    }
-}
-
-#[test]
-fn tree_reads_large_inputs() {
-    let mut input = vec![3; 20_000_000];
-    input[..T.len()].copy_from_slice(&T);
-    assert_says(&run_on(&["tree"], &input), 0, "tree 11\n");
-}
-
-#[test]
-fn tree_tells_of_files_that_cannot_be_read() {
-    let message = trouble(run(&["tree", "no-such-file"]));
-    assert!(message.contains("no-such-file"), "{message}");
-    let folder = env!("CARGO_MANIFEST_DIR");
-    let message = trouble(run(&["tree", folder]));
-    assert!(message.contains(folder), "{message}");
-    let input = File::open(folder).unwrap();
-    let message = trouble(command(&["tree"]).stdin(input).output().unwrap());
-    assert!(message.contains("standard input"), "{message}");
-}
-
-// why
-
-#[test]
-fn why_explains_the_numbers_1_to_20() {
-    for number in 1..=20 {
-        let text = printed(run(&["why", &number.to_string()]));
-        assert!(text.starts_with(&format!("{number}: ")), "{text}");
-        assert!(text.contains("\nPlace: "), "{text}");
-        assert!(text.contains("\nExample: "), "{text}");
-        assert!(text.contains(&format!("\n  refused {number} ")), "{text}");
-    }
-}
-
-#[test]
-fn why_knows_no_other_number() {
-    for number in (21..=30).chain([0]) {
-        let message = trouble(run(&["why", &number.to_string()]));
-        assert!(message.contains("1 to 20"), "{message}");
-    }
-    for number in ["4294967297", "18446744073709551617"] {
-        trouble(run(&["why", number]));
-    }
-}
-
-#[test]
-fn the_tree_readers_examples_are_true() {
-    for (number, input) in [("15", &[1, 5, 0, 0][..]), ("16", &[3]), ("20", &[2; 1_025])] {
-        let line = String::from_utf8(run_on(&["tree"], input).stdout).unwrap();
-        let text = printed(run(&["why", number]));
-        assert!(text.ends_with(&format!("\n  {line}")), "{text}");
-    }
+/// A new and empty folder, for one test.
+fn folder(name: &str) -> PathBuf {
+    let path = Path::new(env!("CARGO_TARGET_TMPDIR")).join(name);
+    let _ = fs::remove_dir_all(&path);
+    fs::create_dir_all(&path).unwrap();
+    path
 }
 
 // help
@@ -178,24 +115,72 @@ fn help_describes_each_verb_with_an_example() {
     }
 }
 
+/// The words of the example after `./hogvax`, and what is printed.
+fn example(verb: &str) -> (Vec<String>, String) {
+    let text = printed(run(&["help", verb]));
+    let (_, example) = text.split_once("\nExample:\n  $ ./hogvax ").unwrap();
+    let (words, lines) = example.split_once('\n').unwrap();
+    let word = |word: &str| match word.strip_prefix("samples/") {
+        Some(name) => sample(name),
+        None => word.to_owned(),
+    };
+    (
+        words.split(' ').map(word).collect(),
+        lines.replace("  ", ""),
+    )
+}
+
+/// What an example shows, and the files that it makes.
+#[test]
+fn the_examples_are_true() {
+    let folder = folder("examples");
+    for verb in VERBS {
+        let (words, lines) = example(verb);
+        let words: Vec<&str> = words.iter().map(String::as_str).collect();
+        let output = command(&words).current_dir(&folder).output().unwrap();
+        assert_eq!(output.status.code(), Some(0));
+        if !lines.is_empty() {
+            assert_eq!([output.stdout, output.stderr].concat(), lines.as_bytes());
+        }
+    }
+    for name in ["grow.program", "grow.records"] {
+        let made = fs::read(folder.join(name)).unwrap();
+        let shipped = fs::read(sample(&format!("programs/{name}"))).unwrap();
+        assert_eq!(made, shipped, "{name}");
+    }
+}
+
 // Wrong usage
 
 #[test]
 fn wrong_usage_is_told() {
+    let tree = "usage: hogvax tree [FILE]";
+    let pack = "usage: hogvax pack [FILE] [--out FILE]";
+    let unpack = "usage: hogvax unpack [FILE] [--out FILE]";
+    let why = "usage: hogvax why NUMBER";
     for (words, part) in [
         (&["trees"][..], "no verb 'trees'"),
         (&[""], "no verb ''"),
         (&["--version"], "no verb '--version'"),
         (&["help", "trees"], "no verb 'trees'"),
         (&["help", "tree", "why"], "usage: hogvax help [VERB]"),
-        (&["tree", "a", "b"], "usage: hogvax tree [FILE]"),
-        (&["tree", "--fast"], "usage: hogvax tree [FILE]"),
-        (&["why"], "usage: hogvax why NUMBER"),
-        (&["why", "1", "2"], "usage: hogvax why NUMBER"),
-        (&["why", ""], "usage: hogvax why NUMBER"),
-        (&["why", "-1"], "usage: hogvax why NUMBER"),
-        (&["why", "+1"], "usage: hogvax why NUMBER"),
-        (&["why", "fifteen"], "usage: hogvax why NUMBER"),
+        (&["tree", "a", "b"], tree),
+        (&["tree", "--fast"], tree),
+        (&["tree", "--out", "a"], tree),
+        (&["pack", "a", "b"], pack),
+        (&["pack", "--out"], pack),
+        (&["pack", "a", "--out"], pack),
+        (&["pack", "--out", "--fast"], pack),
+        (&["pack", "--out", "a", "--out", "a"], pack),
+        (&["unpack", "a", "b", "--out", "c"], unpack),
+        (&["unpack", "-o", "a"], unpack),
+        (&["unpack", "--out=a"], unpack),
+        (&["why"], why),
+        (&["why", "1", "2"], why),
+        (&["why", ""], why),
+        (&["why", "-1"], why),
+        (&["why", "+1"], why),
+        (&["why", "fifteen"], why),
     ] {
         let message = trouble(run(words));
         assert!(message.contains(part), "{message}");
@@ -208,8 +193,9 @@ fn words_need_not_be_text() {
     use std::ffi::OsStr;
     use std::os::unix::ffi::OsStrExt;
     let word = OsStr::from_bytes(b"\xff");
-    for words in [&[][..], &["tree"], &["why"], &["help"]] {
-        trouble(command(words).arg(word).output().unwrap());
+    trouble(command(&[]).arg(word).output().unwrap());
+    for verb in VERBS {
+        trouble(command(&[verb]).arg(word).output().unwrap());
     }
 }
 

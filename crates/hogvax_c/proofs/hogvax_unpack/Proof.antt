@@ -1,0 +1,15 @@
+-- `hogvax_c::hogvax_unpack` meets its contract: too few places, or what was put is told.
+use borrow.Author.Needs.{needs}
+use Rattle.hogvax_c.proofs.Laws.{call-ways}
+use Rattle.hogvax_c.proofs.hogvax_unpack.Statement.{statement}
+use Rattle.hogvax_c.proofs.hogvax_unpack.Tie as tie
+
+pub hogvax-unpack-spec : {M : Type 1} → statement M
+hogvax-unpack-spec =
+    tie.close
+    (tie.spec
+    (λ c κs. search needs)
+    (λ c. search call-ways)
+    (λ c κs. search needs) (λ c κs. search needs)
+    (λ c. search needs) (λ c. search needs)
+    (λ c. search call-ways))

@@ -1,0 +1,142 @@
+-- The row "prefix form": the functions one after the other, each with its records, a law for each way out of the loop.
+use Prim.Native.Nat.{ℕ, suc, _+_, _-_, _*_, _≤_, _<_}
+use mathlib.Core.Bool.{Bool, true, false, not}
+use mathlib.Core.List.{List, [], _∷_}
+use mathlib.Core.Path.{_≡_, refl, sym, ap, _∙_}
+use native.Mathlib.Nat.{zero-add, sub-zero}
+use native.Mathlib.Numerals.{add-one}
+use native.Mathlib.Omega.{arith}
+use borrow.Author.Tests.{not-true, not-false}
+use lib.ListN.{getD, take, drop}
+use Rattle.formats.specs.Refusals.{prefixForm}
+use Rattle.formats.specs.Results.{Result, done, refusal, andThen, check, verdict, each}
+use Rattle.formats.specs.Records.{Kind, recordAt}
+use Rattle.formats.specs.Programs.{Expr, Signature, arityOf, total, Function}
+use Rattle.formats.specs.Rows.{headerIn, functionRow, nodeIn, nodeRow, exprsOf, exactlyOne, bodies, prefixRow}
+use Rattle.formats.proofs.Results.{then-done, then-refused, each-inv, each-none, each-nth, each-front, test-holds, test-fails, passed-is, refused-is, each-behind}
+use Rattle.program.specs.Fields.{functionIn, countIn}
+use Rattle.program.specs.Prefix.{Arities, IsOne, PrefixSays}
+use Rattle.program.proofs.Functions.{function-read, row-inv}
+
+-- each function has as many number parameters as its record says
+arities : (s : List ℕ) (gs : List Signature) → functionRow (headerIn s) s ≡ done gs → Arities s (arityOf gs)
+unfolding arityOf
+arities s gs e b h =
+    let f = each-nth (functionIn s) (headerIn s .functions) 0 b gs (row-inv s gs e .each-read) h in
+    let g = function-read s b (f .value) (rw zero-add at (f .given)) in
+    (rw (f .there, arityOf)) ∙ g .arity
+
+-- a function's check in front of the others'
+body-passed : (arity : ℕ → ℕ) (g : Signature) (gs : List Signature) (ks : List Kind) (r : ℕ) → verdict (exactlyOne r (exprsOf arity (take (g .count) ks))) ≡ done tt
+    → verdict (bodies arity (g ∷ gs) ks r) ≡ verdict (bodies arity gs (drop (g .count) ks) (r + g .count))
+unfolding bodies
+body-passed arity g gs ks r e =
+    let v = passed-is (exactlyOne r (exprsOf arity (take (g .count) ks))) e in
+    ap verdict (then-done _ (v .is)) ∙ same (bodies arity gs (drop (g .count) ks) (r + g .count)) (v .value)
+  where
+    same : (fs : Result (List Function)) (x : Expr)
+        → verdict (andThen fs (λ l. done (record { sort = g .sort; parameters = g .parameters; body = x } ∷ l))) ≡ verdict fs
+    same (done l) x = refl
+    same (refusal number place) x = refl
+
+body-refused : (arity : ℕ → ℕ) (g : Signature) (gs : List Signature) (ks : List Kind) (r number place : ℕ)
+    → verdict (exactlyOne r (exprsOf arity (take (g .count) ks))) ≡ refusal number place → verdict (bodies arity (g ∷ gs) ks r) ≡ refusal number place
+unfolding bodies
+body-refused arity g gs ks r number place e =
+    ap verdict (then-refused _ (refused-is (exactlyOne r (exprsOf arity (take (g .count) ks))) number place e))
+
+-- ---- `prefix_row`
+
+module _ (s : List ℕ) (functions : ℕ) where
+  -- the functions from j on, whose records begin at the first, say what the whole row does
+  pub record Left (gs : List Signature) (ks : List Kind) (first j : ℕ) : Type 0 where
+    pub signed : List Signature
+    pub kinds : List Kind
+    pub signed-read : each (functionIn s) (functions - j) j ≡ done signed
+    pub kinds-read : each (nodeIn s) (total signed) first ≡ done kinds
+    pub left : verdict (prefixRow (headerIn s) gs ks) ≡ verdict (bodies (arityOf gs) signed kinds first)
+
+  pub record Bodied (first j : ℕ) : Type 0 where
+    pub near : first ≤ 1 + functions + 65535 * j
+    pub rest : (gs : List Signature) (ks : List Kind) → functionRow (headerIn s) s ≡ done gs → nodeRow (headerIn s) s ≡ done ks → Left gs ks first j
+
+  pub bodies-none : functions ≡ getD s 1 0 → Bodied (1 + functions) 0
+  unfolding headerIn recordAt nodeRow nodeIn prefixRow
+  bodies-none ef = record {
+    near = omega arith;
+    rest = λ gs ks eg ek.
+        let g = row-inv s gs eg in
+        let place : suc (headerIn s .functions) ≡ 1 + functions = omega arith in
+        record {
+          signed = gs;
+          kinds = ks;
+          signed-read = rw (ef, sub-zero) (g .each-read);
+          kinds-read = rw (g .sum, ← place) ek;
+          left = ap (λ r. verdict (bodies (arityOf gs) gs ks r)) place;
+        };
+  }
+
+  -- function j, with its records and those behind them
+  record Turn (gs : List Signature) (ks : List Kind) (first j count : ℕ) : Type 0 where
+    here : List Kind
+    here-read : each (nodeIn s) count first ≡ done here
+    passed : verdict (exactlyOne first (exprsOf (arityOf gs) here)) ≡ done tt → Left gs ks (first + count) (j + 1)
+    refused : (number place : ℕ) → verdict (exactlyOne first (exprsOf (arityOf gs) here)) ≡ refusal number place → verdict (prefixRow (headerIn s) gs ks) ≡ refusal number place
+
+  turn : (gs : List Signature) (ks : List Kind) (first j count : ℕ) → j < functions → count ≡ countIn s j → Left gs ks first j → Turn gs ks first j count
+  unfolding total
+  turn gs ks first j count more is l =
+      let next : functions - j ≡ suc (functions - (j + 1)) = omega arith in
+      let i = each-inv (functionIn s) (functions - (j + 1)) j (l .signed) (rw next at (l .signed-read)) in
+      let own : i .head .count ≡ count = function-read s j (i .head) (i .here) .count ∙ sym is in
+      let sum : total (l .signed) ≡ count + total (i .tail) = ap total (i .both) ∙ ap (λ n. n + total (i .tail)) own in
+      let behind : total (l .signed) - count ≡ total (i .tail) = omega arith in
+      let left : verdict (prefixRow (headerIn s) gs ks) ≡ verdict (bodies (arityOf gs) (i .head ∷ i .tail) (l .kinds) first) =
+      l .left ∙ ap (λ fs. verdict (bodies (arityOf gs) fs (l .kinds) first)) (i .both) in
+      record {
+        here = take count (l .kinds);
+        here-read = each-front (nodeIn s) (total (l .signed)) count first (l .kinds) (l .kinds-read) (omega arith);
+        passed = λ e. record {
+          signed = i .tail;
+          kinds = drop count (l .kinds);
+          signed-read = ap (each (functionIn s) (functions - (j + 1))) (add-one j) ∙ i .later;
+          kinds-read = rw behind at (each-behind (nodeIn s) (total (l .signed)) count first (l .kinds) (l .kinds-read) (omega arith));
+          left = left ∙ (rw own at (body-passed (arityOf gs) (i .head) (i .tail) (l .kinds) first (rw own e)));
+        };
+        refused = λ number place e. left ∙ body-refused (arityOf gs) (i .head) (i .tail) (l .kinds) first number place (rw own e);
+      }
+
+  module _ (first j count : ℕ) (one : Bool) (more : j < functions) (b : Bodied first j) (is : count ≡ countIn s j) (told : IsOne s first (first + count) one) where
+    -- what the answer says of the function's records
+    one-said : (gs : List Signature) (here : List Kind) → functionRow (headerIn s) s ≡ done gs → each (nodeIn s) count first ≡ done here
+        → check one prefixForm first tt ≡ verdict (exactlyOne first (exprsOf (arityOf gs) here))
+    one-said gs here eg e =
+        let long : first + count - first ≡ count = omega arith in
+        told .is (arityOf gs) here (arities s gs eg) (rw long e)
+
+    pub bodies-more : count < 65536 → not one ≡ false → Bodied (first + count) (j + 1)
+    bodies-more small u = record {
+      near = omega (arith, b .near);
+      rest = λ gs ks eg ek.
+          let t = turn gs ks first j count more is (b .rest gs ks eg ek) in
+          t .passed (sym (test-holds one prefixForm first _ (one-said gs (t .here) eg (t .here-read)) (not-false one u)));
+    }
+
+    pub bodies-refused : not one ≡ true → PrefixSays s (refusal prefixForm first)
+    bodies-refused u = record {
+      is = λ gs ks eg ek.
+          let t = turn gs ks first j count more is (b .rest gs ks eg ek) in
+          sym (t .refused prefixForm first (sym (test-fails one prefixForm first _ (one-said gs (t .here) eg (t .here-read)) (not-true one u))));
+    }
+
+  pub bodies-all : (first j : ℕ) → functions ≤ j → Bodied first j → PrefixSays s (done tt)
+  unfolding bodies
+  bodies-all first j over b = record {
+    is = λ gs ks eg ek.
+        let l = b .rest gs ks eg ek in
+        let none-left : functions - j ≡ 0 = omega arith in
+        let nothing : l .signed ≡ [] = each-none (functionIn s) j (l .signed) (rw none-left at (l .signed-read)) in
+        sym (l .left ∙ ap (λ fs. verdict (bodies (arityOf gs) fs (l .kinds) first)) nothing);
+  }
+
+pub ruleset bodies-checked = (bodies-none, bodies-more, bodies-refused, bodies-all)

@@ -1,0 +1,141 @@
+-- Whether a function's records are exactly one expression: the walk from the last record to the first, a law for each way out of it.
+use Prim.Native.Nat.{ℕ, suc, _+_, _-_, _≤_, _<_}
+use mathlib.Core.Bool.{Bool, true, false, _&&_}
+use mathlib.Core.List.{List, [], _∷_}
+use mathlib.Core.Option.{Option, none, some}
+use mathlib.Core.Path.{_≡_, refl, sym, ap, ap₂, _∙_}
+use native.Mathlib.Omega.{arith}
+use borrow.Author.Tests.{ltb-true, eqb-true, eqb-false}
+use lib.Dec.{eqb}
+use lib.ListN.{take, drop, take-append-drop}
+use Rattle.formats.specs.Refusals.{nodeField, prefixForm}
+use Rattle.formats.specs.Results.{done, refusal, check, verdict, each}
+use Rattle.formats.specs.Records.{Kind, Const, Var, Add, IfZero, Let, Leaf, Node, Case, Call, kindOf, recordAt, fieldsOf, same, below, nodeRecord, partsOf, partCount}
+use Rattle.formats.specs.Rows.{headerIn, nodeAt, nodeIn, exprsOf, exactlyOne}
+use Rattle.formats.proofs.Results.{done-not, each-inv, each-none, check-inv, both-held, check-inv, both-held, each-behind}
+use Rattle.formats.proofs.Prefix.{Height, height-short, height-step, none-stays, one-of, not-one-of, none-of}
+use Rattle.program.specs.Fields.{arityIn}
+use Rattle.program.specs.Prefix.{partsIn, Arities, IsOne}
+
+-- a node that was read calls one of the functions
+node-below : (s : List ℕ) (k : ℕ) (kind : Kind) → nodeIn s k ≡ done kind → below (headerIn s .functions) kind ≡ true
+unfolding nodeIn nodeAt nodeRecord
+node-below s k kind e = by-kind (kindOf (headerIn s .edition) (recordAt s k)) e
+  where
+    functions : ℕ
+    functions = headerIn s .functions
+
+    by-kind : (o : Option Kind)
+        → elim o [ none ↦ refusal nodeField k | some found ↦ check (same (fieldsOf found) (recordAt s k) && below functions found) nodeField k found ] ≡ done kind
+        → below functions kind ≡ true
+    by-kind none e = done-not e refl
+    by-kind (some found) e =
+        let c = check-inv _ nodeField k found kind e in
+        let b = both-held (same (fieldsOf found) (recordAt s k)) _ (c .held) in
+        ap (below functions) (sym (c .same)) ∙ b .1
+
+-- so it has as many parts as the code counts
+parts-agree : (s : List ℕ) (arity : ℕ → ℕ) (kind : Kind) → Arities s arity → below (headerIn s .functions) kind ≡ true
+    → partCount arity (partsOf kind) ≡ partCount (arityIn s) (partsOf kind)
+unfolding below partsOf partCount
+parts-agree s arity (Const i) a e = refl
+parts-agree s arity (Var v) a e = refl
+parts-agree s arity Add a e = refl
+parts-agree s arity IfZero a e = refl
+parts-agree s arity Let a e = refl
+parts-agree s arity Leaf a e = refl
+parts-agree s arity Node a e = refl
+parts-agree s arity (Case v) a e = refl
+parts-agree s arity (Call v b) a e = a b (ltb-true b (headerIn s .functions) e)
+
+node-parts : (s : List ℕ) (arity : ℕ → ℕ) (k : ℕ) (kind : Kind) → Arities s arity → nodeIn s k ≡ done kind → partsIn s k ≡ partCount arity (partsOf kind)
+unfolding partsIn
+node-parts s arity k kind a e = (rw (e, partsIn)) ∙ sym (parts-agree s arity kind a (node-below s k kind e))
+
+-- ---- `one_expression`
+
+module _ (s : List ℕ) (first end : ℕ) where
+  -- the records from k up to the end are as many expressions as stand
+  pub record Standing (k standing : ℕ) : Type 0 where
+    pub begun : first ≤ k
+    pub within : k + standing ≤ end
+    pub stands : (arity : ℕ → ℕ) (ks : List Kind) → Arities s arity → each (nodeIn s) (end - k) k ≡ done ks → Height arity ks standing
+
+  pub walk-none : first ≤ end → Standing end 0
+  unfolding exprsOf
+  walk-none h = record {
+    begun = h;
+    within = omega arith;
+    stands = λ arity ks a e.
+        let none-left : end - end ≡ 0 = omega arith in
+        let nothing : ks ≡ [] = each-none (nodeIn s) end ks (rw none-left at e) in
+        record { exprs = []; found = ap (exprsOf arity) nothing; height = refl };
+  }
+
+  -- the record in front of those from k on, and its parts
+  record Front (k : ℕ) (arity : ℕ → ℕ) (ks : List Kind) : Type 0 where
+    kind : Kind
+    behind : List Kind
+    both : ks ≡ kind ∷ behind
+    parts : partsIn s (k - 1) ≡ partCount arity (partsOf kind)
+    read : each (nodeIn s) (end - k) k ≡ done behind
+
+  front : (k : ℕ) (arity : ℕ → ℕ) (ks : List Kind) → first < k → k ≤ end → Arities s arity → each (nodeIn s) (end - (k - 1)) (k - 1) ≡ done ks → Front k arity ks
+  front k arity ks more within a e =
+      let one-more : end - (k - 1) ≡ suc (end - k) = omega arith in
+      let next : suc (k - 1) ≡ k = omega arith in
+      let i = each-inv (nodeIn s) (end - k) (k - 1) ks (rw one-more at e) in
+      record {
+        kind = i .head;
+        behind = i .tail;
+        both = i .both;
+        parts = node-parts s arity (k - 1) (i .head) a (i .here);
+        read = ap (each (nodeIn s) (end - k)) (sym next) ∙ i .later;
+      }
+
+  module _ (k standing parts : ℕ) (more : first < k) (w : Standing k standing) (is : parts ≡ partsIn s (k - 1)) where
+    pub walk-more : parts ≤ standing → Standing (k - 1) (standing - parts + 1)
+    walk-more enough = record {
+      begun = omega arith;
+      within = omega (arith, w .within);
+      stands = λ arity ks a e.
+          let f = front k arity ks more (omega (arith, w .within)) a e in
+          let h = w .stands arity (f .behind) a (f .read) in
+          let taken : partCount arity (partsOf (f .kind)) ≡ parts = sym (is ∙ f .parts) in
+          let t = height-step arity (f .kind) (f .behind) (h .exprs) (h .found) (omega (arith, h .height)) in
+          record { exprs = t .exprs; found = ap (exprsOf arity) (f .both) ∙ t .found; height = t .height ∙ omega (arith, h .height) };
+    }
+
+    pub walk-short : standing < parts → IsOne s first end false
+    walk-short few = record {
+      is = λ arity ks a e.
+          let m = (k - 1) - first in
+          let rest = drop m ks in
+          let from : first + m ≡ k - 1 = omega arith in
+          let left : (end - first) - m ≡ end - (k - 1) = omega (arith, w .within) in
+          let behind : each (nodeIn s) (end - (k - 1)) (k - 1) ≡ done rest =
+          ap₂ (each (nodeIn s)) (sym left) (sym from) ∙ each-behind (nodeIn s) (end - first) m first ks e (omega (arith, w .within)) in
+          let f = front k arity rest more (omega (arith, w .within)) a behind in
+          let h = w .stands arity (f .behind) a (f .read) in
+          let taken : partCount arity (partsOf (f .kind)) ≡ parts = sym (is ∙ f .parts) in
+          let short : exprsOf arity rest ≡ none =
+          ap (exprsOf arity) (f .both) ∙ height-short arity (f .kind) (f .behind) (h .exprs) (h .found) (omega (arith, h .height)) in
+          let all : exprsOf arity ks ≡ none =
+          ap (exprsOf arity) (sym (take-append-drop m ks)) ∙ none-stays arity (take m ks) rest short in
+          sym (none-of arity ks first all);
+    }
+
+  pub walk-all : (k standing : ℕ) → k ≤ first → Standing k standing → IsOne s first end (eqb standing 1)
+  walk-all k standing over w = record {
+    is = λ arity ks a e.
+        let whole : k ≡ first = omega (arith, w .begun) in
+        let h = w .stands arity ks a (rw whole e) in
+        decides arity ks h (eqb standing 1) refl;
+  }
+    where
+      decides : (arity : ℕ → ℕ) (ks : List Kind) → Height arity ks standing → (b : Bool) → eqb standing 1 ≡ b
+          → check b prefixForm first tt ≡ verdict (exactlyOne first (exprsOf arity ks))
+      decides arity ks h true t = sym (one-of arity ks (h .exprs) first (h .found) (h .height ∙ eqb-true standing 1 t))
+      decides arity ks h false t = sym (not-one-of arity ks (h .exprs) first (h .found) (λ z. eqb-false standing 1 t (sym (h .height) ∙ z)))
+
+pub ruleset walked = (walk-none, walk-more, walk-short, walk-all)

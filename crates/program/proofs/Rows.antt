@@ -1,0 +1,77 @@
+-- The rows one after the other: a row that passes leaves what follows it, and the first refusal is the whole reading's.
+use Prim.Native.Nat.{ℕ}
+use mathlib.Core.Bool.{_&&_}
+use mathlib.Core.List.{List}
+use mathlib.Core.Path.{_≡_, refl, sym, ap, _∙_}
+use lib.Dec.{eqb}
+use lib.ListN.{length}
+use Rattle.formats.specs.Refusals.{headerField}
+use Rattle.formats.specs.Results.{Result, done, refusal, andThen, verdict}
+use Rattle.formats.specs.Records.{Record, fields, recordAt, Kind}
+use Rattle.formats.specs.Programs.{Header, Signature, Function, Program, firstEdition}
+use Rattle.formats.specs.Rows.{headerFrom, headerRow, headerIn, functionRow, nodeRow, prefixRow, readProgram}
+use Rattle.formats.proofs.Results.{then-done, then-refused, check-inv, check-inv, Value, passed-is, refused-is}
+use Rattle.refusal.specs.Number.{number}
+use Rattle.refusal.specs.Said.{said}
+use Rattle.refusal.specs.declared.Refusal.{Refusal}
+use Rattle.refusal.specs.declared.Verdict.{Verdict}
+use Rattle.refusal.specs.declared.Verdict.the-variants.{Passed, Refused}
+use Rattle.program.specs.Prefix.{PrefixSays}
+
+-- a header that was read is the header's own fields
+header-own : (s : List ℕ) (h : Header) → headerRow s ≡ done h → headerIn s ≡ h
+unfolding headerRow headerFrom headerIn
+header-own s h e = own (recordAt s 0) e
+  where
+    own : (r : Record) → headerFrom (length s) r ≡ done h → elim r [ fields edition f n i ↦ record { edition = edition; functions = f; nodes = n } ] ≡ h
+    own (fields edition f n i) e = let c = check-inv (eqb edition firstEdition && _) headerField 0 _ h e in c .same
+
+-- what follows the header, the functions and the nodes
+abbrev withNodes : Header → List Signature → List Kind → Result Program
+withNodes h gs ks = andThen (prefixRow h gs ks) (λ fs. done (record { edition = h .edition; functions = fs }))
+
+abbrev withFunctions : Header → List ℕ → List Signature → Result Program
+withFunctions h s gs = andThen (nodeRow h s) (withNodes h gs)
+
+abbrev withHeader : List ℕ → Header → Result Program
+withHeader s h = andThen (functionRow h s) (withFunctions h s)
+
+-- the program is said what its functions are
+functions-said : (h : Header) (fs : Result (List Function)) → verdict {A = Program} (andThen fs (λ l. done (record { edition = h .edition; functions = l }))) ≡ verdict fs
+functions-said h (done l) = refl
+functions-said h (refusal number place) = refl
+
+module _ (s : List ℕ) (header : Verdict) (eh : said header ≡ verdict (headerRow s)) where
+  pub stops-header : (why : Refusal) (place : ℕ) → header ≡ Refused why place → refusal (number why) place ≡ verdict (readProgram s)
+  unfolding readProgram
+  stops-header why place case = sym (ap verdict (then-refused (withHeader s) (refused-is (headerRow s) (number why) place (sym eh ∙ ap said case))))
+
+  module _ (header-passed : header ≡ Passed) (functions : Verdict) (ef : said functions ≡ verdict (functionRow (headerIn s) s)) where
+    behind-header : readProgram s ≡ withHeader s (headerIn s)
+    unfolding readProgram
+    behind-header =
+        let v = passed-is (headerRow s) (sym eh ∙ ap said header-passed) in
+        then-done (withHeader s) (v .is) ∙ ap (withHeader s) (sym (header-own s (v .value) (v .is)))
+
+    pub stops-functions : (why : Refusal) (place : ℕ) → functions ≡ Refused why place → refusal (number why) place ≡ verdict (readProgram s)
+    stops-functions why place case =
+        sym (ap verdict (behind-header ∙ then-refused _ (refused-is (functionRow (headerIn s) s) (number why) place (sym ef ∙ ap said case))))
+
+    module _ (functions-passed : functions ≡ Passed) (nodes : Verdict) (en : said nodes ≡ verdict (nodeRow (headerIn s) s)) where
+      read : Value (functionRow (headerIn s) s)
+      read = passed-is (functionRow (headerIn s) s) (sym ef ∙ ap said functions-passed)
+
+      behind-functions : readProgram s ≡ withFunctions (headerIn s) s (read .value)
+      behind-functions = behind-header ∙ then-done _ (read .is)
+
+      pub stops-nodes : (why : Refusal) (place : ℕ) → nodes ≡ Refused why place → refusal (number why) place ≡ verdict (readProgram s)
+      stops-nodes why place case =
+          sym (ap verdict (behind-functions ∙ then-refused _ (refused-is (nodeRow (headerIn s) s) (number why) place (sym en ∙ ap said case))))
+
+      pub prefix-decides : (form : Verdict) → nodes ≡ Passed → PrefixSays s (said form) → said form ≡ verdict (readProgram s)
+      prefix-decides form nodes-passed told =
+          let ks = passed-is (nodeRow (headerIn s) s) (sym en ∙ ap said nodes-passed) in
+          told .is (read .value) (ks .value) (read .is) (ks .is)
+          ∙ sym (ap verdict (behind-functions ∙ then-done _ (ks .is)) ∙ functions-said (headerIn s) (prefixRow (headerIn s) (read .value) (ks .value)))
+
+pub ruleset rows-said = (stops-header, stops-functions, stops-nodes, prefix-decides)

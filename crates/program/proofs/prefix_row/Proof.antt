@@ -1,0 +1,68 @@
+-- `program::prefix_row` meets its contract: the functions below j are one expression each, so those from j on, whose records begin at the first, say what all
+-- do. What is left of them falls.
+use Prim.Native.Nat.{_-_}
+use Rattle.program.proofs.Bodies.{Bodied, bodies-checked}
+use borrow.Author.Needs.{needs}
+use Rattle.program.proofs.prefix_row.Statement.{statement}
+use Rattle.program.proofs.prefix_row.Tie as tie
+
+abbrev Inv-loop : tie.InvT-loop
+Inv-loop flat functions first₀ j₀ first j = Bodied flat functions first j
+
+abbrev μ-loop : tie.MeasureT-loop
+μ-loop flat functions first₀ j₀ first j = functions - j
+
+read8-requires : tie.Need-read8-requires Inv-loop μ-loop
+read8-requires c κs = search needs
+
+cast-functions : tie.Need-cast-functions Inv-loop μ-loop
+cast-functions c = search needs
+
+add-first : tie.Need-add-first Inv-loop μ-loop
+add-first c = search needs
+
+loop-holds : tie.Need-loop-holds Inv-loop μ-loop
+loop-holds c = search bodies-checked
+
+count-of-requires : tie.Need-count-of-requires Inv-loop μ-loop
+count-of-requires c κs = search needs
+
+add-end : tie.Need-add-end Inv-loop μ-loop
+add-end c = search needs
+
+one-expression-requires : tie.Need-one-expression-requires Inv-loop μ-loop
+one-expression-requires c κs = search needs
+
+returns : tie.Need-returns Inv-loop μ-loop
+returns c = search bodies-checked
+
+add-j : tie.Need-add-j Inv-loop μ-loop
+add-j c = search needs
+
+loop-less : tie.Need-loop-less Inv-loop μ-loop
+loop-less c = search needs
+
+loop-again : tie.Need-loop-again Inv-loop μ-loop
+loop-again c = search bodies-checked
+
+returns-2 : tie.Need-returns-2 Inv-loop μ-loop
+returns-2 c = search bodies-checked
+
+pub prefix-row-spec : {M : Type 1} → statement M
+prefix-row-spec =
+    tie.close
+    (tie.spec
+    Inv-loop
+    μ-loop
+    read8-requires
+    cast-functions
+    add-first
+    loop-holds
+    count-of-requires
+    add-end
+    one-expression-requires
+    returns
+    add-j
+    loop-less
+    loop-again
+    returns-2)

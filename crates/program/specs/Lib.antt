@@ -1,0 +1,3 @@
+-- What the rows' functions answer.
+pub mod Fields
+pub mod Prefix

@@ -1,0 +1,29 @@
+-- What the functions of the row "prefix form" answer.
+use Prim.Native.Nat.{ℕ, _-_, _<_}
+use mathlib.Core.Bool.{Bool}
+use mathlib.Core.List.{List}
+use mathlib.Core.Path.{_≡_}
+use Rattle.formats.specs.Refusals.{prefixForm}
+use Rattle.formats.specs.Results.{Result, done, refusal, verdict, check, each}
+use Rattle.formats.specs.Records.{Kind, partsOf, partCount}
+use Rattle.formats.specs.Programs.{Signature}
+use Rattle.formats.specs.Rows.{headerIn, functionRow, nodeIn, nodeRow, exprsOf, exactlyOne, prefixRow}
+use Rattle.program.specs.Fields.{arityIn}
+
+-- How many parts record k has; 0 where it is no node.
+unfoldable pub partsIn : List ℕ → ℕ → ℕ
+partsIn s k = elim (nodeIn s k) [ done kind ↦ partCount (arityIn s) (partsOf kind) | refusal number place ↦ 0 ]
+
+-- The number parameters of each function are those that its record says.
+abbrev pub Arities : List ℕ → (ℕ → ℕ) → Type 0
+Arities s arity = (b : ℕ) → b < headerIn s .functions → arity b ≡ arityIn s b
+
+-- Whether the records from the first up to the end, where they are nodes, are exactly one expression.
+pub record IsOne (s : List ℕ) (first end : ℕ) (one : Bool) : Type 0 where
+  pub is : (arity : ℕ → ℕ) (ks : List Kind) → Arities s arity → each (nodeIn s) (end - first) first ≡ done ks
+      → check one prefixForm first tt ≡ verdict (exactlyOne first (exprsOf arity ks))
+
+-- What the row says, where the rows before it are done.
+pub record PrefixSays (s : List ℕ) (r : Result (Unit {0})) : Type 0 where
+  pub is : (gs : List Signature) (ks : List Kind) → functionRow (headerIn s) s ≡ done gs → nodeRow (headerIn s) s ≡ done ks
+      → r ≡ verdict (prefixRow (headerIn s) gs ks)

@@ -1,0 +1,58 @@
+//! Verbs that write data: the data goes to standard output, or into the file
+//! of `--out`, and the answer line to standard error.
+
+use std::ffi::{OsStr, OsString};
+
+use hogvax::Refused;
+
+use crate::outcome::{Ended, Outcome};
+use crate::streams;
+use crate::words::Words;
+
+/// The option that names a file for the data.
+pub const OUT: &str = "--out";
+
+/// Where the data goes.
+pub fn destination<'a>(words: &Words<'a>) -> &'a OsStr {
+    words.value(OUT).unwrap_or(OsStr::new("-"))
+}
+
+/// Writes the data, then the answer line.
+pub fn hand_out(data: &[u8], out: &OsStr, line: &str) -> Outcome {
+    streams::write(out, data)?;
+    streams::tell(line)?;
+    Ok(Ended::Done)
+}
+
+/// Tells a refusal. No data goes out, and no file is made or changed.
+pub fn refuse(line: &str) -> Outcome {
+    streams::tell(line)?;
+    Ok(Ended::Refused)
+}
+
+/// A verb that turns the bytes of one file into others.
+pub struct Conversion {
+    pub convert: fn(&[u8]) -> Result<Vec<u8>, Refused>,
+    /// Every input longer than this has the same refusal, whatever it holds.
+    /// So one byte more tells all, and the rest is not read.
+    pub longest_input: usize,
+    /// What the answer line calls the data.
+    pub name: &'static str,
+}
+
+impl Conversion {
+    /// Takes the words that follow the verb: `[FILE] [--out FILE]`.
+    pub fn run(&self, words: &[OsString]) -> Option<Outcome> {
+        let words = Words::sort(words, &[OUT])?;
+        let file = words.one_file()?;
+        Some(self.convert_file(file, destination(&words)))
+    }
+
+    fn convert_file(&self, file: &OsStr, out: &OsStr) -> Outcome {
+        let input = streams::read_at_most(file, self.longest_input + 1)?;
+        match (self.convert)(&input) {
+            Ok(data) => hand_out(&data, out, &format!("{} {}", self.name, data.len())),
+            Err(refused) => refuse(&refused.to_string()),
+        }
+    }
+}

@@ -1,0 +1,51 @@
+//! `tree`.
+
+use super::*;
+
+/// Document 01: "Tree T: 02 01 05 00 00 00 01 07 00 00 00."
+const T: [u8; 11] = [2, 1, 5, 0, 0, 0, 1, 7, 0, 0, 0];
+
+#[test]
+fn tree_prints_the_length_of_the_sample() {
+    assert_says(&run(&["tree", &sample("small.tokens")]), 0, "tree 11\n");
+}
+
+#[test]
+fn tree_reads_standard_input() {
+    assert_says(&run_on(&["tree"], &T), 0, "tree 11\n");
+    assert_says(&run_on(&["tree", "-"], &T), 0, "tree 11\n");
+    assert_says(&run(&["tree"]), 1, "refused 15 0\n");
+}
+
+#[test]
+fn tree_prints_refusals() {
+    let deep = [2; 1_025];
+    for (input, line) in [
+        (&[][..], "refused 15 0\n"),
+        (&[1, 5, 0, 0], "refused 15 1\n"),
+        (&[3], "refused 16 0\n"),
+        (&T[..6], "refused 15 6\n"),
+        (&deep, "refused 20 1024\n"),
+    ] {
+        assert_says(&run_on(&["tree"], input), 1, line);
+    }
+}
+
+#[test]
+fn tree_reads_large_inputs() {
+    let mut input = vec![3; 20_000_000];
+    input[..T.len()].copy_from_slice(&T);
+    assert_says(&run_on(&["tree"], &input), 0, "tree 11\n");
+}
+
+#[test]
+fn tree_tells_of_files_that_cannot_be_read() {
+    let message = trouble(run(&["tree", "no-such-file"]));
+    assert!(message.contains("no-such-file"), "{message}");
+    let folder = env!("CARGO_MANIFEST_DIR");
+    let message = trouble(run(&["tree", folder]));
+    assert!(message.contains(folder), "{message}");
+    let input = File::open(folder).unwrap();
+    let message = trouble(command(&["tree"]).stdin(input).output().unwrap());
+    assert!(message.contains("standard input"), "{message}");
+}

@@ -1,0 +1,154 @@
+//! Lent buffers of every length, and the places of the answer.
+
+use reference::generate::{programs, FileDamage, RecordDamage};
+use reference::{lay_out, Random};
+
+use super::*;
+
+/// Programs of these numbers of records.
+fn some_records(seed: u64, counts: &[usize]) -> Vec<Vec<u8>> {
+    let mut random = Random::new(seed);
+    let records = |&count| programs::program_of_records(&mut random, count).records();
+    counts.iter().map(records).collect()
+}
+
+/// An input for each refusal of a call, 13 aside, and one that is accepted.
+fn one_of_each(call: &Call) -> Vec<(Vec<u8>, Answer)> {
+    let mut random = Random::new(130);
+    let records = programs::program(&mut random, 3, 100).records();
+    let mut inputs = vec![records.clone()];
+    for number in 4..=7 {
+        let mut kinds = RecordDamage::ALL.into_iter();
+        let kind = kinds.find(|kind| kind.number() == number).unwrap();
+        inputs.push(kind.apply(&mut random, &records).unwrap().0);
+    }
+    if call.answers.contains(&1) {
+        inputs = inputs.iter().map(|records| lay_out(records)).collect();
+        for number in 1..=3 {
+            let mut kinds = FileDamage::ALL.into_iter();
+            let kind = kinds.find(|kind| kind.number() == number).unwrap();
+            inputs.push(kind.apply(&mut random, &lay_out(&records)).unwrap().0);
+        }
+    }
+    let answer = |input: Vec<u8>| {
+        let answer = call.reference_answer(&input);
+        (input, answer)
+    };
+    let all: Vec<(Vec<u8>, Answer)> = inputs.into_iter().map(answer).collect();
+    let numbers = all.iter().map(|(_, answer)| number(answer));
+    let mut seen: Vec<u32> = numbers.chain([13]).collect();
+    seen.sort_unstable();
+    assert_eq!(seen, call.answers);
+    all
+}
+
+// Buffers
+
+/// 13 where the buffer is too short, by one byte or by all.
+fn check_lengths(call: &Call, input: &[u8], step: usize) {
+    let answer = (call.safe)(input);
+    let need = answer.as_ref().unwrap().len();
+    let few = (0..need + 40).step_by(step);
+    let near = need.saturating_sub(9)..need + 9;
+    for length in few.chain(near).chain([0, LONG]) {
+        if length < need {
+            call.assert_lent(input, length, &refused(13, 0));
+        } else {
+            call.assert_lent(input, length, &answer);
+        }
+    }
+}
+
+#[test]
+fn buffers_of_every_length() {
+    for records in some_records(131, &[3, 10, 63, 64, 127]) {
+        check_lengths(&PACK, &records, 1);
+        check_lengths(&UNPACK, &lay_out(&records), 1);
+    }
+}
+
+#[test]
+fn buffers_for_every_number_of_blocks() {
+    let full = (1..=16).map(|blocks| 63 * blocks);
+    let counts: Vec<usize> = full.flat_map(|count| [count, count + 1]).collect();
+    for records in some_records(132, &counts)
+        .iter()
+        .chain(&some_records(133, &[1_057]))
+    {
+        check_lengths(&PACK, records, 512);
+        check_lengths(&UNPACK, &lay_out(records), 504);
+    }
+}
+
+#[test]
+fn every_refusal_comes_before_short_buffers() {
+    for call in [&PACK, &UNPACK] {
+        for (input, answer) in one_of_each(call) {
+            for length in [0, 1, 8, 511, 512, 513, 1_023] {
+                let short = answer.as_ref().is_ok_and(|bytes| length < bytes.len());
+                let answer = if short {
+                    refused(13, 0)
+                } else {
+                    answer.clone()
+                };
+                call.assert_lent(&input, length, &answer);
+            }
+        }
+    }
+}
+
+#[test]
+fn a_buffer_may_be_much_longer() {
+    for call in [&PACK, &UNPACK] {
+        for (input, answer) in one_of_each(call) {
+            let mut buffer = vec![0xaa; 1_000_000];
+            let number = (call.into)(&input, &mut buffer, &mut [0; 2]);
+            assert_eq!(number == 0, answer.is_ok());
+            let bytes = answer.unwrap_or_default();
+            assert!(buffer.starts_with(&bytes));
+            assert!(buffer[bytes.len()..].iter().all(|&byte| byte == 0xaa));
+        }
+    }
+}
+
+// Answers
+
+/// Before all other refusals, and whatever the buffer.
+#[test]
+fn an_answer_takes_two_places() {
+    for call in [&PACK, &UNPACK] {
+        for (input, _) in one_of_each(call) {
+            for length in [0, 512, LONG] {
+                for places in 0..2 {
+                    let mut buffer = BEFORE[..length].to_vec();
+                    let mut answer = [UNTOUCHED; 2];
+                    let number = (call.into)(&input, &mut buffer, &mut answer[..places]);
+                    assert_eq!(number, 13);
+                    assert_eq!(answer, [UNTOUCHED; 2]);
+                    assert!(buffer == BEFORE[..length]);
+                }
+            }
+        }
+    }
+}
+
+#[test]
+fn an_answer_fills_two_places_and_leaves_the_rest() {
+    for call in [&PACK, &UNPACK] {
+        for (input, answer) in one_of_each(call) {
+            for (length, answer) in [(LONG, &answer), (0, &answer.clone().and(refused(13, 0)))] {
+                for places in [2, 3, 100] {
+                    let mut buffer = BEFORE[..length].to_vec();
+                    let mut numbers = vec![UNTOUCHED; places];
+                    let number = (call.into)(&input, &mut buffer, &mut numbers);
+                    let told = match answer {
+                        Ok(bytes) => (0, 0, bytes.len() as u64),
+                        Err(refused) => (refused.number, refused.place, 0),
+                    };
+                    assert_eq!((number, numbers[0], numbers[1]), told);
+                    assert!(numbers[2..].iter().all(|&word| word == UNTOUCHED));
+                }
+            }
+        }
+    }
+}

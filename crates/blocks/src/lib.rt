@@ -30,7 +30,7 @@ const BLOCKS_PLACE: usize = 508;
 
 const CHECK_PLACE: usize = 510;
 
-// The number of 16-bit words.
+// How many values a 16-bit word has.
 const WORD_LIMIT: usize = 65536;
 
 // What a block's words sum to, modulo 65,536.

@@ -15,8 +15,8 @@ fn put_program(flat: &[u8], records: &mut [u8]) -> Filled
     ensures { λ r. ⌜ Put (programInto (length (now (records .entry))) (now (flat .entry))) (now (records .entry)) (now (records .exit)) r ⌝ }
 {
     let rows = program::check_records(flat);
-    if let Verdict::Refused(why, place) = rows {
-        return Filled::Refused(why, place);
+    if let Verdict::Refused(why, record) = rows {
+        return Filled::Refused(why, record);
     }
     if records.len() < flat.len() {
         return Filled::Refused(Refusal::SpaceTooShort, 0);
@@ -44,8 +44,8 @@ pub fn write_file(records: &[u8], file: &mut [u8]) -> Filled
     ensures { λ r. ⌜ Put (writeInto (length (now (file .entry))) (now (records .entry))) (now (file .entry)) (now (file .exit)) r ⌝ }
 {
     let rows = program::check_records(records);
-    if let Verdict::Refused(why, place) = rows {
-        return Filled::Refused(why, place);
+    if let Verdict::Refused(fault, record) = rows {
+        return Filled::Refused(fault, record);
     }
     blocks::lay_out(records, file)
 }

@@ -27,7 +27,8 @@ arities s gs e b h =
     (rw (f .there, arityOf)) ∙ g .arity
 
 -- a function's check in front of the others'
-body-passed : (arity : ℕ → ℕ) (g : Signature) (gs : List Signature) (ks : List Kind) (r : ℕ) → verdict (exactlyOne r (exprsOf arity (take (g .count) ks))) ≡ done tt
+body-passed : (arity : ℕ → ℕ) (g : Signature) (gs : List Signature) (ks : List Kind) (r : ℕ)
+    → verdict (exactlyOne r (exprsOf arity (take (g .count) ks))) ≡ done tt
     → verdict (bodies arity (g ∷ gs) ks r) ≡ verdict (bodies arity gs (drop (g .count) ks) (r + g .count))
 unfolding bodies
 body-passed arity g gs ks r e =
@@ -56,6 +57,7 @@ module _ (s : List ℕ) (functions : ℕ) where
     pub kinds-read : each (nodeIn s) (total signed) first ≡ done kinds
     pub left : verdict (prefixRow (headerIn s) gs ks) ≡ verdict (bodies (arityOf gs) signed kinds first)
 
+  -- so it is whenever the rows before are done, and the first record is not far off
   pub record Bodied (first j : ℕ) : Type 0 where
     pub near : first ≤ 1 + functions + 65535 * j
     pub rest : (gs : List Signature) (ks : List Kind) → functionRow (headerIn s) s ≡ done gs → nodeRow (headerIn s) s ≡ done ks → Left gs ks first j
@@ -81,7 +83,8 @@ module _ (s : List ℕ) (functions : ℕ) where
     here : List Kind
     here-read : each (nodeIn s) count first ≡ done here
     passed : verdict (exactlyOne first (exprsOf (arityOf gs) here)) ≡ done tt → Left gs ks (first + count) (j + 1)
-    refused : (number place : ℕ) → verdict (exactlyOne first (exprsOf (arityOf gs) here)) ≡ refusal number place → verdict (prefixRow (headerIn s) gs ks) ≡ refusal number place
+    refused : (number place : ℕ) → verdict (exactlyOne first (exprsOf (arityOf gs) here)) ≡ refusal number place
+        → verdict (prefixRow (headerIn s) gs ks) ≡ refusal number place
 
   turn : (gs : List Signature) (ks : List Kind) (first j count : ℕ) → j < functions → count ≡ countIn s j → Left gs ks first j → Turn gs ks first j count
   unfolding total
@@ -106,28 +109,30 @@ module _ (s : List ℕ) (functions : ℕ) where
         refused = λ number place e. left ∙ body-refused (arityOf gs) (i .head) (i .tail) (l .kinds) first number place (rw own e);
       }
 
-  module _ (first j count : ℕ) (one : Bool) (more : j < functions) (b : Bodied first j) (is : count ≡ countIn s j) (told : IsOne s first (first + count) one) where
-    -- what the answer says of the function's records
-    one-said : (gs : List Signature) (here : List Kind) → functionRow (headerIn s) s ≡ done gs → each (nodeIn s) count first ≡ done here
-        → check one prefixForm first tt ≡ verdict (exactlyOne first (exprsOf (arityOf gs) here))
-    one-said gs here eg e =
-        let long : first + count - first ≡ count = omega arith in
-        told .is (arityOf gs) here (arities s gs eg) (rw long e)
+  module _ (first j count : ℕ) (one : Bool) (more : j < functions) (b : Bodied first j)
+      (is : count ≡ countIn s j) (told : IsOne s first (first + count) one)
+    where
+      -- what the answer says of the function's records
+      one-said : (gs : List Signature) (here : List Kind) → functionRow (headerIn s) s ≡ done gs → each (nodeIn s) count first ≡ done here
+          → check one prefixForm first tt ≡ verdict (exactlyOne first (exprsOf (arityOf gs) here))
+      one-said gs here eg e =
+          let long : first + count - first ≡ count = omega arith in
+          told .is (arityOf gs) here (arities s gs eg) (rw long e)
 
-    pub bodies-more : count < 65536 → not one ≡ false → Bodied (first + count) (j + 1)
-    bodies-more small u = record {
-      near = omega (arith, b .near);
-      rest = λ gs ks eg ek.
-          let t = turn gs ks first j count more is (b .rest gs ks eg ek) in
-          t .passed (sym (test-holds one prefixForm first _ (one-said gs (t .here) eg (t .here-read)) (not-false one u)));
-    }
+      pub bodies-more : count < 65536 → not one ≡ false → Bodied (first + count) (j + 1)
+      bodies-more small u = record {
+        near = omega (arith, b .near);
+        rest = λ gs ks eg ek.
+            let t = turn gs ks first j count more is (b .rest gs ks eg ek) in
+            t .passed (sym (test-holds one prefixForm first _ (one-said gs (t .here) eg (t .here-read)) (not-false one u)));
+      }
 
-    pub bodies-refused : not one ≡ true → PrefixSays s (refusal prefixForm first)
-    bodies-refused u = record {
-      is = λ gs ks eg ek.
-          let t = turn gs ks first j count more is (b .rest gs ks eg ek) in
-          sym (t .refused prefixForm first (sym (test-fails one prefixForm first _ (one-said gs (t .here) eg (t .here-read)) (not-true one u))));
-    }
+      pub bodies-refused : not one ≡ true → PrefixSays s (refusal prefixForm first)
+      bodies-refused u = record {
+        is = λ gs ks eg ek.
+            let t = turn gs ks first j count more is (b .rest gs ks eg ek) in
+            sym (t .refused prefixForm first (sym (test-fails one prefixForm first _ (one-said gs (t .here) eg (t .here-read)) (not-true one u))));
+      }
 
   pub bodies-all : (first j : ℕ) → functions ≤ j → Bodied first j → PrefixSays s (done tt)
   unfolding bodies

@@ -4,15 +4,17 @@ use mathlib.Core.Bool.{Bool, true, false, _&&_}
 use mathlib.Core.List.{List, [], _∷_}
 use mathlib.Core.Option.{Option, none, some}
 use mathlib.Core.Path.{_≡_, refl, sym, ap, ap₂, _∙_}
+use native.Mathlib.Nat.{sub-self}
+use native.Mathlib.Numerals.{add-one}
 use native.Mathlib.Omega.{arith}
 use borrow.Author.Tests.{ltb-true, eqb-true, eqb-false}
 use lib.Dec.{eqb}
 use lib.ListN.{take, drop, take-append-drop}
 use Rattle.formats.specs.Refusals.{nodeField, prefixForm}
-use Rattle.formats.specs.Results.{done, refusal, check, verdict, each}
+use Rattle.formats.specs.Results.{Result, done, refusal, check, verdict, each}
 use Rattle.formats.specs.Records.{Kind, Const, Var, Add, IfZero, Let, Leaf, Node, Case, Call, kindOf, recordAt, fieldsOf, same, below, nodeRecord, partsOf, partCount}
 use Rattle.formats.specs.Rows.{headerIn, nodeAt, nodeIn, exprsOf, exactlyOne}
-use Rattle.formats.proofs.Results.{done-not, each-inv, each-none, check-inv, both-held, check-inv, both-held, each-behind}
+use Rattle.formats.proofs.Results.{done-not, each-inv, each-none, check-inv, both-held, each-behind}
 use Rattle.formats.proofs.Prefix.{Height, height-short, height-step, none-stays, one-of, not-one-of, none-of}
 use Rattle.program.specs.Fields.{arityIn}
 use Rattle.program.specs.Prefix.{partsIn, Arities, IsOne}
@@ -52,6 +54,25 @@ node-parts : (s : List ℕ) (arity : ℕ → ℕ) (k : ℕ) (kind : Kind) → Ar
 unfolding partsIn
 node-parts s arity k kind a e = (rw (e, partsIn)) ∙ sym (parts-agree s arity kind a (node-below s k kind e))
 
+-- the readings from k up to the end give the last of the values
+each-from : {A : Type 0} (f : ℕ → Result A) (first k end : ℕ) (xs : List A) → each f (end - first) first ≡ done xs → first ≤ k → k ≤ end
+    → each f (end - k) k ≡ done (drop (k - first) xs)
+each-from f first k end xs e h g =
+    let place : first + (k - first) ≡ k = omega arith in
+    let left : (end - first) - (k - first) ≡ end - k = omega arith in
+    ap₂ (each f) (sym left) (sym place) ∙ each-behind f (end - first) (k - first) first xs e (omega arith)
+
+-- a record in front of those that stand: there are enough for its parts, or too few
+more-stand : (arity : ℕ → ℕ) (kind : Kind) (ks : List Kind) (standing parts : ℕ) → Height arity ks standing → parts ≡ partCount arity (partsOf kind)
+    → parts ≤ standing → Height arity (kind ∷ ks) (standing - parts + 1)
+more-stand arity kind ks standing parts h is enough =
+    let t = height-step arity kind ks (h .exprs) (h .found) (rw (← is, h .height) enough) in
+    record { exprs = t .exprs; found = t .found; height = t .height ∙ rw (← is, h .height) (sym (add-one _)) }
+
+none-stand : (arity : ℕ → ℕ) (kind : Kind) (ks : List Kind) (standing parts : ℕ) → Height arity ks standing → parts ≡ partCount arity (partsOf kind)
+    → standing < parts → exprsOf arity (kind ∷ ks) ≡ none
+none-stand arity kind ks standing parts h is few = height-short arity kind ks (h .exprs) (h .found) (rw (← is, h .height) few)
+
 -- ---- `one_expression`
 
 module _ (s : List ℕ) (first end : ℕ) where
@@ -67,8 +88,7 @@ module _ (s : List ℕ) (first end : ℕ) where
     begun = h;
     within = omega arith;
     stands = λ arity ks a e.
-        let none-left : end - end ≡ 0 = omega arith in
-        let nothing : ks ≡ [] = each-none (nodeIn s) end ks (rw none-left at e) in
+        let nothing : ks ≡ [] = each-none (nodeIn s) end ks (rw sub-self at e) in
         record { exprs = []; found = ap (exprsOf arity) nothing; height = refl };
   }
 
@@ -81,7 +101,7 @@ module _ (s : List ℕ) (first end : ℕ) where
     read : each (nodeIn s) (end - k) k ≡ done behind
 
   front : (k : ℕ) (arity : ℕ → ℕ) (ks : List Kind) → first < k → k ≤ end → Arities s arity → each (nodeIn s) (end - (k - 1)) (k - 1) ≡ done ks → Front k arity ks
-  front k arity ks more within a e =
+  front k arity ks more upto a e =
       let one-more : end - (k - 1) ≡ suc (end - k) = omega arith in
       let next : suc (k - 1) ≡ k = omega arith in
       let i = each-inv (nodeIn s) (end - k) (k - 1) ks (rw one-more at e) in
@@ -93,45 +113,37 @@ module _ (s : List ℕ) (first end : ℕ) where
         read = ap (each (nodeIn s) (end - k)) (sym next) ∙ i .later;
       }
 
+  upto : (k standing : ℕ) → Standing k standing → k ≤ end
+  upto k standing w = omega (arith, w .within)
+
   module _ (k standing parts : ℕ) (more : first < k) (w : Standing k standing) (is : parts ≡ partsIn s (k - 1)) where
     pub walk-more : parts ≤ standing → Standing (k - 1) (standing - parts + 1)
     walk-more enough = record {
       begun = omega arith;
       within = omega (arith, w .within);
       stands = λ arity ks a e.
-          let f = front k arity ks more (omega (arith, w .within)) a e in
-          let h = w .stands arity (f .behind) a (f .read) in
-          let taken : partCount arity (partsOf (f .kind)) ≡ parts = sym (is ∙ f .parts) in
-          let t = height-step arity (f .kind) (f .behind) (h .exprs) (h .found) (omega (arith, h .height)) in
-          record { exprs = t .exprs; found = ap (exprsOf arity) (f .both) ∙ t .found; height = t .height ∙ omega (arith, h .height) };
+          let f = front k arity ks more (upto k standing w) a e in
+          rw (f .both) (more-stand arity (f .kind) (f .behind) standing parts (w .stands arity (f .behind) a (f .read)) (is ∙ f .parts) enough);
     }
 
     pub walk-short : standing < parts → IsOne s first end false
-    walk-short few = record {
-      is = λ arity ks a e.
-          let m = (k - 1) - first in
-          let rest = drop m ks in
-          let from : first + m ≡ k - 1 = omega arith in
-          let left : (end - first) - m ≡ end - (k - 1) = omega (arith, w .within) in
-          let behind : each (nodeIn s) (end - (k - 1)) (k - 1) ≡ done rest =
-          ap₂ (each (nodeIn s)) (sym left) (sym from) ∙ each-behind (nodeIn s) (end - first) m first ks e (omega (arith, w .within)) in
-          let f = front k arity rest more (omega (arith, w .within)) a behind in
-          let h = w .stands arity (f .behind) a (f .read) in
-          let taken : partCount arity (partsOf (f .kind)) ≡ parts = sym (is ∙ f .parts) in
-          let short : exprsOf arity rest ≡ none =
-          ap (exprsOf arity) (f .both) ∙ height-short arity (f .kind) (f .behind) (h .exprs) (h .found) (omega (arith, h .height)) in
-          let all : exprsOf arity ks ≡ none =
-          ap (exprsOf arity) (sym (take-append-drop m ks)) ∙ none-stays arity (take m ks) rest short in
-          sym (none-of arity ks first all);
-    }
+    walk-short few =
+        let from : first ≤ k - 1 = omega arith in
+        let until : k - 1 ≤ end = omega (arith, w .within) in
+        record {
+          is = λ arity ks a e.
+              let m = k - 1 - first in
+              let f = front k arity (drop m ks) more (upto k standing w) a (each-from (nodeIn s) first (k - 1) end ks e from until) in
+              let none-left = none-stand arity (f .kind) (f .behind) standing parts (w .stands arity (f .behind) a (f .read)) (is ∙ f .parts) few in
+              let all : exprsOf arity ks ≡ none =
+              ap (exprsOf arity) (sym (take-append-drop m ks)) ∙ none-stays arity (take m ks) (drop m ks) (ap (exprsOf arity) (f .both) ∙ none-left) in
+              sym (none-of arity ks first all);
+        }
 
   pub walk-all : (k standing : ℕ) → k ≤ first → Standing k standing → IsOne s first end (eqb standing 1)
-  walk-all k standing over w = record {
-    is = λ arity ks a e.
-        let whole : k ≡ first = omega (arith, w .begun) in
-        let h = w .stands arity ks a (rw whole e) in
-        decides arity ks h (eqb standing 1) refl;
-  }
+  walk-all k standing over w =
+      let whole : k ≡ first = omega (arith, w .begun) in
+      record { is = λ arity ks a e. decides arity ks (w .stands arity ks a (rw whole e)) (eqb standing 1) refl }
     where
       decides : (arity : ℕ → ℕ) (ks : List Kind) → Height arity ks standing → (b : Bool) → eqb standing 1 ≡ b
           → check b prefixForm first tt ≡ verdict (exactlyOne first (exprsOf arity ks))

@@ -17,7 +17,7 @@ use Rattle.formats.specs.Results.{andThen, check, done, refusal, verdict, each}
 use Rattle.formats.specs.Records.{fields, recordAt, recordBytes, nth}
 use Rattle.formats.specs.Programs.{Sort, Signature, numberValued, treeValued, total, mostParameters}
 use Rattle.formats.specs.Rows.{headerIn, sorts, functionFrom, functionAt, functionRow}
-use Rattle.formats.proofs.Results.{done-not, then-done, then-refused, then-inv, each-inv, each-none, check-inv, check-inv, check-said, test-holds, test-fails, passed-is, refused-is, Passing, pass-more, pass-refused, pass-all}
+use Rattle.formats.proofs.Results.{done-not, then-done, then-refused, then-inv, each-inv, each-none, check-inv, check-said, test-holds, test-fails, passed-is, refused-is, Passing, pass-more, pass-refused, pass-all}
 use Rattle.refusal.specs.Number.{number}
 use Rattle.refusal.specs.Said.{said}
 use Rattle.refusal.specs.declared.Verdict.{Verdict}

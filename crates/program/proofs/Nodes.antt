@@ -10,56 +10,23 @@ use Rattle.formats.specs.Records.{recordAt, recordBytes, partCount}
 use Rattle.formats.specs.Rows.{headerIn, nodeIn, nodeRow}
 use Rattle.formats.proofs.Results.{byResult, done-injective, done-not, Passing, pass-more, pass-refused, pass-all}
 use Rattle.refusal.specs.Number.{number}
-use Rattle.refusal.specs.Said.{said}
 use Rattle.refusal.specs.declared.Refusal.{Refusal}
-use Rattle.refusal.specs.declared.Verdict.{Verdict}
-use Rattle.refusal.specs.declared.Verdict.the-variants.{Passed, Refused}
 use Rattle.records.specs.Read.{Shape, described, listed, shapeOf}
 use Rattle.records.specs.declared.Part.{Part}
 use Rattle.records.specs.declared.Parts.{Parts}
 use Rattle.records.specs.declared.Parts.the-variants.{None, One, Two, Three, Arguments}
 use Rattle.records.specs.declared.Record.{Record}
 use Rattle.records.specs.declared.RecordRead.{RecordRead}
-use Rattle.records.specs.declared.RecordRead.the-variants.{Read}
-use Rattle.records.specs.declared.RecordRead.the-variants.{Refused as NotRead}
+use Rattle.records.specs.declared.RecordRead.the-variants.{Read, Refused}
 use Rattle.program.specs.Fields.{arityIn}
 use Rattle.program.specs.Prefix.{partsIn}
+
+-- ---- `node_row`
 
 -- what is said of a changed value is said of the value
 value-said : {A B : Type 0} (f : A → B) (r : Result A) → verdict (onValue f r) ≡ verdict r
 value-said f (done x) = refl
 value-said f (refusal number place) = refl
-
-module _ (s : List ℕ) (k : ℕ) (found : RecordRead) (told : described found ≡ onValue shapeOf (nodeIn s k)) where
-  -- ---- `node_verdict`
-
-  pub node-passed : (node : Record) (parts : Parts) → found ≡ Read node parts → done tt ≡ verdict (nodeIn s k)
-  node-passed node parts case = ap (λ f. verdict (described f)) (sym case) ∙ ap verdict told ∙ value-said shapeOf (nodeIn s k)
-
-  pub node-refused : (why : Refusal) (place : ℕ) → found ≡ NotRead why place → refusal (number why) place ≡ verdict (nodeIn s k)
-  node-refused why place case = ap (λ f. verdict (described f)) (sym case) ∙ ap verdict told ∙ value-said shapeOf (nodeIn s k)
-
-  -- ---- `parts_at`
-
-  pub parts-read : (node : Record) (parts : Parts) (n : ℕ) → found ≡ Read node parts → n ≡ partCount (arityIn s) (listed parts) → n ≡ partsIn s k
-  unfolding partsIn
-  parts-read node parts n case e = byResult (nodeIn s k)
-      (λ kind h.
-      let same = done-injective (ap described (sym case) ∙ told ∙ ap (onValue shapeOf) h) in
-      e ∙ ap (λ (shape : Shape). partCount (arityIn s) (shape .parts)) same ∙ sym (rw (h, partsIn)))
-      (λ m q h. done-not (sym told ∙ ap described case) (ap (onValue shapeOf) h))
-
-  pub parts-refused : (why : Refusal) (place : ℕ) → found ≡ NotRead why place → 0 ≡ partsIn s k
-  unfolding partsIn
-  parts-refused why place case = byResult (nodeIn s k)
-      (λ kind h. done-not (ap (onValue shapeOf) h) (sym told ∙ ap described case))
-      (λ m q h. sym (rw (h, partsIn)))
-
-pub ruleset node-said = (node-passed, node-refused)
-
-pub ruleset parts-found = (parts-read, parts-refused)
-
--- ---- `node_row`
 
 module _ (s : List ℕ) where
   pub nodes-first :
@@ -73,12 +40,18 @@ module _ (s : List ℕ) where
       let place : suc (getD s 1 0) ≡ 1 + functions = omega arith in
       record { left = ap₂ (λ n k. verdict (each (nodeIn s) n k)) count place }
 
-  module _ (all : Result (Unit {0})) (end k : ℕ) (more : k < end) (p : Passing (nodeIn s) all end k) (node : Verdict) (told : said node ≡ verdict (nodeIn s k)) where
-    pub nodes-more : node ≡ Passed → Passing (nodeIn s) all end (k + 1)
-    nodes-more case = pass-more _ all end k more p (sym told ∙ ap said case)
+  module _ (all : Result (Unit {0})) (end k : ℕ) (more : k < end) (p : Passing (nodeIn s) all end k)
+      (found : RecordRead) (told : described found ≡ onValue shapeOf (nodeIn s k))
+    where
+      -- what the record read says of the node
+      node-said : verdict (nodeIn s k) ≡ verdict (described found)
+      node-said = sym (ap verdict told ∙ value-said shapeOf (nodeIn s k))
 
-    pub nodes-refused : (why : Refusal) (place : ℕ) → node ≡ Refused why place → refusal (number why) place ≡ all
-    nodes-refused why place case = pass-refused _ all end k (number why) place more p (sym told ∙ ap said case)
+      pub nodes-more : (node : Record) (parts : Parts) → found ≡ Read node parts → Passing (nodeIn s) all end (k + 1)
+      nodes-more node parts case = pass-more _ all end k more p (node-said ∙ ap (λ f. verdict (described f)) case)
+
+      pub nodes-refused : (why : Refusal) (place : ℕ) → found ≡ Refused why place → refusal (number why) place ≡ all
+      nodes-refused why place case = pass-refused _ all end k (number why) place more p (node-said ∙ ap (λ f. verdict (described f)) case)
 
 pub ruleset nodes-checked = (nodes-first, nodes-more, nodes-refused, pass-all)
 
@@ -108,3 +81,22 @@ module _ (s : List ℕ) (parts : Parts) where
       e ∙ ap (λ p. getD s (p + 1) 0) place ∙ sym (ap (λ ps. partCount (arityIn s) (listed ps)) case)
 
 pub ruleset parts-counted = (count-none, count-one, count-two, count-three, count-arguments)
+
+-- ---- `parts_at`
+
+module _ (s : List ℕ) (k : ℕ) (found : RecordRead) (told : described found ≡ onValue shapeOf (nodeIn s k)) where
+  pub parts-read : (node : Record) (parts : Parts) (n : ℕ) → found ≡ Read node parts → n ≡ partCount (arityIn s) (listed parts) → n ≡ partsIn s k
+  unfolding partsIn
+  parts-read node parts n case e = byResult (nodeIn s k)
+      (λ kind h.
+      let same = done-injective (ap described (sym case) ∙ told ∙ ap (onValue shapeOf) h) in
+      e ∙ ap (λ (shape : Shape). partCount (arityIn s) (shape .parts)) same ∙ sym (rw (h, partsIn)))
+      (λ m q h. done-not (sym told ∙ ap described case) (ap (onValue shapeOf) h))
+
+  pub parts-refused : (why : Refusal) (place : ℕ) → found ≡ Refused why place → 0 ≡ partsIn s k
+  unfolding partsIn
+  parts-refused why place case = byResult (nodeIn s k)
+      (λ kind h. done-not (ap (onValue shapeOf) h) (sym told ∙ ap described case))
+      (λ m q h. sym (rw (h, partsIn)))
+
+pub ruleset parts-found = (parts-read, parts-refused)

@@ -10,7 +10,7 @@ use Rattle.formats.specs.Results.{Result, done, refusal, andThen, verdict}
 use Rattle.formats.specs.Records.{Record, fields, recordAt, Kind}
 use Rattle.formats.specs.Programs.{Header, Signature, Function, Program, firstEdition}
 use Rattle.formats.specs.Rows.{headerFrom, headerRow, headerIn, functionRow, nodeRow, prefixRow, readProgram}
-use Rattle.formats.proofs.Results.{then-done, then-refused, check-inv, check-inv, Value, passed-is, refused-is}
+use Rattle.formats.proofs.Results.{then-done, then-refused, check-inv, Value, passed-is, refused-is}
 use Rattle.refusal.specs.Number.{number}
 use Rattle.refusal.specs.Said.{said}
 use Rattle.refusal.specs.declared.Refusal.{Refusal}
@@ -36,8 +36,9 @@ withFunctions h s gs = andThen (nodeRow h s) (withNodes h gs)
 abbrev withHeader : List ℕ → Header → Result Program
 withHeader s h = andThen (functionRow h s) (withFunctions h s)
 
--- the program is said what its functions are
-functions-said : (h : Header) (fs : Result (List Function)) → verdict {A = Program} (andThen fs (λ l. done (record { edition = h .edition; functions = l }))) ≡ verdict fs
+-- what is said of the functions is said of the program
+functions-said : (h : Header) (fs : Result (List Function))
+    → verdict {A = Program} (andThen fs (λ l. done (record { edition = h .edition; functions = l }))) ≡ verdict fs
 functions-said h (done l) = refl
 functions-said h (refusal number place) = refl
 

@@ -9,7 +9,7 @@ ghost use Rattle.formats.specs.Programs.{mostParameters};
 ghost use Rattle.formats.specs.Records.{fields, partCount};
 ghost use Rattle.formats.specs.Refusals.{headerField, functionField};
 ghost use Rattle.formats.specs.Results.{check, each, verdict};
-ghost use Rattle.formats.specs.Rows.{headerFrom, headerIn, headerRow, functionRow, nodeIn, nodeRow, readProgram};
+ghost use Rattle.formats.specs.Rows.{headerFrom, headerIn, headerRow, functionRow, nodeRow, readProgram};
 ghost use Rattle.refusal.specs.Said.{said};
 ghost use Rattle.program.specs.Fields.{functionIn, arityIn, countIn, countsFrom};
 ghost use Rattle.program.specs.Prefix.{partsIn, IsOne, PrefixSays};
@@ -151,17 +151,6 @@ fn function_row(flat: &[u8]) -> Verdict
     }
 }
 
-// What reading a node record says.
-fn node_verdict(flat: &[u8], k: usize) -> Verdict
-    ensures { λ r. ⌜ said r ≡ verdict (nodeIn (now (flat .entry)) k) ⌝ }
-{
-    let found = records::record_at(flat, k);
-    match found {
-        RecordRead::Read(node, parts) => Verdict::Passed,
-        RecordRead::Refused(why, place) => Verdict::Refused(why, place),
-    }
-}
-
 // The row "nodes".
 fn node_row(flat: &[u8]) -> Verdict
     ensures { λ r. ⌜ said r ≡ verdict (nodeRow (headerIn (now (flat .entry))) (now (flat .entry))) ⌝ }
@@ -171,13 +160,13 @@ fn node_row(flat: &[u8]) -> Verdict
     let end = 1 + functions + nodes;
     let mut k = 1 + functions;
     while k < end {
-        let node = node_verdict(flat, k);
-        match node {
-            Verdict::Refused(why, place) => {
-                return Verdict::Refused(why, place);
-            }
-            Verdict::Passed => {
+        let found = records::record_at(flat, k);
+        match found {
+            RecordRead::Read(node, parts) => {
                 k = k + 1;
+            }
+            RecordRead::Refused(why, place) => {
+                return Verdict::Refused(why, place);
             }
         }
     }

@@ -38,17 +38,11 @@ add-k c = search needs
 loop-holds : tie.Need-loop-holds Inv-loop μ-loop
 loop-holds c = search nodes-checked
 
-node-verdict-requires : tie.Need-node-verdict-requires Inv-loop μ-loop
-node-verdict-requires c κs = search needs
+record-at-requires : tie.Need-record-at-requires Inv-loop μ-loop
+record-at-requires c κs = search needs
 
-enum-known-node : tie.Need-enum-known-node Inv-loop μ-loop
-enum-known-node c = search needs
-
-returns : tie.Need-returns Inv-loop μ-loop
-returns c = search nodes-checked
-
-enum-told : tie.Need-enum-told Inv-loop μ-loop
-enum-told c = search needs
+enum-known-found : tie.Need-enum-known-found Inv-loop μ-loop
+enum-known-found c = search needs
 
 add-k-2 : tie.Need-add-k-2 Inv-loop μ-loop
 add-k-2 c = search needs
@@ -58,6 +52,12 @@ loop-less c = search needs
 
 loop-again : tie.Need-loop-again Inv-loop μ-loop
 loop-again c = search nodes-checked
+
+enum-known-found-2 : tie.Need-enum-known-found-2 Inv-loop μ-loop
+enum-known-found-2 c = search needs
+
+returns : tie.Need-returns Inv-loop μ-loop
+returns c = search nodes-checked
 
 returns-2 : tie.Need-returns-2 Inv-loop μ-loop
 returns-2 c = search nodes-checked
@@ -76,11 +76,11 @@ node-row-spec =
     add-end-2
     add-k
     loop-holds
-    node-verdict-requires
-    enum-known-node
-    returns
-    enum-told
+    record-at-requires
+    enum-known-found
     add-k-2
     loop-less
     loop-again
+    enum-known-found-2
+    returns
     returns-2)

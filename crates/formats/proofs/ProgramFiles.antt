@@ -14,7 +14,7 @@ use Rattle.formats.specs.Blocks.{blockRecords, mostBlocks, blocksFor, fi
 use Rattle.formats.specs.ProgramFiles.{Flattened, OneFile, Measured, ProgramFiles}
 use Rattle.formats.proofs.Results.{then-inv, then-done, value-inv}
 use Rattle.formats.proofs.Programs.{parts-stand}
-use Rattle.formats.proofs.Rows.{parses, flattens, nodes-stand, flat-lawful-bytes, lawful-length, some-node}
+use Rattle.formats.proofs.Rows.{parses, flattens, nodes-stand, sums-fit, flat-lawful-bytes, lawful-length, some-node}
 use Rattle.formats.proofs.Files.{blocks-some, blocks-few, fewest, length-file, file-bytes, blocks-again, blocks-back, flat-in-bytes}
 
 -- what a file holds that is read as flat records
@@ -128,5 +128,6 @@ program-files = record {
   flattens = flattens;
   nodes-stand = nodes-stand;
   parts-stand = parts-stand;
+  sums-fit = sums-fit;
   measured = measured;
 }

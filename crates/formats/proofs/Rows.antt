@@ -1,6 +1,6 @@
 -- Laws of the rows over flat records: programs and the flat records that pass the rows determine one another. For each row, `..Read` says what is
 -- known where it is done: the records that stand are the value's own, and the value is within the limits.
-use Prim.Native.Nat.{ℕ, zero, suc, _+_, _*_, _≤_}
+use Prim.Native.Nat.{ℕ, zero, suc, _+_, _*_, _≤_, _<_, _^_}
 use mathlib.Core.Bool.{_&&_}
 use mathlib.Core.List.{List, [], _∷_, _++_, map, append-nil}
 use mathlib.Core.Option.{Option, none, some}
@@ -143,10 +143,10 @@ header-done bytes r h k =
 -- ---- the functions
 
 -- what is known of a function record that was read
-record FunctionRead (j : ℕ) (r : Record) (g : Signature) : Type 0 where
-  own : signatureRecord g ≡ r
-  few-parameters : g .parameters ≤ mostParameters j
-  some-node : 1 ≤ g .count
+pub record FunctionRead (j : ℕ) (r : Record) (g : Signature) : Type 0 where
+  pub own : signatureRecord g ≡ r
+  pub few-parameters : g .parameters ≤ mostParameters j
+  pub some-node : 1 ≤ g .count
 
 -- a function record with that sort, where the other fields are right
 sorted-inv : (j a n i : ℕ) (sort : Sort) (g : Signature)
@@ -165,11 +165,26 @@ sorted-inv j a n i sort g e =
     })
 
 -- a function record that was read is known ..
-function-inv : (edition j : ℕ) (r : Record) (g : Signature) → functionFrom edition j r ≡ done g → FunctionRead j r g
+pub function-inv : (edition j : ℕ) (r : Record) (g : Signature) → functionFrom edition j r ≡ done g → FunctionRead j r g
 unfolding functionFrom sorts nth sortNumber
 function-inv edition j (fields zero a n i) g e = sorted-inv j a n i numberValued g e
 function-inv edition j (fields (suc zero) a n i) g e = sorted-inv j a n i treeValued g e
 function-inv edition j (fields (suc (suc x)) a n i) g e = done-not e refl
+
+-- a count fits its field, so that a sum of counts never wraps
+counts-fit : (edition : ℕ) (s : List ℕ) (n j : ℕ) (gs : List Signature) → Bytes s → each (functionAt edition s) n j ≡ done gs → total gs ≤ 65535 * n
+unfolding total functionAt signatureRecord
+counts-fit edition s zero j gs bs e = rw (each-none (functionAt edition s) j gs e) (omega arith)
+counts-fit edition s (suc n) j gs bs e =
+    let i = each-inv (functionAt edition s) n j gs e in
+    let known = function-inv edition j (recordAt s (suc j)) (i .head) (i .here) in
+    let fits : Ranged (signatureRecord (i .head)) = subst Ranged (sym (known .own)) (ranged-at s (suc j) bs) in
+    let first : i .head .count < 2 ^ 16 = fits .2 in
+    let others : total (i .tail) ≤ 65535 * n = counts-fit edition s n (suc j) (i .tail) bs (i .later) in
+    rw (i .both) (omega arith)
+
+pub sums-fit : (edition : ℕ) (s : List ℕ) (n : ℕ) (gs : List Signature) → Bytes s → each (functionAt edition s) n 0 ≡ done gs → total gs ≤ 65535 * n
+sums-fit edition s n gs bs e = counts-fit edition s n 0 gs bs e
 
 -- the number of a sort tells the sort
 sort-of-own : (edition : ℕ) (sort : Sort) → nth (sorts edition) (sortNumber sort) ≡ some sort
@@ -319,12 +334,12 @@ record RowsRead (s : List ℕ) (program : Program) : Type 0 where
   applied : Every (AppliedBody (arityOf (signatures program))) (program .functions)
 
 -- what is known where the function row is done
-record Summed (h : Header) (s : List ℕ) (gs : List Signature) : Type 0 where
-  each-read : each (functionAt (h .edition) s) (h .functions) 0 ≡ done gs
-  sum : total gs ≡ h .nodes
+pub record Summed (h : Header) (s : List ℕ) (gs : List Signature) : Type 0 where
+  pub each-read : each (functionAt (h .edition) s) (h .functions) 0 ≡ done gs
+  pub sum : total gs ≡ h .nodes
 
 -- its readings are done, and the counts have the sum that the header says
-summed-inv : (h : Header) (s : List ℕ) (gs : List Signature) → functionRow h s ≡ done gs → Summed h s gs
+pub summed-inv : (h : Header) (s : List ℕ) (gs : List Signature) → functionRow h s ≡ done gs → Summed h s gs
 unfolding functionRow
 summed-inv h s gs e =
     let t = then-inv (each (functionAt (h .edition) s) (h .functions) 0) _ gs e in

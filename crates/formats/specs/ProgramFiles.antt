@@ -4,10 +4,10 @@ use mathlib.Core.List.{List, [], _∷_}
 use mathlib.Core.Path.{_≡_}
 use lib.ListN.{length}
 use Rattle.formats.specs.Numbers.{Bytes}
-use Rattle.formats.specs.Results.{done}
+use Rattle.formats.specs.Results.{done, each}
 use Rattle.formats.specs.Records.{recordBytes, recordAt, Kind, fieldsOf}
-use Rattle.formats.specs.Programs.{Expr, prefix, Placed, partsAt, Every, Program, total, signatures, nodes, flatOf, Lawful, mostFunctions, mostNodes}
-use Rattle.formats.specs.Rows.{readProgram}
+use Rattle.formats.specs.Programs.{Expr, prefix, Placed, partsAt, Every, Program, Signature, total, signatures, nodes, flatOf, Lawful, mostFunctions, mostNodes}
+use Rattle.formats.specs.Rows.{functionAt, readProgram}
 use Rattle.formats.specs.Blocks.{blockBytes, blockRecords, mostBlocks, programIn, readFile, writeFile}
 
 -- Flat records r are the program's own, and it is within the limits.
@@ -69,5 +69,7 @@ pub record ProgramFiles : Type 0 where
   pub nodes-stand : (r : List ℕ) (program : Program) → Bytes r → readProgram r ≡ done program
       → Stands r (suc (length (program .functions))) (nodes (program .functions))
   pub parts-stand : (r : List ℕ) (k : ℕ) (e : Expr) → Stands r k (prefix e) → Every (StandsPlaced r) (partsAt k e)
+  -- The sum of so many node counts, right or wrong, stays below 2^16 times their number: it is exact in 32 bits, and never wraps.
+  pub sums-fit : (edition : ℕ) (s : List ℕ) (n : ℕ) (gs : List Signature) → Bytes s → each (functionAt edition s) n 0 ≡ done gs → total gs ≤ 65535 * n
   -- The limits, and the fewest blocks that hold the records.
   pub measured : (r s : List ℕ) (program : Program) → Bytes r → readProgram r ≡ done program → writeFile r ≡ done s → Measured s r program

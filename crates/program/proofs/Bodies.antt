@@ -14,15 +14,16 @@ use Rattle.formats.specs.Records.{Kind, recordAt}
 use Rattle.formats.specs.Programs.{Expr, Signature, arityOf, total, Function}
 use Rattle.formats.specs.Rows.{headerIn, functionRow, nodeIn, nodeRow, exprsOf, exactlyOne, bodies, prefixRow}
 use Rattle.formats.proofs.Results.{then-done, then-refused, each-inv, each-none, each-nth, each-front, test-holds, test-fails, passed-is, refused-is, each-behind}
+use Rattle.formats.proofs.Rows.{summed-inv}
 use Rattle.program.specs.Fields.{functionIn, countIn}
 use Rattle.program.specs.Prefix.{Arities, IsOne, PrefixSays}
-use Rattle.program.proofs.Functions.{function-read, row-inv}
+use Rattle.program.proofs.Functions.{function-read, row-read}
 
 -- each function has as many number parameters as its record says
 arities : (s : List ℕ) (gs : List Signature) → functionRow (headerIn s) s ≡ done gs → Arities s (arityOf gs)
 unfolding arityOf
 arities s gs e b h =
-    let f = each-nth (functionIn s) (headerIn s .functions) 0 b gs (row-inv s gs e .each-read) h in
+    let f = each-nth (functionIn s) (headerIn s .functions) 0 b gs (row-read s gs e) h in
     let g = function-read s b (f .value) (rw zero-add at (f .given)) in
     (rw (f .there, arityOf)) ∙ g .arity
 
@@ -67,12 +68,12 @@ module _ (s : List ℕ) (functions : ℕ) where
   bodies-none ef = record {
     near = omega arith;
     rest = λ gs ks eg ek.
-        let g = row-inv s gs eg in
+        let g = summed-inv (headerIn s) s gs eg in
         let place : suc (headerIn s .functions) ≡ 1 + functions = omega arith in
         record {
           signed = gs;
           kinds = ks;
-          signed-read = rw (ef, sub-zero) (g .each-read);
+          signed-read = rw (ef, sub-zero) (row-read s gs eg);
           kinds-read = rw (g .sum, ← place) ek;
           left = ap (λ r. verdict (bodies (arityOf gs) gs ks r)) place;
         };

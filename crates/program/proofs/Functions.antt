@@ -3,21 +3,22 @@ use Prim.Native.Nat.{ℕ, zero, suc, _+_, _-_, _*_, _≤_, _<_}
 use mathlib.Core.Bool.{Bool, true, false, not, _&&_, and-false}
 use mathlib.Core.List.{List}
 use mathlib.Core.Logic.{_≢_}
-use mathlib.Core.Option.{Option, none, some}
+use mathlib.Core.Option.{none}
 use mathlib.Core.Path.{_≡_, refl, sym, ap, ap₂, _∙_}
 use native.Mathlib.Nat.{add-assoc, add-zero, zero-add, sub-zero}
 use native.Mathlib.Numerals.{add-one}
 use native.Mathlib.Omega.{arith}
-use borrow.Author.Tests.{not-true, not-false, eqb-true, le-leb, lt-leb, eq-eqb, ne-eqb}
+use borrow.Author.Tests.{not-true, not-false, le-leb, lt-leb, eq-eqb, ne-eqb}
 use lib.Dec.{leb, eqb}
 use lib.ListN.{getD}
 use Rattle.formats.specs.Numbers.{numberAt}
 use Rattle.formats.specs.Refusals.{functionField}
 use Rattle.formats.specs.Results.{andThen, check, done, refusal, verdict, each}
-use Rattle.formats.specs.Records.{fields, recordAt, recordBytes, nth}
-use Rattle.formats.specs.Programs.{Sort, Signature, numberValued, treeValued, total, mostParameters}
+use Rattle.formats.specs.Records.{fields, recordAt, recordBytes, nth, Record}
+use Rattle.formats.specs.Programs.{Signature, numberValued, treeValued, total, mostParameters, signatureRecord}
 use Rattle.formats.specs.Rows.{headerIn, sorts, functionFrom, functionAt, functionRow}
-use Rattle.formats.proofs.Results.{done-not, then-done, then-refused, then-inv, each-inv, each-none, check-inv, check-said, test-holds, test-fails, passed-is, refused-is, Passing, pass-more, pass-refused, pass-all}
+use Rattle.formats.proofs.Results.{then-done, then-refused, each-inv, each-none, check-said, test-holds, test-fails, passed-is, refused-is, Passing, pass-more, pass-refused, pass-all}
+use Rattle.formats.proofs.Rows.{function-inv, summed-inv}
 use Rattle.refusal.specs.Number.{number}
 use Rattle.refusal.specs.Said.{said}
 use Rattle.refusal.specs.declared.Verdict.{Verdict}
@@ -180,30 +181,15 @@ pub ruleset fields-checked = (fields-none, fields-more, fields-refused, pass-all
 -- ---- `function_row`
 
 -- a function that is read has the fields of its record
-pub record FunctionRead (s : List ℕ) (j : ℕ) (g : Signature) : Type 0 where
+pub record FieldsRead (s : List ℕ) (j : ℕ) (g : Signature) : Type 0 where
   pub arity : g .parameters ≡ arityIn s j
   pub count : g .count ≡ countIn s j
 
-pub function-read : (s : List ℕ) (j : ℕ) (g : Signature) → functionIn s j ≡ done g → FunctionRead s j g
-unfolding functionIn functionAt functionFrom arityIn countIn recordAt
-function-read s j g e = by-sort (nth (sorts (headerIn s .edition)) (getD s (recordBytes * suc j) 0)) e
-  where
-    a : ℕ
-    a = getD s (recordBytes * suc j + 1) 0
-
-    n : ℕ
-    n = numberAt 2 s (recordBytes * suc j + 2)
-
-    test : Bool
-    test = leb a (mostParameters j) && (leb 1 n && eqb (numberAt 4 s (recordBytes * suc j + 4)) 0)
-
-    by-sort : (o : Option Sort)
-        → elim o [ none ↦ refusal functionField (suc j) | some sort ↦ check test functionField (suc j) (record { sort = sort; parameters = a; count = n }) ] ≡ done g
-        → FunctionRead s j g
-    by-sort none e = done-not e refl
-    by-sort (some sort) e =
-        let same = check-inv test functionField (suc j) _ g e .same in
-        record { arity = sym (ap (λ (q : Signature). q .parameters) same); count = sym (ap (λ (q : Signature). q .count) same) }
+pub function-read : (s : List ℕ) (j : ℕ) (g : Signature) → functionIn s j ≡ done g → FieldsRead s j g
+unfolding functionIn functionAt signatureRecord arityIn countIn recordAt
+function-read s j g e =
+    let own = function-inv (headerIn s .edition) j (recordAt s (suc j)) g e .own in
+    record { arity = ap (λ (r : Record). elim r [ fields x a n i ↦ a ]) own; count = ap (λ (r : Record). elim r [ fields x a n i ↦ n ]) own }
 
 -- .. so the counts that were read are summed
 total-is : (s : List ℕ) (n j : ℕ) (gs : List Signature) → each (functionIn s) n j ≡ done gs → total gs ≡ countsFrom n s j
@@ -246,17 +232,7 @@ module _ (s : List ℕ) (functions nodes : ℕ) (ef : functions ≡ getD s 1 0) 
 
 pub ruleset function-said = (row-field, row-passed, row-sum)
 
--- what is known where the row is done
-pub record RowRead (s : List ℕ) (gs : List Signature) : Type 0 where
-  pub each-read : each (functionIn s) (headerIn s .functions) 0 ≡ done gs
-  pub sum : total gs ≡ headerIn s .nodes
-
-pub row-inv : (s : List ℕ) (gs : List Signature) → functionRow (headerIn s) s ≡ done gs → RowRead s gs
-unfolding functionRow functionIn
-row-inv s gs e =
-    let t = then-inv (each (functionIn s) (headerIn s .functions) 0) _ gs e in
-    let c = check-inv _ functionField (headerIn s .functions) (t .value) gs (t .second) in
-    record {
-      each-read = t .first ∙ ap done (c .same);
-      sum = ap total (sym (c .same)) ∙ eqb-true (total (t .value)) (headerIn s .nodes) (c .held);
-    }
+-- where the row is done, the fields of each function are
+pub row-read : (s : List ℕ) (gs : List Signature) → functionRow (headerIn s) s ≡ done gs → each (functionIn s) (headerIn s .functions) 0 ≡ done gs
+unfolding functionIn
+row-read s gs e = summed-inv (headerIn s) s gs e .each-read

@@ -30,7 +30,7 @@ fn put_program(flat: &[u8], records: &mut [u8]) -> Filled
 pub fn read_file(file: &[u8], records: &mut [u8]) -> Filled
     ensures { λ r. ⌜ Put (readInto (length (now (records .entry))) (now (file .entry))) (now (records .entry)) (now (records .exit)) r ⌝ }
 {
-    let mut flat = [0u8; 8568];
+    let mut flat = [0u8; MOST_BYTES];
     let taken = blocks::take_out(file, &mut flat);
     match taken {
         Filled::Refused(why, place) => Filled::Refused(why, place),

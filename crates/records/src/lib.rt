@@ -61,7 +61,7 @@ pub enum Parts {
     Arguments(u16),
 }
 
-// A record read: its kind with its operands, and its parts; or why it is refused, and its number.
+// A record read: its kind with its operands, and its parts; or why it is refused, and the number of the record.
 pub enum RecordRead {
     Read(Record, Parts),
     Refused(Refusal, usize),

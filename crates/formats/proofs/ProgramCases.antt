@@ -2,12 +2,13 @@
 use Prim.Native.Nat.{ℕ, _-_}
 use mathlib.Core.List.{List, [], _∷_, _++_, map}
 use mathlib.Core.Path.{_≡_, refl}
+use lib.Dec.{lit<, lit≤}
 use lib.ListN.{length, take, drop, replicate, set}
 use Rattle.formats.specs.Numbers.{bytesOf, numberOf, numberAt}
 use Rattle.formats.specs.Results.{Result, done, refusal, verdict, each}
 use Rattle.formats.specs.Records.{Record, fields, bytesOfRecord, flat, recordAt, Const, Var, Add, IfZero, Let, Leaf, Node, Case, Call, fieldsOf, kinds, nth, kindOf, same, below, nodeRecord}
 use Rattle.formats.specs.Programs.{const, var, add, ifZero, letIn, leafOf, nodeOf, caseOf, call, noArgs, arg, prefix, prefixes, size, behind, partsAt}
-use Rattle.formats.specs.Programs.{treeValued, sortNumber, signatureRecord, arityOf, total, signatureOf, Program, nodes, headerRecord, headerOf, recordsOf, mostParameters}
+use Rattle.formats.specs.Programs.{Lawful, countArgs, treeValued, sortNumber, signatureRecord, arityOf, total, signatureOf, Program, nodes, headerRecord, headerOf, recordsOf, mostParameters}
 use Rattle.formats.specs.Rows.{headerFrom, headerRow, sorts, functionFrom, functionAt, functionRow, nodeAt, nodeRow, popArgs, build, exprsOf, exactlyOne, bodies, prefixRow, readProgram}
 use Rattle.formats.specs.Blocks.{wordSum, checkWord, blockBody, blockOf, blocksFrom, blocksFor, fileOf, lengthRow, zeros, usedFits, fieldsFit, usedOf, blockAt, blockRow, joined, flatIn, programRecords, readFile}
 
@@ -36,6 +37,24 @@ grow-flattens = refl
 grow-parses : readProgram (flat grow-records) ≡ done grow
 unfolding readProgram headerRow headerFrom functionRow functionAt functionFrom sorts mostParameters nodeRow nodeAt nodeRecord kindOf kinds nth same below fieldsOf each prefixRow bodies exactlyOne exprsOf build popArgs arityOf total recordAt flat bytesOfRecord bytesOf numberAt numberOf grow grow-records
 grow-parses = refl
+
+-- it is within the limits, so that what is proved of such programs is not empty
+grow-lawful : Lawful grow
+unfolding grow total signatureOf size prefix prefixes arityOf nth mostParameters countArgs
+grow-lawful = record {
+  edition = refl;
+  some-function = lit≤ tt;
+  few-functions = lit≤ tt;
+  few-nodes = lit≤ tt;
+  functions = (
+    record {
+      few-parameters = lit≤ tt;
+      in-range = (lit< tt, (tt, (tt, (lit< tt, (lit< tt, (tt, ((lit< tt, lit< tt), ((lit< tt, lit< tt), tt))))))));
+      applied = ((tt, tt), ((refl, tt), (refl, tt)));
+    },
+    tt,
+  );
+}
 
 -- the records of its parts: Case at 2, Leaf at 3, Node at 7
 grow-parts : map (partsAt 2) (map (λ f. f .body) (grow .functions))

@@ -16,6 +16,7 @@ use Rattle.formats.specs.Refusals.{nodeField}
 use Rattle.formats.specs.Results.{done, refusal, check}
 use Rattle.formats.specs.Records.{recordBytes, Record, fields, Ranged, bytesOfRecord, flat, recordAt, Kind, Const, Var, Add, IfZero, Let, Leaf, Node, Case, Call, fieldsOf, kinds, nth, kindOf, same, below, nodeRecord}
 use Rattle.formats.specs.Programs.{InRange, Every}
+use Rattle.formats.specs.Rows.{headerIn, nodeAt, nodeIn}
 use Rattle.formats.proofs.Numbers.{length-bytesOf, bytesOf-numberAt, bytes-append, bytes-bytesOf, numberAt-fits, numberAt-behind, numberAt-there}
 use Rattle.formats.proofs.Results.{done-not, check-inv, both-held}
 
@@ -203,3 +204,20 @@ node-inv edition functions k r kind h e = by-kind (kindOf edition r) e
 pub node-done : (edition functions k : ℕ) (kind : Kind) → InRange functions kind → nodeRecord edition functions k (fieldsOf kind) ≡ done kind
 unfolding nodeRecord
 node-done edition functions k kind h = rw (kind-of-own edition kind, nodeRecord, same-self (fieldsOf kind), in-range-below functions kind h)
+
+-- a node that was read calls one of the functions
+pub node-below : (s : List ℕ) (k : ℕ) (kind : Kind) → nodeIn s k ≡ done kind → below (headerIn s .functions) kind ≡ true
+unfolding nodeIn nodeAt nodeRecord
+node-below s k kind e = by-kind (kindOf (headerIn s .edition) (recordAt s k)) e
+  where
+    functions : ℕ
+    functions = headerIn s .functions
+
+    by-kind : (o : Option Kind)
+        → elim o [ none ↦ refusal nodeField k | some found ↦ check (same (fieldsOf found) (recordAt s k) && below functions found) nodeField k found ] ≡ done kind
+        → below functions kind ≡ true
+    by-kind none e = done-not e refl
+    by-kind (some found) e =
+        let c = check-inv _ nodeField k found kind e in
+        let b = both-held (same (fieldsOf found) (recordAt s k)) _ (c .held) in
+        ap (below functions) (sym (c .same)) ∙ b .1

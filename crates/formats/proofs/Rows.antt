@@ -5,7 +5,7 @@ use mathlib.Core.Bool.{_&&_}
 use mathlib.Core.List.{List, [], _∷_, _++_, map, append-nil}
 use mathlib.Core.Option.{Option, none, some}
 use mathlib.Core.Path.{_≡_, refl, sym, ap, ap₂, subst, _∙_}
-use native.Mathlib.Nat.{add-zero, add-suc, suc-add}
+use native.Mathlib.Nat.{zero-add, add-zero, add-suc, suc-add}
 use native.Mathlib.Omega.{arith}
 use borrow.Author.Tests.{eqb-true, eq-eqb, leb-true, le-leb}
 use lib.Dec.{leb, eqb}
@@ -18,9 +18,9 @@ use Rattle.formats.specs.Records.{recordBytes, Record, fields, Ranged, f
 use Rattle.formats.specs.Programs.{Expr, prefix, size, Applied, Sort, numberValued, treeValued, sortNumber, Signature, signatureRecord, arityOf, total}
 use Rattle.formats.specs.Programs.{Function, signatureOf, Program, signatures, nodes, Header, headerRecord, headerOf, recordsOf, flatOf}
 use Rattle.formats.specs.Programs.{firstEdition, mostFunctions, mostNodes, mostParameters, InRange, Every, LawfulFunctions, Lawful}
-use Rattle.formats.specs.Rows.{headerFrom, headerRow, sorts, functionFrom, functionAt, functionRow, nodeAt, nodeRow, exprsOf, exactlyOne, bodies, prefixRow, readProgram}
+use Rattle.formats.specs.Rows.{headerFrom, headerRow, headerIn, sorts, functionFrom, functionAt, functionIn, sortIn, arityIn, countIn, functionRow, nodeAt, nodeRow, exprsOf, exactlyOne, bodies, prefixRow, readProgram}
 use Rattle.formats.specs.ProgramFiles.{Flattened, Stands, nothing, one-more}
-use Rattle.formats.proofs.Results.{done-injective, done-not, then-done, then-inv, each-done, each-inv, each-none, each-length, check-inv, both-held}
+use Rattle.formats.proofs.Results.{done-injective, done-not, then-done, then-inv, each-done, each-inv, each-none, each-nth, each-length, check-inv, both-held}
 use Rattle.formats.proofs.Records.{length-flat, ranged-at, flat-bytes, at-flat, recordsFrom, flat-records, NodeRead, node-inv, node-done}
 use Rattle.formats.proofs.Programs.{some-record, some-nodes, length-nodes, length-records, every-left, every-right, nodes-in-range, records-fit}
 use Rattle.formats.proofs.Prefix.{recordsOfAll, exprs-prefix, exprs-inv}
@@ -345,6 +345,45 @@ summed-inv h s gs e =
     let t = then-inv (each (functionAt (h .edition) s) (h .functions) 0) _ gs e in
     let c = check-inv _ functionField (h .functions) (t .value) gs (t .second) in
     record { each-read = t .first ∙ ap done (c .same); sum = ap total (sym (c .same)) ∙ eqb-true (total (t .value)) (h .nodes) (c .held) }
+
+-- ---- the fields of records that were read
+
+-- a header that was read is the header's own fields
+pub header-own : (s : List ℕ) (h : Header) → headerRow s ≡ done h → headerIn s ≡ h
+unfolding headerRow headerFrom headerIn
+header-own s h e = own (recordAt s 0) e
+  where
+    own : (r : Record) → headerFrom (length s) r ≡ done h → elim r [ fields edition f n i ↦ record { edition = edition; functions = f; nodes = n } ] ≡ h
+    own (fields edition f n i) e = let c = check-inv (eqb edition firstEdition && _) headerField 0 _ h e in c .same
+
+-- a function that was read has the fields of its record
+pub record FieldsRead (s : List ℕ) (j : ℕ) (g : Signature) : Type 0 where
+  pub sort : sortNumber (g .sort) ≡ sortIn s j
+  pub arity : g .parameters ≡ arityIn s j
+  pub count : g .count ≡ countIn s j
+
+pub function-read : (s : List ℕ) (j : ℕ) (g : Signature) → functionIn s j ≡ done g → FieldsRead s j g
+unfolding functionIn functionAt signatureRecord sortIn arityIn countIn
+function-read s j g e =
+    let own = function-inv (headerIn s .edition) j (recordAt s (suc j)) g e .own in
+    record {
+      sort = ap (λ (r : Record). elim r [ fields x a n i ↦ x ]) own;
+      arity = ap (λ (r : Record). elim r [ fields x a n i ↦ a ]) own;
+      count = ap (λ (r : Record). elim r [ fields x a n i ↦ n ]) own;
+    }
+
+-- where the function row is done, each function is read ..
+pub row-read : (s : List ℕ) (gs : List Signature) → functionRow (headerIn s) s ≡ done gs → each (functionIn s) (headerIn s .functions) 0 ≡ done gs
+unfolding functionIn
+row-read s gs e = summed-inv (headerIn s) s gs e .each-read
+
+-- .. and has as many number parameters as its record says
+pub arity-read : (s : List ℕ) (gs : List Signature) → functionRow (headerIn s) s ≡ done gs → (b : ℕ) → b < headerIn s .functions → arityOf gs b ≡ arityIn s b
+unfolding arityOf
+arity-read s gs e b h =
+    let f = each-nth (functionIn s) (headerIn s .functions) 0 b gs (row-read s gs e) h in
+    let g = function-read s b (f .value) (rw zero-add at (f .given)) in
+    (rw (f .there, arityOf)) ∙ g .arity
 
 -- where all rows are done, all is known of the program
 rows-of : (s : List ℕ) (h : Header) (gs : List Signature) (ks : List Kind) (fs : List Function) → Bytes s → headerRow s ≡ done h → functionRow h s ≡ done gs

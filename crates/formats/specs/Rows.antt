@@ -45,6 +45,22 @@ functionFrom edition j (fields x a n i) =
 unfoldable pub functionAt : ℕ → List ℕ → ℕ → Result Signature
 functionAt edition s j = functionFrom edition j (recordAt s (suc j))
 
+-- Function j, by the header's own edition.
+unfoldable pub functionIn : List ℕ → ℕ → Result Signature
+functionIn s j = functionAt (headerIn s .edition) s j
+
+-- The fields of function j's record, right or not. 01: "byte 0 result (0 number, 1 tree)": the number of its sort ..
+unfoldable pub sortIn : List ℕ → ℕ → ℕ
+sortIn s j = elim (recordAt s (suc j)) [ fields x a n i ↦ x ]
+
+-- .. 01: "byte 1 number parameters" ..
+unfoldable pub arityIn : List ℕ → ℕ → ℕ
+arityIn s j = elim (recordAt s (suc j)) [ fields x a n i ↦ a ]
+
+-- .. 01: "bytes 2–3 its node count".
+unfoldable pub countIn : List ℕ → ℕ → ℕ
+countIn s j = elim (recordAt s (suc j)) [ fields x a n i ↦ n ]
+
 -- 01: "a wrong sum of counts at the last one". It is looked at once all fields are right.
 unfoldable pub functionRow : Header → List ℕ → Result (List Signature)
 functionRow h s =

@@ -3,7 +3,7 @@ use Prim.Native.Nat.{ℕ, suc, _+_, _-_, _*_, _≤_, _<_}
 use mathlib.Core.Bool.{Bool, true, false, not}
 use mathlib.Core.List.{List, [], _∷_}
 use mathlib.Core.Path.{_≡_, refl, sym, ap, _∙_}
-use native.Mathlib.Nat.{zero-add, sub-zero}
+use native.Mathlib.Nat.{sub-zero}
 use native.Mathlib.Numerals.{add-one}
 use native.Mathlib.Omega.{arith}
 use borrow.Author.Tests.{not-true, not-false}
@@ -12,20 +12,10 @@ use Rattle.formats.specs.Refusals.{prefixForm}
 use Rattle.formats.specs.Results.{Result, done, refusal, andThen, check, verdict, each}
 use Rattle.formats.specs.Records.{Kind, recordAt}
 use Rattle.formats.specs.Programs.{Expr, Signature, arityOf, total, Function}
-use Rattle.formats.specs.Rows.{headerIn, functionRow, nodeIn, nodeRow, exprsOf, exactlyOne, bodies, prefixRow}
-use Rattle.formats.proofs.Results.{then-done, then-refused, each-inv, each-none, each-nth, each-front, test-holds, test-fails, passed-is, refused-is, each-behind}
-use Rattle.formats.proofs.Rows.{summed-inv}
-use Rattle.program.specs.Fields.{functionIn, countIn}
-use Rattle.program.specs.Prefix.{Arities, IsOne, PrefixSays}
-use Rattle.program.proofs.Functions.{function-read, row-read}
-
--- each function has as many number parameters as its record says
-arities : (s : List ℕ) (gs : List Signature) → functionRow (headerIn s) s ≡ done gs → Arities s (arityOf gs)
-unfolding arityOf
-arities s gs e b h =
-    let f = each-nth (functionIn s) (headerIn s .functions) 0 b gs (row-read s gs e) h in
-    let g = function-read s b (f .value) (rw zero-add at (f .given)) in
-    (rw (f .there, arityOf)) ∙ g .arity
+use Rattle.formats.specs.Rows.{headerIn, functionIn, countIn, functionRow, nodeIn, nodeRow, exprsOf, exactlyOne, bodies, prefixRow}
+use Rattle.formats.proofs.Results.{then-done, then-refused, each-inv, each-none, each-front, test-holds, test-fails, passed-is, refused-is, each-behind}
+use Rattle.formats.proofs.Rows.{function-read, summed-inv, row-read, arity-read}
+use Rattle.program.specs.Prefix.{IsOne, PrefixSays}
 
 -- a function's check in front of the others'
 body-passed : (arity : ℕ → ℕ) (g : Signature) (gs : List Signature) (ks : List Kind) (r : ℕ)
@@ -118,7 +108,7 @@ module _ (s : List ℕ) (functions : ℕ) where
           → check one prefixForm first tt ≡ verdict (exactlyOne first (exprsOf (arityOf gs) here))
       one-said gs here eg e =
           let long : first + count - first ≡ count = omega arith in
-          told .is (arityOf gs) here (arities s gs eg) (rw long e)
+          told .is (arityOf gs) here (arity-read s gs eg) (rw long e)
 
       pub bodies-more : count < 65536 → not one ≡ false → Bodied (first + count) (j + 1)
       bodies-more small u = record {

@@ -1,8 +1,8 @@
 -- Whether a function's records are exactly one expression: the walk from the last record to the first, a law for each way out of it.
 use Prim.Native.Nat.{ℕ, suc, _+_, _-_, _≤_, _<_}
-use mathlib.Core.Bool.{Bool, true, false, _&&_}
+use mathlib.Core.Bool.{Bool, true, false}
 use mathlib.Core.List.{List, [], _∷_}
-use mathlib.Core.Option.{Option, none, some}
+use mathlib.Core.Option.{none}
 use mathlib.Core.Path.{_≡_, refl, sym, ap, ap₂, _∙_}
 use native.Mathlib.Nat.{sub-self}
 use native.Mathlib.Numerals.{add-one}
@@ -10,33 +10,16 @@ use native.Mathlib.Omega.{arith}
 use borrow.Author.Tests.{ltb-true, eqb-true, eqb-false}
 use lib.Dec.{eqb}
 use lib.ListN.{take, drop, take-append-drop}
-use Rattle.formats.specs.Refusals.{nodeField, prefixForm}
-use Rattle.formats.specs.Results.{Result, done, refusal, check, verdict, each}
-use Rattle.formats.specs.Records.{Kind, Const, Var, Add, IfZero, Let, Leaf, Node, Case, Call, kindOf, recordAt, fieldsOf, same, below, nodeRecord, partsOf, partCount}
-use Rattle.formats.specs.Rows.{headerIn, nodeAt, nodeIn, exprsOf, exactlyOne}
-use Rattle.formats.proofs.Results.{done-not, each-inv, each-none, check-inv, both-held, each-behind}
+use Rattle.formats.specs.Refusals.{prefixForm}
+use Rattle.formats.specs.Results.{Result, done, check, verdict, each}
+use Rattle.formats.specs.Records.{Kind, Const, Var, Add, IfZero, Let, Leaf, Node, Case, Call, below, partsOf, partCount}
+use Rattle.formats.specs.Rows.{headerIn, arityIn, nodeIn, exprsOf, exactlyOne}
+use Rattle.formats.proofs.Results.{each-inv, each-none, each-behind}
+use Rattle.formats.proofs.Records.{node-below}
 use Rattle.formats.proofs.Prefix.{Height, height-short, height-step, none-stays, one-of, not-one-of, none-of}
-use Rattle.program.specs.Fields.{arityIn}
 use Rattle.program.specs.Prefix.{partsIn, Arities, IsOne}
 
--- a node that was read calls one of the functions
-node-below : (s : List ℕ) (k : ℕ) (kind : Kind) → nodeIn s k ≡ done kind → below (headerIn s .functions) kind ≡ true
-unfolding nodeIn nodeAt nodeRecord
-node-below s k kind e = by-kind (kindOf (headerIn s .edition) (recordAt s k)) e
-  where
-    functions : ℕ
-    functions = headerIn s .functions
-
-    by-kind : (o : Option Kind)
-        → elim o [ none ↦ refusal nodeField k | some found ↦ check (same (fieldsOf found) (recordAt s k) && below functions found) nodeField k found ] ≡ done kind
-        → below functions kind ≡ true
-    by-kind none e = done-not e refl
-    by-kind (some found) e =
-        let c = check-inv _ nodeField k found kind e in
-        let b = both-held (same (fieldsOf found) (recordAt s k)) _ (c .held) in
-        ap (below functions) (sym (c .same)) ∙ b .1
-
--- so it has as many parts as the code counts
+-- a node that was read has as many parts as the code counts: it calls one of the functions
 parts-agree : (s : List ℕ) (arity : ℕ → ℕ) (kind : Kind) → Arities s arity → below (headerIn s .functions) kind ≡ true
     → partCount arity (partsOf kind) ≡ partCount (arityIn s) (partsOf kind)
 unfolding below partsOf partCount

@@ -14,17 +14,17 @@ use lib.ListN.{getD}
 use Rattle.formats.specs.Numbers.{numberAt}
 use Rattle.formats.specs.Refusals.{functionField}
 use Rattle.formats.specs.Results.{andThen, check, done, refusal, verdict, each}
-use Rattle.formats.specs.Records.{fields, recordAt, recordBytes, nth, Record}
-use Rattle.formats.specs.Programs.{Signature, numberValued, treeValued, total, mostParameters, signatureRecord}
-use Rattle.formats.specs.Rows.{headerIn, sorts, functionFrom, functionAt, functionRow}
+use Rattle.formats.specs.Records.{fields, recordAt, recordBytes, nth}
+use Rattle.formats.specs.Programs.{Signature, numberValued, treeValued, total, mostParameters}
+use Rattle.formats.specs.Rows.{headerIn, sorts, functionFrom, functionAt, functionIn, sortIn, arityIn, countIn, functionRow}
 use Rattle.formats.proofs.Results.{then-done, then-refused, each-inv, each-none, check-said, test-holds, test-fails, passed-is, refused-is, Passing, pass-more, pass-refused, pass-all}
-use Rattle.formats.proofs.Rows.{function-inv, summed-inv}
+use Rattle.formats.proofs.Rows.{function-read}
 use Rattle.refusal.specs.Number.{number}
 use Rattle.refusal.specs.Said.{said}
 use Rattle.refusal.specs.declared.Verdict.{Verdict}
 use Rattle.refusal.specs.declared.Verdict.the-variants.{Passed, Refused}
 use Rattle.refusal.specs.declared.Refusal.{Refusal}
-use Rattle.program.specs.Fields.{functionIn, arityIn, countIn, countsFrom}
+use Rattle.program.specs.Fields.{countsFrom}
 
 -- ---- `most_parameters`
 
@@ -68,29 +68,29 @@ module _ (s : List ℕ) (j : ℕ) where
   abbrev pub Says : Bool → Type 0
   Says fits = check fits functionField (suc j) tt ≡ verdict (functionIn s j)
 
-  -- function j is read from its record's place
+  -- function j is read from the fields of its record
   function-is :
       (x a n i : ℕ)
-      → x ≡ getD s (recordBytes * (1 + j)) 0
-      → a ≡ getD s (recordBytes * (1 + j) + 1) 0
-      → n ≡ numberAt 2 s (recordBytes * (1 + j) + 2)
+      → x ≡ sortIn s j
+      → a ≡ arityIn s j
+      → n ≡ countIn s j
       → i ≡ numberAt 4 s (recordBytes * (1 + j) + 4)
       → functionIn s j ≡ functionFrom (headerIn s .edition) j (fields x a n i)
-  unfolding functionIn functionAt recordAt
+  unfolding functionIn functionAt sortIn arityIn countIn recordAt
   function-is x a n i ex ea en ei =
       let place : recordBytes * (1 + j) ≡ recordBytes * suc j = omega arith in
       cc
 
   -- what is known of its record at each way out
-  module _ (x : ℕ) (ex : x ≡ getD s (recordBytes * (1 + j)) 0) where
+  module _ (x : ℕ) (ex : x ≡ sortIn s j) where
     pub wrong-sort : 1 < x → Says false
     wrong-sort h = wrong-sort-from _ j x _ _ _ h ∙ sym (ap verdict (function-is x _ _ _ ex refl refl refl))
 
-    module _ (a : ℕ) (ea : a ≡ getD s (recordBytes * (1 + j) + 1) 0) (right : x ≤ 1) where
+    module _ (a : ℕ) (ea : a ≡ arityIn s j) (right : x ≤ 1) where
       -- where the sort is right, the other fields decide
       others-decide :
           (n i : ℕ) (test : Bool)
-          → n ≡ numberAt 2 s (recordBytes * (1 + j) + 2)
+          → n ≡ countIn s j
           → i ≡ numberAt 4 s (recordBytes * (1 + j) + 4)
           → (leb a (mostParameters j) && (leb 1 n && eqb i 0)) ≡ test
           → Says test
@@ -100,7 +100,7 @@ module _ (s : List ℕ) (j : ℕ) where
       pub many-parameters : (most : ℕ) → most ≡ mostParameters j → most < a → Says false
       many-parameters most em h = others-decide _ _ false refl refl (simp (← em, lt-leb _ _ h))
 
-      module _ (n : ℕ) (en : n ≡ numberAt 2 s (recordBytes * (1 + j) + 2)) where
+      module _ (n : ℕ) (en : n ≡ countIn s j) where
         pub no-count : n ≡ 0 → Says false
         no-count z = others-decide n _ false en refl (simp (lt-leb 1 n (omega arith), and-false))
 
@@ -115,13 +115,7 @@ module _ (s : List ℕ) (j : ℕ) where
 
 pub ruleset function-fields = (wrong-sort, many-parameters, no-count, rest-decides)
 
--- ---- `count_of` and `count_sum`
-
-pub count-is : (s : List ℕ) (j n : ℕ) → n ≡ numberAt 2 s (recordBytes * (1 + j) + 2) → n ≡ countIn s j
-unfolding countIn recordAt
-count-is s j n e =
-    let place : recordBytes * (1 + j) ≡ recordBytes * suc j = omega arith in
-    e ∙ ap (λ p. numberAt 2 s (p + 2)) place
+-- ---- `count_sum`
 
 -- the counts of the first j functions are summed
 pub record Summed (s : List ℕ) (functions sum j : ℕ) : Type 0 where
@@ -180,18 +174,7 @@ pub ruleset fields-checked = (fields-none, fields-more, fields-refused, pass-all
 
 -- ---- `function_row`
 
--- a function that is read has the fields of its record
-pub record FieldsRead (s : List ℕ) (j : ℕ) (g : Signature) : Type 0 where
-  pub arity : g .parameters ≡ arityIn s j
-  pub count : g .count ≡ countIn s j
-
-pub function-read : (s : List ℕ) (j : ℕ) (g : Signature) → functionIn s j ≡ done g → FieldsRead s j g
-unfolding functionIn functionAt signatureRecord arityIn countIn recordAt
-function-read s j g e =
-    let own = function-inv (headerIn s .edition) j (recordAt s (suc j)) g e .own in
-    record { arity = ap (λ (r : Record). elim r [ fields x a n i ↦ a ]) own; count = ap (λ (r : Record). elim r [ fields x a n i ↦ n ]) own }
-
--- .. so the counts that were read are summed
+-- the counts of functions that were read are summed
 total-is : (s : List ℕ) (n j : ℕ) (gs : List Signature) → each (functionIn s) n j ≡ done gs → total gs ≡ countsFrom n s j
 unfolding total countsFrom
 total-is s zero j gs e = ap total (each-none (functionIn s) j gs e)
@@ -231,8 +214,3 @@ module _ (s : List ℕ) (functions nodes : ℕ) (ef : functions ≡ getD s 1 0) 
     row-sum sum case es n = test-fails (eqb sum nodes) functionField functions _ (sum-decides sum case es) (ne-eqb sum nodes n)
 
 pub ruleset function-said = (row-field, row-passed, row-sum)
-
--- where the row is done, the fields of each function are
-pub row-read : (s : List ℕ) (gs : List Signature) → functionRow (headerIn s) s ≡ done gs → each (functionIn s) (headerIn s .functions) 0 ≡ done gs
-unfolding functionIn
-row-read s gs e = summed-inv (headerIn s) s gs e .each-read

@@ -6,8 +6,8 @@ use native.Mathlib.Omega.{arith}
 use lib.ListN.{getD}
 use Rattle.formats.specs.Numbers.{numberAt}
 use Rattle.formats.specs.Results.{Result, done, refusal, onValue, verdict, each}
-use Rattle.formats.specs.Records.{recordAt, recordBytes, partCount}
-use Rattle.formats.specs.Rows.{headerIn, nodeIn, nodeRow}
+use Rattle.formats.specs.Records.{recordAt, partCount}
+use Rattle.formats.specs.Rows.{headerIn, arityIn, nodeIn, nodeRow}
 use Rattle.formats.proofs.Results.{byResult, done-injective, done-not, Passing, pass-more, pass-refused, pass-all}
 use Rattle.refusal.specs.Number.{number}
 use Rattle.refusal.specs.declared.Refusal.{Refusal}
@@ -18,7 +18,6 @@ use Rattle.records.specs.declared.Parts.the-variants.{None, One, Two, Three, Ar
 use Rattle.records.specs.declared.Record.{Record}
 use Rattle.records.specs.declared.RecordRead.{RecordRead}
 use Rattle.records.specs.declared.RecordRead.the-variants.{Read, Refused}
-use Rattle.program.specs.Fields.{arityIn}
 use Rattle.program.specs.Prefix.{partsIn}
 
 -- ---- `node_row`
@@ -74,11 +73,9 @@ module _ (s : List ℕ) (parts : Parts) where
   unfolding partCount
   count-three p q r case = sym (ap (λ ps. partCount (arityIn s) (listed ps)) case)
 
-  pub count-arguments : (b n : ℕ) → parts ≡ Arguments b → n ≡ getD s (recordBytes * (1 + b) + 1) 0 → n ≡ partCount (arityIn s) (listed parts)
-  unfolding partCount arityIn recordAt
-  count-arguments b n case e =
-      let place : recordBytes * (1 + b) ≡ recordBytes * suc b = omega arith in
-      e ∙ ap (λ p. getD s (p + 1) 0) place ∙ sym (ap (λ ps. partCount (arityIn s) (listed ps)) case)
+  pub count-arguments : (b n : ℕ) → parts ≡ Arguments b → n ≡ arityIn s b → n ≡ partCount (arityIn s) (listed parts)
+  unfolding partCount
+  count-arguments b n case e = e ∙ sym (ap (λ ps. partCount (arityIn s) (listed ps)) case)
 
 pub ruleset parts-counted = (count-none, count-one, count-two, count-three, count-arguments)
 

@@ -1,30 +1,19 @@
 -- The rows one after the other: a row that passes leaves what follows it, and the first refusal is the whole reading's.
 use Prim.Native.Nat.{ℕ}
-use mathlib.Core.Bool.{_&&_}
 use mathlib.Core.List.{List}
 use mathlib.Core.Path.{_≡_, refl, sym, ap, _∙_}
-use lib.Dec.{eqb}
-use lib.ListN.{length}
-use Rattle.formats.specs.Refusals.{headerField}
 use Rattle.formats.specs.Results.{Result, done, refusal, andThen, verdict}
-use Rattle.formats.specs.Records.{Record, fields, recordAt, Kind}
-use Rattle.formats.specs.Programs.{Header, Signature, Function, Program, firstEdition}
-use Rattle.formats.specs.Rows.{headerFrom, headerRow, headerIn, functionRow, nodeRow, prefixRow, readProgram}
-use Rattle.formats.proofs.Results.{then-done, then-refused, check-inv, Value, passed-is, refused-is}
+use Rattle.formats.specs.Records.{Kind}
+use Rattle.formats.specs.Programs.{Header, Signature, Function, Program}
+use Rattle.formats.specs.Rows.{headerRow, headerIn, functionRow, nodeRow, prefixRow, readProgram}
+use Rattle.formats.proofs.Rows.{header-own}
+use Rattle.formats.proofs.Results.{then-done, then-refused, Value, passed-is, refused-is}
 use Rattle.refusal.specs.Number.{number}
 use Rattle.refusal.specs.Said.{said}
 use Rattle.refusal.specs.declared.Refusal.{Refusal}
 use Rattle.refusal.specs.declared.Verdict.{Verdict}
 use Rattle.refusal.specs.declared.Verdict.the-variants.{Passed, Refused}
 use Rattle.program.specs.Prefix.{PrefixSays}
-
--- a header that was read is the header's own fields
-header-own : (s : List ℕ) (h : Header) → headerRow s ≡ done h → headerIn s ≡ h
-unfolding headerRow headerFrom headerIn
-header-own s h e = own (recordAt s 0) e
-  where
-    own : (r : Record) → headerFrom (length s) r ≡ done h → elim r [ fields edition f n i ↦ record { edition = edition; functions = f; nodes = n } ] ≡ h
-    own (fields edition f n i) e = let c = check-inv (eqb edition firstEdition && _) headerField 0 _ h e in c .same
 
 -- what follows the header, the functions and the nodes
 abbrev withNodes : Header → List Signature → List Kind → Result Program

@@ -1,22 +1,7 @@
--- The fields of function records, right or not, as the rows' functions read them.
+-- The node counts of function records, as the row "functions" sums them.
 use Prim.Native.Nat.{ℕ, zero, suc, _+_}
 use mathlib.Core.List.{List}
-use Rattle.formats.specs.Results.{Result}
-use Rattle.formats.specs.Records.{fields, recordAt}
-use Rattle.formats.specs.Programs.{Signature}
-use Rattle.formats.specs.Rows.{headerIn, functionAt}
-
--- Function j, by the header's own edition.
-unfoldable pub functionIn : List ℕ → ℕ → Result Signature
-functionIn s j = functionAt (headerIn s .edition) s j
-
--- Its number parameters.
-unfoldable pub arityIn : List ℕ → ℕ → ℕ
-arityIn s j = elim (recordAt s (suc j)) [ fields x a n i ↦ a ]
-
--- Its node count.
-unfoldable pub countIn : List ℕ → ℕ → ℕ
-countIn s j = elim (recordAt s (suc j)) [ fields x a n i ↦ n ]
+use Rattle.formats.specs.Rows.{countIn}
 
 -- The sum of so many counts, from function j on.
 unfoldable pub countsFrom : ℕ → List ℕ → ℕ → ℕ

@@ -7,8 +7,7 @@ use Rattle.formats.specs.Refusals.{prefixForm}
 use Rattle.formats.specs.Results.{Result, done, refusal, verdict, check, each}
 use Rattle.formats.specs.Records.{Kind, partsOf, partCount}
 use Rattle.formats.specs.Programs.{Signature}
-use Rattle.formats.specs.Rows.{headerIn, functionRow, nodeIn, nodeRow, exprsOf, exactlyOne, prefixRow}
-use Rattle.program.specs.Fields.{arityIn}
+use Rattle.formats.specs.Rows.{headerIn, arityIn, functionRow, nodeIn, nodeRow, exprsOf, exactlyOne, prefixRow}
 
 -- How many parts record k has; 0 where it is no node.
 unfoldable pub partsIn : List ℕ → ℕ → ℕ

@@ -3,15 +3,15 @@ use records::Parts;
 use records::RecordRead;
 use refusal::Refusal;
 use refusal::Verdict;
-ghost use Prim.Native.Nat.{suc, _≤_, _<_};
+ghost use Prim.Native.Nat.{suc, _≤_};
 ghost use mathlib.Core.Path.{_≡_};
 ghost use Rattle.formats.specs.Programs.{mostParameters};
 ghost use Rattle.formats.specs.Records.{fields, partCount};
 ghost use Rattle.formats.specs.Refusals.{headerField, functionField};
 ghost use Rattle.formats.specs.Results.{check, each, verdict};
-ghost use Rattle.formats.specs.Rows.{headerFrom, headerIn, headerRow, functionRow, nodeRow, readProgram};
+ghost use Rattle.formats.specs.Rows.{headerFrom, headerIn, headerRow, functionIn, arityIn, functionRow, nodeRow, readProgram};
 ghost use Rattle.refusal.specs.Said.{said};
-ghost use Rattle.program.specs.Fields.{functionIn, arityIn, countIn, countsFrom};
+ghost use Rattle.program.specs.Fields.{countsFrom};
 ghost use Rattle.program.specs.Prefix.{partsIn, IsOne, PrefixSays};
 ghost use Rattle.records.specs.Read.{listed};
 
@@ -68,7 +68,7 @@ fn header_row(flat: &[u8]) -> Verdict
 }
 
 // The most number parameters of function j.
-fn most_parameters(j: usize) -> u8
+fn most_parameters(j: u16) -> u8
     ensures { λ r. ⌜ r ≡ mostParameters j ⌝ }
 {
     if j == 0 {
@@ -78,56 +78,43 @@ fn most_parameters(j: usize) -> u8
 }
 
 // Whether the fields of function j's record are right.
-fn function_fits(flat: &[u8], j: usize) -> bool
-    requires { ⌜ j < 255 ⌝ }
+fn function_fits(flat: &[u8], j: u16) -> bool
     ensures { λ r. ⌜ check r functionField (suc j) tt ≡ verdict (functionIn (now (flat .entry)) j) ⌝ }
 {
-    let p = RECORD_BYTES * (1 + j);
-    let sort = words::read8(flat, p);
-    if MOST_SORT < sort {
+    if MOST_SORT < signatures::sort_number(flat, j) {
         return false;
     }
-    if most_parameters(j) < words::read8(flat, p + 1) {
+    if most_parameters(j) < signatures::parameters(flat, j) {
         return false;
     }
-    if words::read16(flat, p + 2) == 0 {
+    if signatures::count(flat, j) == 0 {
         return false;
     }
-    words::read32(flat, p + 4) == 0
+    words::read32(flat, RECORD_BYTES * (1 + (j as usize)) + 4) == 0
 }
 
 // The fields of the function records, so many.
-fn function_fields(flat: &[u8], functions: usize) -> Verdict
-    requires { ⌜ functions < 256 ⌝ }
+fn function_fields(flat: &[u8], functions: u16) -> Verdict
     ensures { λ r. ⌜ said r ≡ verdict (each (functionIn (now (flat .entry))) functions 0) ⌝ }
 {
-    let mut j = 0;
+    let mut j: u16 = 0;
     while j < functions {
         if !function_fits(flat, j) {
-            return Verdict::Refused(Refusal::FunctionField, j + 1);
+            return Verdict::Refused(Refusal::FunctionField, (j as usize) + 1);
         }
         j = j + 1;
     }
     Verdict::Passed
 }
 
-// The node count of function j.
-fn count_of(flat: &[u8], j: usize) -> usize
-    requires { ⌜ j < 255 ⌝ }
-    ensures { λ r. ⌜ (r ≡ countIn (now (flat .entry)) j) × (r < 65536) ⌝ }
-{
-    words::read16(flat, RECORD_BYTES * (1 + j) + 2) as usize
-}
-
-// The sum of the node counts. It is exact: 255 counts of 16 bits.
-fn count_sum(flat: &[u8], functions: usize) -> usize
-    requires { ⌜ functions < 256 ⌝ }
+// The sum of the node counts. It is exact: counts of 16 bits, fewer than 65,536 of them.
+fn count_sum(flat: &[u8], functions: u16) -> usize
     ensures { λ r. ⌜ r ≡ countsFrom functions (now (flat .entry)) 0 ⌝ }
 {
     let mut sum = 0;
-    let mut j = 0;
+    let mut j: u16 = 0;
     while j < functions {
-        sum = sum + count_of(flat, j);
+        sum = sum + (signatures::count(flat, j) as usize);
         j = j + 1;
     }
     sum
@@ -137,7 +124,7 @@ fn count_sum(flat: &[u8], functions: usize) -> usize
 fn function_row(flat: &[u8]) -> Verdict
     ensures { λ r. ⌜ said r ≡ verdict (functionRow (headerIn (now (flat .entry))) (now (flat .entry))) ⌝ }
 {
-    let functions = words::read8(flat, 1) as usize;
+    let functions = words::read8(flat, 1) as u16;
     let nodes = words::read16(flat, 2) as usize;
     let fields = function_fields(flat, functions);
     match fields {
@@ -146,7 +133,7 @@ fn function_row(flat: &[u8]) -> Verdict
             if count_sum(flat, functions) == nodes {
                 return Verdict::Passed;
             }
-            Verdict::Refused(Refusal::FunctionField, functions)
+            Verdict::Refused(Refusal::FunctionField, functions as usize)
         }
     }
 }
@@ -182,7 +169,7 @@ fn part_count(flat: &[u8], parts: Parts) -> usize
         Parts::One(p) => 1,
         Parts::Two(p, q) => 2,
         Parts::Three(p, q, r) => 3,
-        Parts::Arguments(b) => words::read8(flat, RECORD_BYTES * (1 + (b as usize)) + 1) as usize,
+        Parts::Arguments(b) => signatures::parameters(flat, b) as usize,
     }
 }
 
@@ -220,11 +207,11 @@ fn one_expression(flat: &[u8], first: usize, end: usize) -> bool
 fn prefix_row(flat: &[u8]) -> Verdict
     ensures { λ r. ⌜ PrefixSays (now (flat .entry)) (said r) ⌝ }
 {
-    let functions = words::read8(flat, 1) as usize;
-    let mut first = 1 + functions;
-    let mut j = 0;
+    let functions = words::read8(flat, 1) as u16;
+    let mut first = 1 + (functions as usize);
+    let mut j: u16 = 0;
     while j < functions {
-        let end = first + count_of(flat, j);
+        let end = first + (signatures::count(flat, j) as usize);
         if !one_expression(flat, first, end) {
             return Verdict::Refused(Refusal::PrefixForm, first);
         }

@@ -2,7 +2,7 @@
 use Prim.Native.Nat.{_-_}
 use Rattle.formats.specs.Results.{verdict, each}
 use Rattle.formats.proofs.Results.{Passing}
-use Rattle.program.specs.Fields.{functionIn}
+use Rattle.formats.specs.Rows.{functionIn}
 use Rattle.program.proofs.Functions.{fields-checked}
 use borrow.Author.Needs.{needs}
 use Rattle.program.proofs.function_fields.Statement.{statement}
@@ -20,8 +20,11 @@ loop-holds c = search fields-checked
 function-fits-requires : tie.Need-function-fits-requires Inv-loop μ-loop
 function-fits-requires c κs = search needs
 
-add-t7 : tie.Need-add-t7 Inv-loop μ-loop
-add-t7 c = search needs
+cast-t7 : tie.Need-cast-t7 Inv-loop μ-loop
+cast-t7 c = search needs
+
+add-t8 : tie.Need-add-t8 Inv-loop μ-loop
+add-t8 c = search needs
 
 returns : tie.Need-returns Inv-loop μ-loop
 returns c = search fields-checked
@@ -46,7 +49,8 @@ function-fields-spec =
     μ-loop
     loop-holds
     function-fits-requires
-    add-t7
+    cast-t7
+    add-t8
     returns
     add-j
     loop-less

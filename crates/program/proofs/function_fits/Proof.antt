@@ -5,14 +5,8 @@ use Rattle.program.proofs.Functions.{function-fields}
 use Rattle.program.proofs.function_fits.Statement.{statement}
 use Rattle.program.proofs.function_fits.Tie as tie
 
-add-p : tie.Need-add-p
-add-p c = search needs
-
-mul-p : tie.Need-mul-p
-mul-p c = search needs
-
-read8-requires : tie.Need-read8-requires
-read8-requires c κs = search needs
+sort-number-requires : tie.Need-sort-number-requires
+sort-number-requires c κs = search needs
 
 returns : tie.Need-returns
 returns c = search function-fields
@@ -20,26 +14,26 @@ returns c = search function-fields
 most-parameters-requires : tie.Need-most-parameters-requires
 most-parameters-requires c κs = search needs
 
-add-read8 : tie.Need-add-read8
-add-read8 c = search needs
-
-read8-requires-2 : tie.Need-read8-requires-2
-read8-requires-2 c κs = search needs
+parameters-requires : tie.Need-parameters-requires
+parameters-requires c κs = search needs
 
 returns-2 : tie.Need-returns-2
 returns-2 c = search function-fields
 
-add-read16 : tie.Need-add-read16
-add-read16 c = search needs
-
-read16-requires : tie.Need-read16-requires
-read16-requires c κs = search needs
+count-requires : tie.Need-count-requires
+count-requires c κs = search needs
 
 returns-3 : tie.Need-returns-3
 returns-3 c = search function-fields
 
 add-read32 : tie.Need-add-read32
 add-read32 c = search needs
+
+mul-read32 : tie.Need-mul-read32
+mul-read32 c = search needs
+
+add-read32-2 : tie.Need-add-read32-2
+add-read32-2 c = search needs
 
 read32-requires : tie.Need-read32-requires
 read32-requires c κs = search needs
@@ -51,17 +45,15 @@ pub function-fits-spec : {M : Type 1} → statement M
 function-fits-spec =
     tie.close
     (tie.spec
-    add-p
-    mul-p
-    read8-requires
+    sort-number-requires
     returns
     most-parameters-requires
-    add-read8
-    read8-requires-2
+    parameters-requires
     returns-2
-    add-read16
-    read16-requires
+    count-requires
     returns-3
     add-read32
+    mul-read32
+    add-read32-2
     read32-requires
     returns-4)

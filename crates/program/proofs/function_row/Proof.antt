@@ -31,6 +31,9 @@ count-sum-requires c κs = search needs
 returns : tie.Need-returns
 returns c = search function-said
 
+cast-t10 : tie.Need-cast-t10
+cast-t10 c = search needs
+
 returns-2 : tie.Need-returns-2
 returns-2 c = search function-said
 
@@ -50,5 +53,6 @@ function-row-spec =
     enum-told
     count-sum-requires
     returns
+    cast-t10
     returns-2
     returns-3)

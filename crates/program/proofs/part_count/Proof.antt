@@ -19,20 +19,8 @@ enum-known-parts-3 c = search needs
 enum-known-parts-4 : tie.Need-enum-known-parts-4
 enum-known-parts-4 c = search needs
 
-cast-read8 : tie.Need-cast-read8
-cast-read8 c = search needs
-
-add-read8 : tie.Need-add-read8
-add-read8 c = search needs
-
-mul-read8 : tie.Need-mul-read8
-mul-read8 c = search needs
-
-add-read8-2 : tie.Need-add-read8-2
-add-read8-2 c = search needs
-
-read8-requires : tie.Need-read8-requires
-read8-requires c κs = search needs
+parameters-requires : tie.Need-parameters-requires
+parameters-requires c κs = search needs
 
 cast-result : tie.Need-cast-result
 cast-result c = search needs
@@ -61,11 +49,7 @@ part-count-spec =
     enum-known-parts-2
     enum-known-parts-3
     enum-known-parts-4
-    cast-read8
-    add-read8
-    mul-read8
-    add-read8-2
-    read8-requires
+    parameters-requires
     cast-result
     returns
     returns-2

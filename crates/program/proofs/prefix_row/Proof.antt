@@ -18,14 +18,20 @@ read8-requires c κs = search needs
 cast-functions : tie.Need-cast-functions Inv-loop μ-loop
 cast-functions c = search needs
 
+cast-first : tie.Need-cast-first Inv-loop μ-loop
+cast-first c = search needs
+
 add-first : tie.Need-add-first Inv-loop μ-loop
 add-first c = search needs
 
 loop-holds : tie.Need-loop-holds Inv-loop μ-loop
 loop-holds c = search bodies-checked
 
-count-of-requires : tie.Need-count-of-requires Inv-loop μ-loop
-count-of-requires c κs = search needs
+count-requires : tie.Need-count-requires Inv-loop μ-loop
+count-requires c κs = search needs
+
+cast-end : tie.Need-cast-end Inv-loop μ-loop
+cast-end c = search needs
 
 add-end : tie.Need-add-end Inv-loop μ-loop
 add-end c = search needs
@@ -56,9 +62,11 @@ prefix-row-spec =
     μ-loop
     read8-requires
     cast-functions
+    cast-first
     add-first
     loop-holds
-    count-of-requires
+    count-requires
+    cast-end
     add-end
     one-expression-requires
     returns

@@ -1,0 +1,28 @@
+-- The fields of function b's record stand at its place, which is behind the header and the records of the functions before it.
+use Prim.Native.Nat.{ℕ, suc, _+_, _*_}
+use mathlib.Core.List.{List}
+use mathlib.Core.Path.{_≡_, ap, _∙_}
+use native.Mathlib.Omega.{arith}
+use lib.ListN.{getD}
+use Rattle.formats.specs.Numbers.{numberAt}
+use Rattle.formats.specs.Records.{recordAt, recordBytes}
+use Rattle.formats.specs.Rows.{sortIn, arityIn, countIn}
+
+module _ (s : List ℕ) (b n : ℕ) where
+  -- the record's place, as the code has it
+  place : recordBytes * (1 + b) ≡ recordBytes * suc b
+  place = omega arith
+
+  pub sort-is : n ≡ getD s (recordBytes * (1 + b)) 0 → n ≡ sortIn s b
+  unfolding sortIn recordAt
+  sort-is e = e ∙ ap (λ p. getD s p 0) place
+
+  pub arity-is : n ≡ getD s (recordBytes * (1 + b) + 1) 0 → n ≡ arityIn s b
+  unfolding arityIn recordAt
+  arity-is e = e ∙ ap (λ p. getD s (p + 1) 0) place
+
+  pub count-is : n ≡ numberAt 2 s (recordBytes * (1 + b) + 2) → n ≡ countIn s b
+  unfolding countIn recordAt
+  count-is e = e ∙ ap (λ p. numberAt 2 s (p + 2)) place
+
+pub ruleset fields-read = (sort-is, arity-is, count-is)

@@ -12,17 +12,17 @@ use Rattle.formats.specs.Rows.{readProgram}
 use Rattle.formats.specs.Blocks.{partBytes, mostBlocks, flatIn, flatInto, fileOf, programRecords, readFile, writeFile, within, programInto, readInto, writeInto, lent}
 use Rattle.formats.proofs.Results.{outcome, gave, stopped, Outcome, done-not, then-done, then-refused, value-inv, Value, passed-is, refused-is}
 use Rattle.formats.proofs.Written.{written-fits}
-use Rattle.formats.proofs.Files.{flat-short}
+use Rattle.formats.proofs.Files.{flat-short, within-room, within-short}
 use Rattle.refusal.specs.declared.Refusal.{Refusal}
 use Rattle.refusal.specs.declared.Refusal.the-variants.{SpaceTooShort}
 use Rattle.refusal.specs.declared.Verdict.{Verdict}
 use Rattle.refusal.specs.declared.Verdict.the-variants as verdict-is
 use Rattle.refusal.specs.Number.{number}
 use Rattle.refusal.specs.Said.{said}
-use Rattle.blocks.specs.Put.{answered, Put}
-use Rattle.blocks.specs.declared.Filled.{Filled}
-use Rattle.blocks.specs.declared.Filled.the-variants.{Written, Refused}
-use Rattle.blocks.proofs.Room.{within-room, within-short, put-refused, put-done}
+use Rattle.refusal.specs.Put.{answered, Put}
+use Rattle.refusal.specs.declared.Filled.{Filled}
+use Rattle.refusal.specs.declared.Filled.the-variants.{Written, Refused}
+use Rattle.refusal.proofs.Put.{put-refused, put-done}
 
 -- ---- the rows header to prefix form
 

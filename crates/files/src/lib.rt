@@ -1,10 +1,10 @@
 // Program files: the reader, from a file to flat records, and the writer, from flat records to the file.
-use blocks::Filled;
+use refusal::Filled;
 use refusal::Refusal;
 use refusal::Verdict;
 ghost use lib.ListN.{length};
 ghost use Rattle.formats.specs.Blocks.{programInto, readInto, writeInto};
-ghost use Rattle.blocks.specs.Put.{Put};
+ghost use Rattle.refusal.specs.Put.{Put};
 
 // The bytes of flat records that the most blocks hold: 17 times 63 records of 8 bytes.
 const MOST_BYTES: usize = 8568;
@@ -21,7 +21,7 @@ fn put_program(flat: &[u8], records: &mut [u8]) -> Filled
     if records.len() < flat.len() {
         return Filled::Refused(Refusal::SpaceTooShort, 0);
     }
-    words::write_bytes(records, 0, flat);
+    writing::write_bytes(records, 0, flat);
     Filled::Written(flat.len())
 }
 
@@ -31,7 +31,7 @@ pub fn read_file(file: &[u8], records: &mut [u8]) -> Filled
     ensures { λ r. ⌜ Put (readInto (length (now (records .entry))) (now (file .entry))) (now (records .entry)) (now (records .exit)) r ⌝ }
 {
     let mut flat = [0u8; MOST_BYTES];
-    let taken = blocks::take_out(file, &mut flat);
+    let taken = block_reader::take_out(file, &mut flat);
     match taken {
         Filled::Refused(why, place) => Filled::Refused(why, place),
         Filled::Written(bytes) => put_program(&flat[..bytes], records),
@@ -47,5 +47,5 @@ pub fn write_file(records: &[u8], file: &mut [u8]) -> Filled
     if let Verdict::Refused(fault, record) = rows {
         return Filled::Refused(fault, record);
     }
-    blocks::lay_out(records, file)
+    block_writer::lay_out(records, file)
 }

@@ -5,17 +5,18 @@ use mathlib.Core.Bool.{true, _&&_}
 use mathlib.Core.List.{List, [], _∷_, _++_, append-nil}
 use mathlib.Core.Path.{_≡_, refl, sym, ap, ap₂, subst, _∙_}
 use native.Mathlib.Omega.{arith}
-use borrow.Author.Tests.{eqb-true, leb-true, eq-eqb, le-leb}
+use borrow.Author.Tests.{eqb-true, leb-true, eq-eqb, le-leb, lt-leb}
 use lib.Dec.{lit<, leb, eqb}
 use lib.ListN.{length, take, drop, length-append, length-take, length-drop, take-append-drop, drop-of-length-le}
 use lib.Seq.{take-all, take-at, drop-at, drop-drop}
 use Rattle.formats.specs.Numbers.{Bytes}
-use Rattle.formats.specs.Refusals.{fileLength}
-use Rattle.formats.specs.Results.{done, onValue, each}
+use Rattle.formats.specs.Refusals.{fileLength, spaceTooShort}
+use Rattle.formats.specs.Results.{Result, done, refusal, onValue, each}
 use Rattle.formats.specs.Records.{recordBytes}
-use Rattle.formats.specs.Blocks.{blockBytes, mostBlocks, blockRecords, partBytes, wordLimit, blockOf, blocksFrom, blocksFor, fileOf, lengthRow, usedFits, usedOf, blockAt, blockRow, joined, flatIn}
+use Rattle.formats.specs.Blocks.{blockBytes, mostBlocks, blockRecords, partBytes, wordLimit, blockOf, blocksFrom, blocksFor, fileOf, lengthRow, usedFits, usedOf, blockAt, blockRow, joined, flatIn, within, lent}
 use Rattle.formats.specs.ProgramFiles.{Fewest}
 use Rattle.formats.proofs.Numbers.{bytes-append, bytes-take, bytes-drop}
+use Rattle.formats.proofs.Written.{wrote}
 use Rattle.formats.proofs.Results.{then-inv, then-done, each-inv, each-none, each-done, check-inv, both-held, value-inv}
 use Rattle.formats.proofs.Blocks.{length-block, block-bytes, used-some, used-fits, passed, used-done, used-inv, Used}
 
@@ -307,3 +308,20 @@ blocks-back r n e some few =
     then-done _ (length-done (fileOf r) blocks (record { measure = length-file r; some-block = some-block; few-blocks = few-blocks }))
     ∙ ap (onValue joined) (b .row)
     ∙ ap done (b .gives)
+
+-- ---- into a lent buffer
+
+-- bytes that fit are all there, and others are refused
+pub within-room : (room : ℕ) (bytes : List ℕ) → length bytes ≤ room → within room bytes ≡ done bytes
+unfolding within
+within-room room bytes h = simp (within, le-leb _ _ h)
+
+pub within-short : (room : ℕ) (bytes : List ℕ) → room < length bytes → within room bytes ≡ refusal spaceTooShort 0
+unfolding within
+within-short room bytes h = simp (within, lt-leb _ _ h)
+
+-- the buffer keeps its length
+pub length-lent : (before : List ℕ) (due : Result (List ℕ)) → length (lent before due) ≡ length before
+unfolding lent
+length-lent before (done bytes) = wrote before 0 bytes .same-length
+length-lent before (refusal number place) = refl

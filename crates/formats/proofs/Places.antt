@@ -1,11 +1,11 @@
 -- Laws of what stands where in a buffer. `Lies` goes by recursion on the bytes, so joins and parts of byte strings are joins and parts of proofs.
-use Prim.Native.Nat.{ℕ, zero, suc, _+_, _≤_, _<_, suc-le-suc}
+use Prim.Native.Nat.{ℕ, zero, suc, _+_, _-_, _≤_, _<_, suc-le-suc}
 use mathlib.Core.List.{List, [], _∷_, _++_, append-nil}
 use mathlib.Core.Path.{_≡_, refl, sym, ap, ap₂, subst, _∙_}
 use native.Mathlib.Nat.{add-zero, add-suc, suc-add}
 use native.Mathlib.Omega.{arith}
-use lib.ListN.{length, getD, take, drop, length-append, length-take, List·getD-append}
-use lib.Seq.{drop-cons, getD-take, take-add}
+use lib.ListN.{length, getD, take, drop, length-append, length-take, length-drop, List·getD-append}
+use lib.Seq.{drop-cons, getD-take, take-add, take-all, length-take-le}
 use Rattle.formats.specs.Places.{Opens, Lies, nothing, one-more}
 
 -- the place goes by its number
@@ -77,3 +77,18 @@ lies-all s = subst (λ (l : List ℕ). Lies l 0 s) (append-nil s) (lies-first s 
 -- the first of the bytes that lie at a place is the byte there
 pub head-is : {s vs : List ℕ} {p v : ℕ} → Lies s p (v ∷ vs) → getD s p 0 ≡ v
 head-is (one-more there is more) = is
+
+-- ---- a part of a slice
+
+-- a part from p on, told by where it ends, is so many bytes
+pub part-inside : (s : List ℕ) (p n : ℕ) → take (p + n - p) (drop p s) ≡ take n (drop p s)
+part-inside s p n = let size : p + n - p ≡ n = omega arith in ap (λ (k : ℕ). take k (drop p s)) size
+
+pub length-inside : (s : List ℕ) (p n : ℕ) → p + n ≤ length s → length (take (p + n - p) (drop p s)) ≡ n
+length-inside s p n h = ap length (part-inside s p n) ∙ length-take-le n (drop p s) (omega (arith, length-drop p s))
+
+-- the last part is all that is left
+pub part-last : (s : List ℕ) (p n : ℕ) → length s - p < n → take (length s - p) (drop p s) ≡ take n (drop p s)
+part-last s p n h =
+    let left = length-drop p s in
+    take-all (length s - p) (drop p s) (omega arith) ∙ sym (take-all n (drop p s) (omega arith))

@@ -13,9 +13,9 @@ use Rattle.refusal.specs.Number.{number}
 use Rattle.tree.specs.Answer.{answered as treeAnswered}
 use Rattle.tree.specs.declared.TreeAnswer.{TreeAnswer}
 use Rattle.tree.specs.declared.TreeAnswer.the-variants.{Tree, Refused as TreeRefused}
-use Rattle.blocks.specs.Put.{answered, Put}
-use Rattle.blocks.specs.declared.Filled.{Filled}
-use Rattle.blocks.specs.declared.Filled.the-variants.{Written, Refused}
+use Rattle.refusal.specs.Put.{answered, Put}
+use Rattle.refusal.specs.declared.Filled.{Filled}
+use Rattle.refusal.specs.declared.Filled.the-variants.{Written, Refused}
 use Rattle.hogvax_c.specs.Answer.{answerPlaces, refusalOf, placesOf, Answers, Fills}
 
 -- an answer takes as many places as it says

@@ -1,5 +1,5 @@
 // What C and Rust programs link: thin functions over the proved calls. A slice passes as a pointer and a length.
-use blocks::Filled;
+use refusal::Filled;
 use refusal::Refusal;
 use tree::TreeAnswer;
 ghost use Prim.Native.Nat.{_≤_};
@@ -7,7 +7,7 @@ ghost use mathlib.Core.Path.{_≡_};
 ghost use lib.ListN.{length};
 ghost use Rattle.formats.specs.Blocks.{readInto, writeInto};
 ghost use Rattle.formats.specs.Tokens.{firstEnd, firstTree, ownBytes};
-ghost use Rattle.blocks.specs.Put.{answered};
+ghost use Rattle.refusal.specs.Put.{answered};
 ghost use Rattle.hogvax_c.specs.Answer.{answerPlaces, Answers, Fills};
 
 // How many places an answer takes. Later ones will stand behind these.

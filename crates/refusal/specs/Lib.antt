@@ -1,3 +1,4 @@
--- What a refusal's number is, and what a check says.
+-- What a refusal's number is, and what a check and a call that fills a buffer say.
 pub mod Number
 pub mod Said
+pub mod Put

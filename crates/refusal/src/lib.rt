@@ -52,6 +52,13 @@ pub enum Verdict {
     Refused(Refusal, usize),
 }
 
+// What a call that fills a lent buffer answers: the bytes written from its start on; or the refusal and its place, and then the buffer is
+// untouched.
+pub enum Filled {
+    Written(usize),
+    Refused(Refusal, usize),
+}
+
 // A refusal's number in the document's table.
 pub fn number_of(r: Refusal) -> u32
     ensures { λ n. ⌜ n ≡ number r ⌝ }

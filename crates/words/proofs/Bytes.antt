@@ -1,16 +1,13 @@
--- Reading and writing by single bytes, over every width. The bytes at a place and behind it are the part of the buffer there, which stands for the
--- number. A number's bytes, set one after the other, are the number written.
+-- Reading by single bytes, over every width. The bytes at a place and behind it are the part of the buffer there, which stands for the number.
 use Prim.Native.Nat.{ℕ, zero, suc, _+_, _-_, _≤_, _<_}
-use mathlib.Core.List.{List, [], _∷_, _++_}
+use mathlib.Core.List.{List, [], _∷_}
 use mathlib.Core.Path.{_≡_, refl, sym, ap, _∙_}
 use native.Mathlib.Nat.{add-zero, add-suc}
 use native.Mathlib.Omega.{arith}
-use lib.ListN.{length, getD, take, drop, set, length-append, length-set, List·getD-eq-default}
-use lib.Seq.{drop-cons, sets, length-take-le, take-add, take-all}
-use Rattle.formats.specs.Numbers.{bytesOf, numberOf, numberAt}
-use Rattle.formats.specs.Written.{written}
-use Rattle.formats.proofs.Numbers.{length-bytesOf, numberAt-whole, numberAt-cut}
-use Rattle.formats.proofs.Written.{wrote, written-none, written-one, written-append, written-sets, written-short}
+use lib.ListN.{length, getD, take, drop, List·getD-eq-default}
+use lib.Seq.{drop-cons}
+use Rattle.formats.specs.Numbers.{numberOf, numberAt}
+use Rattle.formats.proofs.Numbers.{numberAt-whole, numberAt-cut}
 
 -- as many bytes of s as the width says, from k places behind p on
 abbrev pub bytesFrom : ℕ → List ℕ → ℕ → ℕ → List ℕ
@@ -39,69 +36,6 @@ number-read width s p bs r some whole made same =
 pub number-cut : (width : ℕ) (s : List ℕ) (p : ℕ) → length s < p + width → 0 ≡ numberAt width s p
 number-cut width s p cut = sym (numberAt-cut width s p cut)
 
--- a number's bytes, set one after the other, are the number written
-pub number-written : (width : ℕ) (s : List ℕ) (p n : ℕ) → p + width ≤ length s → sets s p (bytesOf width n) ≡ written s p (bytesOf width n)
-number-written width s p n fits = written-sets s p (bytesOf width n) (rw length-bytesOf fits)
-
--- a buffer in which a number does not fit is as if it had been written
-pub number-short : (width : ℕ) (s : List ℕ) (p n : ℕ) → length s < p + width → s ≡ written s p (bytesOf width n)
-number-short width s p n short = sym (written-short s p (bytesOf width n) (rw length-bytesOf short))
-
 -- there is no byte past the end
 pub byte-cut : (s : List ℕ) (p : ℕ) → length s ≤ p → 0 ≡ getD s p 0
 byte-cut s p cut = sym (List·getD-eq-default s 0 cut)
-
--- ---- bytes copied one after the other
-
--- t is s with the first k bytes of vs written at p
-pub record Copied (s : List ℕ) (p : ℕ) (vs t : List ℕ) (k : ℕ) : Type 0 where
-  pub within : k ≤ length vs
-  pub same-length : length t ≡ length s
-  pub so-far : t ≡ written s p (take k vs)
-
-pub copy-none : (s : List ℕ) (p : ℕ) (vs : List ℕ) → Copied s p vs s 0
-copy-none s p vs = record { within = omega arith; same-length = refl; so-far = sym (written-none s p) }
-
--- one more behind those that are there
-pub copy-more :
-    (s : List ℕ) (p : ℕ) (vs t : List ℕ) (k : ℕ)
-    → length vs ≤ length s
-    → p ≤ length s - length vs
-    → k < length vs
-    → Copied s p vs t k
-    → Copied s p vs (set t (p + k) (getD vs k 0)) (k + 1)
-copy-more s p vs t k small fits more c =
-    let taken : length (take k vs) ≡ k = length-take-le k vs (omega arith) in
-    let one : take (k + 1) vs ≡ take k vs ++ (getD vs k 0 ∷ []) =
-    take-add k 1 vs ∙ ap (λ (l : List ℕ). take k vs ++ take 1 l) (drop-cons vs k 0 more) in
-    let both : p + length (take k vs ++ (getD vs k 0 ∷ [])) ≤ length s = rw (length-append, taken) (omega arith) in
-    let here : p + k < length (written s p (take k vs)) = rw (wrote s p (take k vs) .same-length) (omega arith) in
-    record {
-      within = omega arith;
-      same-length = length-set t (p + k) (getD vs k 0) ∙ c .same-length;
-      so-far =
-          ap (λ (l : List ℕ). set l (p + k) (getD vs k 0)) (c .so-far)
-          ∙ written-one (written s p (take k vs)) (p + k) (getD vs k 0) here
-          ∙ (rw taken at (written-append s p (take k vs) (getD vs k 0 ∷ []) both))
-          ∙ ap (written s p) (sym one);
-    }
-
--- the place of the next byte is within
-pub copy-place : (s : List ℕ) (p : ℕ) (vs t : List ℕ) (k : ℕ) → length vs ≤ length s → p ≤ length s - length vs → k < length vs → Copied s p vs t k → p + k < length t
-copy-place s p vs t k small fits more c = omega (arith, c .same-length)
-
-pub copy-length : (s : List ℕ) (p : ℕ) (vs t : List ℕ) (k : ℕ) → Copied s p vs t k → length t ≡ length s
-copy-length s p vs t k c = c .same-length
-
--- all are there
-pub copy-all : (s : List ℕ) (p : ℕ) (vs t : List ℕ) (k : ℕ) → length vs ≤ k → Copied s p vs t k → t ≡ written s p vs
-copy-all s p vs t k all c = c .so-far ∙ ap (written s p) (take-all k vs all)
-
--- they do not fit, for their number or for their place
-pub copy-long : (s : List ℕ) (p : ℕ) (vs : List ℕ) → length s < length vs → s ≡ written s p vs
-copy-long s p vs h = sym (written-short s p vs (omega arith))
-
-pub copy-far : (s : List ℕ) (p : ℕ) (vs : List ℕ) → length vs ≤ length s → length s - length vs < p → s ≡ written s p vs
-copy-far s p vs small h = sym (written-short s p vs (omega arith))
-
-pub ruleset copied = (copy-none, copy-more, copy-place, copy-length, copy-all, copy-long, copy-far)

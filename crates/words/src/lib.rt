@@ -1,10 +1,9 @@
-// Numbers of 8, 16 and 32 bits in byte slices, low byte first, and bytes copied into them. Nothing here asks anything of
-// its caller: a place may be anywhere, and what is read or written there is read or written whole or not at all.
+// Numbers of 8, 16 and 32 bits read from byte slices, low byte first. Nothing here asks anything of its caller: a place may be
+// anywhere, and a number is read there whole or not at all.
 ghost use mathlib.Core.Path.{_≡_};
 ghost use mathlib.Core.List.{[], _∷_};
 ghost use lib.ListN.{getD};
-ghost use Rattle.formats.specs.Numbers.{bytesOf, numberOf, numberAt};
-ghost use Rattle.formats.specs.Written.{written};
+ghost use Rattle.formats.specs.Numbers.{numberOf, numberAt};
 
 // The number that two bytes stand for.
 fn word16(b0: u8, b1: u8) -> u16
@@ -56,55 +55,4 @@ pub fn read32(s: &[u8], at: usize) -> u32
         return word32(s[at], s[at + 1], s[at + 2], s[at + 3]);
     }
     0
-}
-
-// Writes the two bytes of n at a place, or nothing where they do not fit.
-pub fn write16(s: &mut [u8], at: usize, n: u16)
-    ensures { λ _. ⌜ now (s .exit) ≡ written (now (s .entry)) at (bytesOf 2 n) ⌝ }
-{
-    let len = s.len();
-    if len < 2 {
-        return;
-    }
-    if at <= len - 2 {
-        s[at] = (n % 256) as u8;
-        s[at + 1] = (n / 256 % 256) as u8;
-    }
-}
-
-// Writes the four bytes of n at a place, or nothing where they do not all fit.
-pub fn write32(s: &mut [u8], at: usize, n: u32)
-    ensures { λ _. ⌜ now (s .exit) ≡ written (now (s .entry)) at (bytesOf 4 n) ⌝ }
-{
-    let len = s.len();
-    if len < 4 {
-        return;
-    }
-    if at <= len - 4 {
-        let n1 = n / 256;
-        let n2 = n1 / 256;
-        let n3 = n2 / 256;
-        s[at] = (n % 256) as u8;
-        s[at + 1] = (n1 % 256) as u8;
-        s[at + 2] = (n2 % 256) as u8;
-        s[at + 3] = (n3 % 256) as u8;
-    }
-}
-
-// Writes bytes at a place, or nothing where they do not all fit.
-pub fn write_bytes(s: &mut [u8], at: usize, from: &[u8])
-    ensures { λ _. ⌜ now (s .exit) ≡ written (now (s .entry)) at (now (from .entry)) ⌝ }
-{
-    let n = from.len();
-    let room = s.len();
-    if room < n {
-        return;
-    }
-    if at <= room - n {
-        let mut k = 0;
-        while k < n {
-            s[at + k] = from[k];
-            k = k + 1;
-        }
-    }
 }

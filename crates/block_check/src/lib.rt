@@ -1,0 +1,98 @@
+// One block of a program file: the sum of its words, and the row "each block" for it.
+use refusal::Refusal;
+use refusal::Verdict;
+ghost use Prim.Native.Nat.{_%_};
+ghost use mathlib.Core.Path.{_≡_};
+ghost use lib.ListN.{take, drop};
+ghost use Rattle.formats.specs.Results.{verdict};
+ghost use Rattle.formats.specs.Blocks.{wordLimit, wordSum, zeros, usedFits, fieldsFit, usedOf};
+ghost use Rattle.refusal.specs.Said.{said};
+
+const RECORD_BYTES: usize = 8;
+
+const BLOCK_RECORDS: u16 = 63;
+
+// The bytes of a block's records.
+const PART_BYTES: usize = 504;
+
+const NUMBER_PLACE: usize = 504;
+
+const USED_PLACE: usize = 506;
+
+const BLOCKS_PLACE: usize = 508;
+
+// What a block's words sum to, modulo 65,536.
+const CHECK_SUM: u16 = 65535;
+
+// The sum of the 16-bit words of a slice, modulo 65,536.
+pub fn word_sum(s: &[u8]) -> u16
+    ensures { λ r. ⌜ r ≡ wordSum (now (s .entry)) % wordLimit ⌝ }
+{
+    let n = s.len() / 2;
+    let mut sum: u16 = 0;
+    let mut k = 0;
+    while k < n {
+        sum = std::num::wrapping_add_u16(sum, words::read16(s, 2 * k));
+        k = k + 1;
+    }
+    sum
+}
+
+// Whether every byte from one place up to another is zero.
+fn zero_between(s: &[u8], from: usize, to: usize) -> bool
+    ensures { λ r. ⌜ r ≡ zeros (drop from (take to (now (s .entry)))) ⌝ }
+{
+    let mut i = from;
+    while i < to {
+        if words::read8(s, i) != 0 {
+            return false;
+        }
+        i = i + 1;
+    }
+    true
+}
+
+// Whether the block with number j of so many may use so many records.
+fn used_fits(blocks: u16, j: u16, used: u16) -> bool
+    ensures { λ r. ⌜ r ≡ usedFits blocks j used ⌝ }
+{
+    if (j as u32) + 1 < (blocks as u32) {
+        return used == BLOCK_RECORDS;
+    }
+    if used < 1 {
+        return false;
+    }
+    used <= BLOCK_RECORDS
+}
+
+// Whether the fields other than the check, and the unused records, are right.
+fn fields_fit(block: &[u8], blocks: u16, j: u16) -> bool
+    ensures { λ r. ⌜ r ≡ fieldsFit blocks j (now (block .entry)) ⌝ }
+{
+    let number = words::read16(block, NUMBER_PLACE);
+    let used = words::read16(block, USED_PLACE);
+    let count = words::read16(block, BLOCKS_PLACE);
+    if number != j {
+        return false;
+    }
+    if !used_fits(blocks, j, used) {
+        return false;
+    }
+    if count != blocks {
+        return false;
+    }
+    zero_between(block, RECORD_BYTES * (used as usize), PART_BYTES)
+}
+
+// The row "each block" for the block with number j of so many: the check, then the other fields and the unused records.
+pub fn block_row(block: &[u8], blocks: u16, j: u16) -> Verdict
+    ensures { λ r. ⌜ said r ≡ verdict (usedOf blocks j (now (block .entry))) ⌝ }
+{
+    if word_sum(block) != CHECK_SUM {
+        return Verdict::Refused(Refusal::BlockCheck, j as usize);
+    }
+    if fields_fit(block, blocks, j) {
+        return Verdict::Passed;
+    }
+    Verdict::Refused(Refusal::BlockField, j as usize)
+}

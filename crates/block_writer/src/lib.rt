@@ -1,0 +1,100 @@
+// Blocks of a program file written: flat records laid into blocks.
+use refusal::Filled;
+use refusal::Refusal;
+ghost use Prim.Native.Nat.{_+_, _*_, _-_, _≤_};
+ghost use mathlib.Core.Path.{_≡_};
+ghost use mathlib.Core.List.{_++_};
+ghost use lib.ListN.{length, take, drop, replicate};
+ghost use Rattle.formats.specs.Written.{written};
+ghost use Rattle.formats.specs.Blocks.{blockBytes, partBytes, blockBody, blockOf, blocksFor, fileOf, within};
+ghost use Rattle.refusal.specs.Put.{Put};
+
+const RECORD_BYTES: usize = 8;
+
+const BLOCK_BYTES: usize = 512;
+
+// The bytes of a block's records.
+const PART_BYTES: usize = 504;
+
+const NUMBER_PLACE: usize = 504;
+
+const USED_PLACE: usize = 506;
+
+const BLOCKS_PLACE: usize = 508;
+
+const CHECK_PLACE: usize = 510;
+
+// How many values a 16-bit word has.
+const WORD_LIMIT: usize = 65536;
+
+// What a block's words sum to, modulo 65,536.
+const CHECK_SUM: u16 = 65535;
+
+// Writes the records of a block at a place, and zeros for those that it does not use.
+fn write_records(file: &mut [u8], start: usize, part: &[u8])
+    requires { ⌜ (start + blockBytes ≤ length (now file)) × (length (now part) ≤ partBytes) ⌝ }
+    ensures { λ _. ⌜ now (file .exit) ≡ written (now (file .entry)) start (now (part .entry) ++ replicate (partBytes - length (now (part .entry))) 0) ⌝ }
+{
+    let zeros = [0u8; PART_BYTES];
+    let bytes = part.len();
+    writing::write_bytes(file, start, part);
+    writing::write_bytes(file, start + bytes, &zeros[bytes..]);
+}
+
+// Writes a block but for its check at a place: its records, and its fields behind them.
+fn write_body(file: &mut [u8], start: usize, part: &[u8], blocks: usize, j: usize)
+    requires { ⌜ (start + blockBytes ≤ length (now file)) × (length (now part) ≤ partBytes) ⌝ }
+    ensures { λ _. ⌜ now (file .exit) ≡ written (now (file .entry)) start (blockBody (now (part .entry)) j blocks) ⌝ }
+{
+    let used = part.len() / RECORD_BYTES;
+    write_records(file, start, part);
+    writing::write16(file, start + NUMBER_PLACE, (j % WORD_LIMIT) as u16);
+    writing::write16(file, start + USED_PLACE, used as u16);
+    writing::write16(file, start + BLOCKS_PLACE, (blocks % WORD_LIMIT) as u16);
+}
+
+// Writes one block at a place, with the check word that makes its words sum to 65,535.
+fn write_block(file: &mut [u8], start: usize, part: &[u8], blocks: usize, j: usize)
+    requires { ⌜ (start + blockBytes ≤ length (now file)) × (length (now part) ≤ partBytes) ⌝ }
+    ensures { λ _. ⌜ now (file .exit) ≡ written (now (file .entry)) start (blockOf (now (part .entry)) j blocks) ⌝ }
+{
+    write_body(file, start, part, blocks, j);
+    let sum = block_check::word_sum(&file[start..start + CHECK_PLACE]);
+    writing::write16(file, start + CHECK_PLACE, CHECK_SUM - sum);
+}
+
+// The flat records that go into block j.
+fn part_of(flat: &[u8], j: usize) -> &[u8]
+    requires { ⌜ partBytes * j ≤ length (now flat) ⌝ }
+    ensures { λ r. ⌜ now r ≡ take partBytes (drop (partBytes * j) (now (flat .entry))) ⌝ }
+{
+    let start = PART_BYTES * j;
+    if flat.len() - start < PART_BYTES {
+        return &flat[start..];
+    }
+    &flat[start..start + PART_BYTES]
+}
+
+// Writes the file of flat records, so many blocks, to the start of a lent buffer that has room for it.
+fn write_blocks(flat: &[u8], blocks: usize, file: &mut [u8])
+    requires { ⌜ (blocks ≡ blocksFor (length (now flat))) × (blockBytes * blocks ≤ length (now file)) ⌝ }
+    ensures { λ _. ⌜ now (file .exit) ≡ written (now (file .entry)) 0 (fileOf (now (flat .entry))) ⌝ }
+{
+    let mut j = 0;
+    while j < blocks {
+        write_block(file, BLOCK_BYTES * j, part_of(flat, j), blocks, j);
+        j = j + 1;
+    }
+}
+
+// The file of flat records, written to the start of a lent buffer; 13 where it is too short.
+pub fn lay_out(flat: &[u8], file: &mut [u8]) -> Filled
+    ensures { λ r. ⌜ Put (within (length (now (file .entry))) (fileOf (now (flat .entry)))) (now (file .entry)) (now (file .exit)) r ⌝ }
+{
+    let blocks = (flat.len() + (PART_BYTES - 1)) / PART_BYTES;
+    if file.len() / BLOCK_BYTES < blocks {
+        return Filled::Refused(Refusal::SpaceTooShort, 0);
+    }
+    write_blocks(flat, blocks, file);
+    Filled::Written(BLOCK_BYTES * blocks)
+}

@@ -1,2 +1,0 @@
--- What a call that fills a lent buffer answers.
-pub mod Put

@@ -1,0 +1,20 @@
+-- What a call that fills a lent buffer answers: a refusal leaves the buffer, and bytes that are there are written.
+use Prim.Native.Nat.{ℕ}
+use mathlib.Core.List.{List}
+use mathlib.Core.Path.{_≡_, refl, sym, ap}
+use lib.ListN.{length}
+use Rattle.formats.specs.Results.{Result, done, refusal}
+use Rattle.formats.specs.Blocks.{lent}
+use Rattle.formats.specs.Written.{written}
+use Rattle.refusal.specs.declared.Refusal.{Refusal}
+use Rattle.refusal.specs.Number.{number}
+use Rattle.refusal.specs.Put.{Put}
+use Rattle.refusal.specs.declared.Filled.the-variants.{Written, Refused}
+
+pub put-refused : (due : Result (List ℕ)) (before : List ℕ) (why : Refusal) (place : ℕ) → due ≡ refusal (number why) place → Put due before before (Refused why place)
+unfolding lent
+put-refused due before why place e = rw e (record { answer = refl; buffer = refl })
+
+pub put-done : (due : Result (List ℕ)) (before after bytes : List ℕ) (n : ℕ) → due ≡ done bytes → length bytes ≡ n → after ≡ written before 0 bytes → Put due before after (Written n)
+unfolding lent
+put-done due before after bytes n e size wrote = rw e (record { answer = ap done (sym size); buffer = wrote })

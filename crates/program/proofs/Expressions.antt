@@ -17,7 +17,8 @@ use Rattle.formats.specs.Rows.{headerIn, arityIn, nodeIn, exprsOf, exactlyOne}
 use Rattle.formats.proofs.Results.{each-inv, each-none, each-behind}
 use Rattle.formats.proofs.Records.{node-below}
 use Rattle.formats.proofs.Prefix.{Height, height-short, height-step, none-stays, one-of, not-one-of, none-of}
-use Rattle.program.specs.Prefix.{partsIn, Arities, IsOne}
+use Rattle.nodes.specs.Parts.{partsIn}
+use Rattle.program.specs.Prefix.{Arities, IsOne}
 
 -- a node that was read has as many parts as the code counts: it calls one of the functions
 parts-agree : (s : List ℕ) (arity : ℕ → ℕ) (kind : Kind) → Arities s arity → below (headerIn s .functions) kind ≡ true

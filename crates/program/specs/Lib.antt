@@ -1,3 +1,2 @@
--- What the rows' functions answer.
-pub mod Fields
+-- What the functions of the row "prefix form" answer.
 pub mod Prefix

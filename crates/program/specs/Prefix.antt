@@ -4,14 +4,10 @@ use mathlib.Core.Bool.{Bool}
 use mathlib.Core.List.{List}
 use mathlib.Core.Path.{_≡_}
 use Rattle.formats.specs.Refusals.{prefixForm}
-use Rattle.formats.specs.Results.{Result, done, refusal, verdict, check, each}
-use Rattle.formats.specs.Records.{Kind, partsOf, partCount}
+use Rattle.formats.specs.Results.{Result, done, verdict, check, each}
+use Rattle.formats.specs.Records.{Kind}
 use Rattle.formats.specs.Programs.{Signature}
 use Rattle.formats.specs.Rows.{headerIn, arityIn, functionRow, nodeIn, nodeRow, exprsOf, exactlyOne, prefixRow}
-
--- How many parts record k has; 0 where it is no node.
-unfoldable pub partsIn : List ℕ → ℕ → ℕ
-partsIn s k = elim (nodeIn s k) [ done kind ↦ partCount (arityIn s) (partsOf kind) | refusal number place ↦ 0 ]
 
 -- The number parameters of each function are those that its record says.
 abbrev pub Arities : List ℕ → (ℕ → ℕ) → Type 0

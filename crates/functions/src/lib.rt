@@ -1,0 +1,89 @@
+// The row "functions" over flat records, 8 bytes each.
+use refusal::Refusal;
+use refusal::Verdict;
+ghost use Prim.Native.Nat.{suc};
+ghost use mathlib.Core.Path.{_≡_};
+ghost use Rattle.formats.specs.Programs.{mostParameters};
+ghost use Rattle.formats.specs.Refusals.{functionField};
+ghost use Rattle.formats.specs.Results.{check, each, verdict};
+ghost use Rattle.formats.specs.Rows.{headerIn, functionIn, functionRow};
+ghost use Rattle.refusal.specs.Said.{said};
+ghost use Rattle.functions.specs.Counts.{countsFrom};
+
+const RECORD_BYTES: usize = 8;
+
+const MOST_PARAMETERS: u8 = 4;
+
+// The largest number of a function's sort: 0 number, 1 tree.
+const MOST_SORT: u8 = 1;
+
+// The most number parameters of function j.
+fn most_parameters(j: u16) -> u8
+    ensures { λ r. ⌜ r ≡ mostParameters j ⌝ }
+{
+    if j == 0 {
+        return 0;
+    }
+    MOST_PARAMETERS
+}
+
+// Whether the fields of function j's record are right.
+fn function_fits(flat: &[u8], j: u16) -> bool
+    ensures { λ r. ⌜ check r functionField (suc j) tt ≡ verdict (functionIn (now (flat .entry)) j) ⌝ }
+{
+    if MOST_SORT < signatures::sort_number(flat, j) {
+        return false;
+    }
+    if most_parameters(j) < signatures::parameters(flat, j) {
+        return false;
+    }
+    if signatures::count(flat, j) == 0 {
+        return false;
+    }
+    words::read32(flat, RECORD_BYTES * (1 + (j as usize)) + 4) == 0
+}
+
+// The fields of the function records, so many.
+fn function_fields(flat: &[u8], functions: u16) -> Verdict
+    ensures { λ r. ⌜ said r ≡ verdict (each (functionIn (now (flat .entry))) functions 0) ⌝ }
+{
+    let mut j: u16 = 0;
+    while j < functions {
+        if !function_fits(flat, j) {
+            return Verdict::Refused(Refusal::FunctionField, (j as usize) + 1);
+        }
+        j = j + 1;
+    }
+    Verdict::Passed
+}
+
+// The sum of the node counts. It is exact: counts of 16 bits, fewer than 65,536 of them.
+fn count_sum(flat: &[u8], functions: u16) -> usize
+    ensures { λ r. ⌜ r ≡ countsFrom functions (now (flat .entry)) 0 ⌝ }
+{
+    let mut sum = 0;
+    let mut j: u16 = 0;
+    while j < functions {
+        sum = sum + (signatures::count(flat, j) as usize);
+        j = j + 1;
+    }
+    sum
+}
+
+// The row "functions": the fields of each record, then the sum of the counts.
+pub fn function_row(flat: &[u8]) -> Verdict
+    ensures { λ r. ⌜ said r ≡ verdict (functionRow (headerIn (now (flat .entry))) (now (flat .entry))) ⌝ }
+{
+    let functions = words::read8(flat, 1) as u16;
+    let nodes = words::read16(flat, 2) as usize;
+    let fields = function_fields(flat, functions);
+    match fields {
+        Verdict::Refused(why, place) => Verdict::Refused(why, place),
+        Verdict::Passed => {
+            if count_sum(flat, functions) == nodes {
+                return Verdict::Passed;
+            }
+            Verdict::Refused(Refusal::FunctionField, functions as usize)
+        }
+    }
+}

@@ -1,0 +1,2 @@
+-- What the functions over nodes answer.
+pub mod Parts

@@ -1,0 +1,57 @@
+// The row "nodes" over flat records, 8 bytes each, and how many parts a node has.
+use records::Parts;
+use records::RecordRead;
+use refusal::Verdict;
+ghost use mathlib.Core.Path.{_≡_};
+ghost use Rattle.formats.specs.Records.{partCount};
+ghost use Rattle.formats.specs.Results.{verdict};
+ghost use Rattle.formats.specs.Rows.{headerIn, arityIn, nodeRow};
+ghost use Rattle.refusal.specs.Said.{said};
+ghost use Rattle.records.specs.Read.{listed};
+ghost use Rattle.nodes.specs.Parts.{partsIn};
+
+// The row "nodes".
+pub fn node_row(flat: &[u8]) -> Verdict
+    ensures { λ r. ⌜ said r ≡ verdict (nodeRow (headerIn (now (flat .entry))) (now (flat .entry))) ⌝ }
+{
+    let functions = words::read8(flat, 1) as usize;
+    let nodes = words::read16(flat, 2) as usize;
+    let end = 1 + functions + nodes;
+    let mut k = 1 + functions;
+    while k < end {
+        let found = records::record_at(flat, k);
+        match found {
+            RecordRead::Read(node, parts) => {
+                k = k + 1;
+            }
+            RecordRead::Refused(why, place) => {
+                return Verdict::Refused(why, place);
+            }
+        }
+    }
+    Verdict::Passed
+}
+
+// How many parts these are.
+fn part_count(flat: &[u8], parts: Parts) -> usize
+    ensures { λ r. ⌜ r ≡ partCount (arityIn (now (flat .entry))) (listed parts) ⌝ }
+{
+    match parts {
+        Parts::None => 0,
+        Parts::One(p) => 1,
+        Parts::Two(p, q) => 2,
+        Parts::Three(p, q, r) => 3,
+        Parts::Arguments(b) => signatures::parameters(flat, b) as usize,
+    }
+}
+
+// How many parts record k has; 0 where it is refused.
+pub fn parts_at(flat: &[u8], k: usize) -> usize
+    ensures { λ r. ⌜ r ≡ partsIn (now (flat .entry)) k ⌝ }
+{
+    let found = records::record_at(flat, k);
+    match found {
+        RecordRead::Read(node, parts) => part_count(flat, parts),
+        RecordRead::Refused(why, place) => 0,
+    }
+}

@@ -24,9 +24,11 @@ unfolding placesOf
 length-places (done bytes) = refl
 length-places (refusal n q) = refl
 
+-- ---- `store`
+
 -- two stores from the first place on are the two numbers written there
-stored : (before : List ℕ) (a b : ℕ) → answerPlaces ≤ length before → set (set before 0 a) 1 b ≡ written before 0 (a ∷ b ∷ [])
-stored before a b h = written-sets before 0 (a ∷ b ∷ []) h
+pub stored : (before : List ℕ) (place bytes : ℕ) → answerPlaces ≤ length before → set (set before 0 place) 1 bytes ≡ written before 0 (place ∷ bytes ∷ [])
+stored before place bytes h = written-sets before 0 (place ∷ bytes ∷ []) h
 
 -- ---- the answer
 
@@ -36,35 +38,35 @@ too-few due before r h e = record {
   places = sym (written-short before 0 (placesOf due) (rw length-places h));
 }
 
-all-done : (due : Result ℕ) (before : List ℕ) (bytes : ℕ) → answerPlaces ≤ length before → due ≡ done bytes → Answers due before (set (set before 0 0) 1 bytes) 0
-unfolding refusalOf placesOf
-all-done due before bytes h e = record { number = rw (le-ltb _ _ h, e); places = rw e (stored before 0 bytes h) }
+module _ (due : Result ℕ) (before after : List ℕ) (r : ℕ) (h : answerPlaces ≤ length before) where
+  all-done : (bytes : ℕ) → due ≡ done bytes → r ≡ 0 → after ≡ written before 0 (0 ∷ bytes ∷ []) → Answers due before after r
+  unfolding refusalOf placesOf
+  all-done bytes e is wrote = record { number = rw (le-ltb _ _ h, e) is; places = rw e wrote }
 
-a-refusal : (due : Result ℕ) (before : List ℕ) (n q : ℕ) → answerPlaces ≤ length before → due ≡ refusal n q → Answers due before (set (set before 0 q) 1 0) n
-unfolding refusalOf placesOf
-a-refusal due before n q h e = record { number = rw (le-ltb _ _ h, e); places = rw e (stored before q 0 h) }
+  a-refusal : (n place : ℕ) → due ≡ refusal n place → r ≡ n → after ≡ written before 0 (place ∷ 0 ∷ []) → Answers due before after r
+  unfolding refusalOf placesOf
+  a-refusal n place e is wrote = record { number = rw (le-ltb _ _ h, e) is; places = rw e wrote }
 
--- ---- the tree reader
+  -- ---- the tree reader
 
-pub tree-done : (due : Result ℕ) (before : List ℕ) (found : TreeAnswer) (o : ℕ) → answerPlaces ≤ length before → treeAnswered found ≡ due → found ≡ Tree o
-    → Answers due before (set (set before 0 0) 1 o) 0
-tree-done due before found o h told case = all-done due before o h (sym told ∙ ap treeAnswered case)
+  pub tree-done : (found : TreeAnswer) (end : ℕ) → treeAnswered found ≡ due → found ≡ Tree end → r ≡ 0 → after ≡ written before 0 (0 ∷ end ∷ []) → Answers due before after r
+  tree-done found end told case = all-done end (sym told ∙ ap treeAnswered case)
 
-pub tree-refused : (due : Result ℕ) (before : List ℕ) (found : TreeAnswer) (why : Refusal) (q r : ℕ) → answerPlaces ≤ length before → treeAnswered found ≡ due
-    → found ≡ TreeRefused why q → r ≡ number why → Answers due before (set (set before 0 q) 1 0) r
-tree-refused due before found why q r h told case is = rw is (a-refusal due before (number why) q h (sym told ∙ ap treeAnswered case))
+  pub tree-refused : (found : TreeAnswer) (why : Refusal) (place n : ℕ) → treeAnswered found ≡ due → found ≡ TreeRefused why place → n ≡ number why → r ≡ n
+      → after ≡ written before 0 (place ∷ 0 ∷ []) → Answers due before after r
+  tree-refused found why place n told case is same = a-refusal (number why) place (sym told ∙ ap treeAnswered case) (same ∙ is)
 
 pub ruleset tree-ways = (too-few, tree-done, tree-refused)
 
 -- ---- calls that fill a buffer
 
-pub filled-done : (before : List ℕ) (filled : Filled) (bytes : ℕ) → answerPlaces ≤ length before → filled ≡ Written bytes
-    → Answers (answered filled) before (set (set before 0 0) 1 bytes) 0
-filled-done before filled bytes h case = all-done (answered filled) before bytes h (ap answered case)
+module _ (before after : List ℕ) (filled : Filled) (r : ℕ) (h : answerPlaces ≤ length before) where
+  pub filled-done : (bytes : ℕ) → filled ≡ Written bytes → r ≡ 0 → after ≡ written before 0 (0 ∷ bytes ∷ []) → Answers (answered filled) before after r
+  filled-done bytes case = all-done (answered filled) before after r h bytes (ap answered case)
 
-pub filled-refused : (before : List ℕ) (filled : Filled) (why : Refusal) (q r : ℕ) → answerPlaces ≤ length before → filled ≡ Refused why q → r ≡ number why
-    → Answers (answered filled) before (set (set before 0 q) 1 0) r
-filled-refused before filled why q r h case is = rw is (a-refusal (answered filled) before (number why) q h (ap answered case))
+  pub filled-refused : (why : Refusal) (place n : ℕ) → filled ≡ Refused why place → n ≡ number why → r ≡ n → after ≡ written before 0 (place ∷ 0 ∷ [])
+      → Answers (answered filled) before after r
+  filled-refused why place n case is same = a-refusal (answered filled) before after r h (number why) place (ap answered case) (same ∙ is)
 
 pub ruleset filled-ways = (filled-done, filled-refused)
 

@@ -3,10 +3,12 @@ use refusal::Filled;
 use refusal::Refusal;
 use tree::TreeAnswer;
 ghost use Prim.Native.Nat.{_≤_};
+ghost use mathlib.Core.List.{[], _∷_};
 ghost use mathlib.Core.Path.{_≡_};
 ghost use lib.ListN.{length};
 ghost use Rattle.formats.specs.Blocks.{readInto, writeInto};
 ghost use Rattle.formats.specs.Tokens.{firstEnd, firstTree, ownBytes};
+ghost use Rattle.formats.specs.Written.{written};
 ghost use Rattle.refusal.specs.Put.{answered};
 ghost use Rattle.hogvax_c.specs.Answer.{answerPlaces, Answers, Fills};
 
@@ -22,6 +24,16 @@ pub extern "C" fn hogvax_tree_bytes(input: &[u8]) -> usize
     own.len()
 }
 
+// Stores a refusal's place and a number of bytes as the answer's first two places, and gives the refusal's number.
+fn store(answer: &mut [u64], number: u32, place: usize, bytes: usize) -> u32
+    requires { ⌜ answerPlaces ≤ length (now answer) ⌝ }
+    ensures { λ r. ⌜ (r ≡ number) × (now (answer .exit) ≡ written (now (answer .entry)) 0 (place ∷ bytes ∷ [])) ⌝ }
+{
+    answer[0] = place as u64;
+    answer[1] = bytes as u64;
+    number
+}
+
 // The refusal's number, 0 where there is a tree; the refusal's place and the tree's length go to the answer's first
 // two places. With fewer places: 13, and the answer is untouched.
 #[no_mangle]
@@ -33,16 +45,8 @@ pub extern "C" fn hogvax_tree(input: &[u8], answer: &mut [u64]) -> u32
     }
     let found = tree::tree_answer(input);
     match found {
-        TreeAnswer::Tree(end) => {
-            answer[0] = 0;
-            answer[1] = end as u64;
-            0
-        }
-        TreeAnswer::Refused(why, place) => {
-            answer[0] = place as u64;
-            answer[1] = 0;
-            refusal::number_of(why)
-        }
+        TreeAnswer::Tree(end) => store(answer, 0, 0, end),
+        TreeAnswer::Refused(why, place) => store(answer, refusal::number_of(why), place, 0),
     }
 }
 
@@ -52,16 +56,8 @@ fn tell(filled: Filled, answer: &mut [u64]) -> u32
     ensures { λ r. ⌜ Answers (answered filled) (now (answer .entry)) (now (answer .exit)) r ⌝ }
 {
     match filled {
-        Filled::Written(bytes) => {
-            answer[0] = 0;
-            answer[1] = bytes as u64;
-            0
-        }
-        Filled::Refused(why, place) => {
-            answer[0] = place as u64;
-            answer[1] = 0;
-            refusal::number_of(why)
-        }
+        Filled::Written(bytes) => store(answer, 0, 0, bytes),
+        Filled::Refused(why, place) => store(answer, refusal::number_of(why), place, 0),
     }
 }
 

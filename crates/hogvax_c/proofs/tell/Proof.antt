@@ -4,14 +4,43 @@ use Rattle.hogvax_c.proofs.Laws.{filled-ways}
 use Rattle.hogvax_c.proofs.tell.Statement.{statement}
 use Rattle.hogvax_c.proofs.tell.Tie as tie
 
+enum-known-filled : tie.Need-enum-known-filled
+enum-known-filled c = search needs
+
+store-requires : tie.Need-store-requires
+store-requires c κs = search needs
+
+enum-known-filled-2 : tie.Need-enum-known-filled-2
+enum-known-filled-2 c = search needs
+
+number-of-requires : tie.Need-number-of-requires
+number-of-requires c κs = search needs
+
+store-requires-2 : tie.Need-store-requires-2
+store-requires-2 c κs = search needs
+
+same-length : tie.Need-same-length
+same-length c = search needs
+
+returns : tie.Need-returns
+returns c = search filled-ways
+
+same-length-2 : tie.Need-same-length-2
+same-length-2 c = search needs
+
+returns-2 : tie.Need-returns-2
+returns-2 c = search filled-ways
+
 pub tell-spec : {M : Type 1} → statement M
 tell-spec =
     tie.close
     (tie.spec
-    (λ c. search needs) (λ c. search needs) (λ c. search needs) (λ c. search needs)
-    (λ c. search needs) (λ c. search needs)
-    (λ c κs. search needs)
-    (λ c. search needs)
-    (λ c. search filled-ways)
-    (λ c. search needs)
-    (λ c. search filled-ways))
+    enum-known-filled
+    store-requires
+    enum-known-filled-2
+    number-of-requires
+    store-requires-2
+    same-length
+    returns
+    same-length-2
+    returns-2)

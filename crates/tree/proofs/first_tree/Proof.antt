@@ -1,4 +1,4 @@
--- `tree::first_tree` meets its contract: what `tree_end` tells is the first tree's end, and the bytes up to it are its own, since each element of
+-- `tree::first_tree` meets its contract: what `first_end` tells is the first tree's end, and the bytes up to it are its own, since each element of
 -- the input is a byte.
 use borrow.Author.Needs.{needs}
 use native.Mathlib.Omega.{arith}
@@ -9,15 +9,15 @@ use Rattle.tree.proofs.Laws.{first-told}
 use Rattle.tree.proofs.first_tree.Statement.{statement}
 use Rattle.tree.proofs.first_tree.Tie as tie
 
-tree-end-requires : tie.Need-tree-end-requires
-tree-end-requires c κs = search needs
+first-end-requires : tie.Need-first-end-requires
+first-end-requires c κs = search needs
 
 slice-aggregate-result : tie.Need-slice-aggregate-result
 slice-aggregate-result c = search (needs, length-take-le)
 
 returns : tie.Need-returns
 returns c =
-    let bytes : Bytes (now (c .before .before .before .before .before .args .t1)) = λ i. omega (arith, c .before .before .before .before .shared-slice-known .given i) in
+    let bytes : Bytes (now (c .before .before .before .before .args .input)) = λ i. omega (arith, c .before .before .before .shared-slice-known .given i) in
     search first-told
 
 slice-aggregate-result-2 : tie.Need-slice-aggregate-result-2
@@ -29,4 +29,4 @@ returns-2 c = search first-told
 pub first-tree-spec : {M : Type 1} → statement M
 first-tree-spec =
     tie.close
-    (tie.spec tree-end-requires slice-aggregate-result returns slice-aggregate-result-2 returns-2)
+    (tie.spec first-end-requires slice-aggregate-result returns slice-aggregate-result-2 returns-2)

@@ -1,11 +1,11 @@
--- `tree::tree_answer` meets its contract: what `tree_end` tells is the first tree's end, or where it is refused.
+-- `tree::tree_answer` meets its contract: what `first_end` tells is the first tree's end, or where it is refused.
 use borrow.Author.Needs.{needs}
 use Rattle.tree.proofs.Laws.{first-told}
 use Rattle.tree.proofs.tree_answer.Statement.{statement}
 use Rattle.tree.proofs.tree_answer.Tie as tie
 
-tree-end-requires : tie.Need-tree-end-requires
-tree-end-requires c κs = search needs
+first-end-requires : tie.Need-first-end-requires
+first-end-requires c κs = search needs
 
 returns : tie.Need-returns
 returns c = search first-told
@@ -21,4 +21,4 @@ returns-2 c = search first-told
 
 pub tree-answer-spec : {M : Type 1} → statement M
 tree-answer-spec =
-    tie.close (tie.spec tree-end-requires returns sub-refusal-at refusal-at-requires returns-2)
+    tie.close (tie.spec first-end-requires returns sub-refusal-at refusal-at-requires returns-2)

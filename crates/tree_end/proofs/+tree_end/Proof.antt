@@ -5,14 +5,14 @@ use Prim.Native.Nat.{ℕ, _<_, _+_, _-_}
 use native.Mathlib.Omega.{arith}
 use denote.Ref.{now}
 use lib.ListN.{length}
-use Rattle.tree.proofs.Laws.{ends-told, told-behind}
+use Rattle.tree_end.proofs.Laws.{ends-told, told-behind}
 use borrow.Fn.Kinds.{In}
 use borrow.Fn.PlainCycle.{Measures, is, falls, and}
-use Rattle.tree.proofs.tree_end.Reads as tree-end
-use Rattle.tree.proofs.tree_end.Kinds as tree-end-kinds
-use Rattle.tree.proofs.+tree_end.Lts-tree_end as tree-end-lts
-use Rattle.tree.proofs.+tree_end.{statement}
-use Rattle.tree.proofs.+tree_end.Tie.{close}
+use Rattle.tree_end.proofs.tree_end.Reads as tree-end
+use Rattle.tree_end.proofs.tree_end.Kinds as tree-end-kinds
+use Rattle.tree_end.proofs.+tree_end.Lts-tree_end as tree-end-lts
+use Rattle.tree_end.proofs.+tree_end.{statement}
+use Rattle.tree_end.proofs.+tree_end.Tie.{close}
 
 abbrev μ-tree-end : Measures 2 tree-end-kinds.ps ℕ
 μ-tree-end κs a = length (now (now (a .0))) - a .1 .0

@@ -1,0 +1,2 @@
+-- What the functions that find the end of a tree answer.
+pub mod Told

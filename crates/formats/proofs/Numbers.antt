@@ -1,15 +1,15 @@
 -- Bytes of a number and back, both ways, over every width. Each goes by recursion on the width or the bytes: a number is its low byte and 256
 -- times the rest.
-use Prim.Native.Nat.{ℕ, zero, suc, _+_, _*_, _/_, _%_, _^_, _≤_, _<_}
+use Prim.Native.Nat.{ℕ, zero, suc, _+_, _-_, _*_, _/_, _%_, _^_, _≤_, _<_}
 use mathlib.Core.List.{List, [], _∷_, _++_}
 use mathlib.Core.Path.{_≡_, refl, sym, ap, ap₂, _∙_}
-use native.Mathlib.Nat.{mod-lt, one-le-pow, add-zero, mod-add-div, div-lt-iff-lt-mul, add-mul-mod-self-left, mod-eq-of-lt, add-mul-div-left, div-eq-of-lt, pow-suc, mul-comm, zero-add, lt-of-lt-of-le, pow-le-pow-right, le-of-suc-le-suc}
+use native.Mathlib.Nat.{mod-lt, one-le-pow, add-zero, add-suc, mod-add-div, div-lt-iff-lt-mul, add-mul-mod-self-left, mod-eq-of-lt, add-mul-div-left, div-eq-of-lt, pow-suc, mul-comm, zero-add, lt-of-lt-of-le, pow-le-pow-right, le-of-suc-le-suc}
 use native.Mathlib.Decide.{decLe}
 use native.Mathlib.Omega.{arith}
 use borrow.Author.Tests.{le-leb, lt-leb}
 use lib.Dec.{lit<}
-use lib.ListN.{length, take, drop, length-append, length-take, length-drop}
-use lib.Seq.{getD-drop, drop-append-add, take-at}
+use lib.ListN.{length, getD, take, drop, length-append, length-take, length-drop}
+use lib.Seq.{drop-cons, getD-drop, drop-append-add, take-at}
 use Rattle.formats.specs.Places.{Opens}
 use Rattle.formats.specs.Numbers.{Bytes, bytesOf, numberOf, numberAt}
 
@@ -134,3 +134,32 @@ numberAt-there width n xs s p e h =
     ∙ numberAt-whole width (bytesOf width n ++ s) 0 long
     ∙ ap numberOf (take-at (bytesOf width n) s width (length-bytesOf width n))
     ∙ number-bytesOf width n h
+
+-- ---- numbers read by single bytes
+
+-- as many bytes of s as the width says, from k places behind p on
+abbrev pub bytesFrom : ℕ → List ℕ → ℕ → ℕ → List ℕ
+bytesFrom zero s p k = []
+bytesFrom (suc width) s p k = getD s (p + k) 0 ∷ bytesFrom width s p (suc k)
+
+-- they are the part of s there
+part-from : (width : ℕ) (s : List ℕ) (p k : ℕ) → p + k + width ≤ length s → take width (drop (p + k) s) ≡ bytesFrom width s p k
+part-from zero s p k h = refl
+part-from (suc width) s p k h =
+    rw (drop-cons s (p + k) 0 (omega arith), ← (add-suc p k)) (ap (λ (l : List ℕ). getD s (p + k) 0 ∷ l) (part-from width s p (suc k) (omega arith)))
+
+-- a number made of these bytes is the number at the place
+pub number-read :
+    (width : ℕ) (s : List ℕ) (p : ℕ) (bs : List ℕ) (r : ℕ)
+    → width ≤ length s
+    → p ≤ length s - width
+    → r ≡ numberOf bs
+    → bs ≡ bytesFrom width s p 0
+    → r ≡ numberAt width s p
+number-read width s p bs r some whole made same =
+    let there : take width (drop p s) ≡ bytesFrom width s p 0 = rw add-zero at (part-from width s p 0 (omega arith)) in
+    made ∙ ap numberOf (same ∙ sym there) ∙ sym (numberAt-whole width s p (omega arith))
+
+-- a number that is not whole reads as 0
+pub number-cut : (width : ℕ) (s : List ℕ) (p : ℕ) → length s < p + width → 0 ≡ numberAt width s p
+number-cut width s p cut = sym (numberAt-cut width s p cut)

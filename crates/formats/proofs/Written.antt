@@ -12,7 +12,9 @@ use native.Mathlib.Omega.{arith}
 use lib.ListN.{length, getD, take, drop, set, length-append, length-drop, length-set, take-append-drop, List·getD-append}
 use lib.Seq.{length-take-le, getD-take, getD-drop, getD-append-add, take-append-seam, drop-append-add, drop-drop, set-split, sets}
 use borrow.Author.Tests.{le-leb, lt-leb}
+use Rattle.formats.specs.Numbers.{bytesOf}
 use Rattle.formats.specs.Written.{written, Wrote}
+use Rattle.formats.proofs.Numbers.{length-bytesOf}
 
 -- what is left where vs fits ..
 pub written-fits : (s : List ℕ) (p : ℕ) (vs : List ℕ) → p + length vs ≤ length s → written s p vs ≡ take p s ++ (vs ++ drop (p + length vs) s)
@@ -109,3 +111,11 @@ written-sets s p (v ∷ vs) fits =
     let rest : suc p + length vs ≤ length (set s p v) = omega (arith, length-set s p v) in
     let here : p < length s = omega arith in
     written-sets (set s p v) (suc p) vs rest ∙ (rw (written-one s p v here, ← (add-one p)) (written-append s p (v ∷ []) vs fits))
+
+-- a number's bytes, set one after the other, are the number written
+pub number-written : (width : ℕ) (s : List ℕ) (p n : ℕ) → p + width ≤ length s → sets s p (bytesOf width n) ≡ written s p (bytesOf width n)
+number-written width s p n fits = written-sets s p (bytesOf width n) (rw length-bytesOf fits)
+
+-- a buffer in which a number does not fit is as if it had been written
+pub number-short : (width : ℕ) (s : List ℕ) (p n : ℕ) → length s < p + width → s ≡ written s p (bytesOf width n)
+number-short width s p n short = sym (written-short s p (bytesOf width n) (rw length-bytesOf short))

@@ -40,7 +40,7 @@ fn function_fits(flat: &[u8], j: u16) -> bool
     if signatures::count(flat, j) == 0 {
         return false;
     }
-    words::read32(flat, RECORD_BYTES * (1 + (j as usize)) + 4) == 0
+    words32::read32(flat, RECORD_BYTES * (1 + (j as usize)) + 4) == 0
 }
 
 // The fields of the function records, so many.

@@ -48,7 +48,7 @@ pub fn header_row(flat: &[u8]) -> Verdict
     let edition = words::read8(flat, 0);
     let functions = words::read8(flat, 1) as usize;
     let nodes = words::read16(flat, 2) as usize;
-    let rest = words::read32(flat, 4);
+    let rest = words32::read32(flat, 4);
     if header_fits(edition, functions, nodes, rest, flat.len()) {
         return Verdict::Passed;
     }

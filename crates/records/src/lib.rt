@@ -149,7 +149,7 @@ pub fn record_at(flat: &[u8], k: usize) -> RecordRead
     let kind = words::read8(flat, p);
     let a = words::read8(flat, p + 1);
     let b = words::read16(flat, p + 2);
-    let i = words::read32(flat, p + 4);
+    let i = words32::read32(flat, p + 4);
     let functions = words::read8(flat, 1);
     record_of(kind, a, b, i, functions, k)
 }

@@ -1,2 +1,2 @@
--- The laws of the bytes of a number read, which the functions' proofs cite.
+-- The law that the functions' proofs cite.
 pub mod Bytes

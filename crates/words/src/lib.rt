@@ -1,5 +1,5 @@
-// Numbers of 8, 16 and 32 bits read from byte slices, low byte first. Nothing here asks anything of its caller: a place may be
-// anywhere, and a number is read there whole or not at all.
+// Bytes and 16-bit words read from byte slices, low byte first. Nothing here asks anything of its caller: a place may be anywhere, and a
+// number is read there whole or not at all.
 ghost use mathlib.Core.Path.{_≡_};
 ghost use mathlib.Core.List.{[], _∷_};
 ghost use lib.ListN.{getD};
@@ -10,13 +10,6 @@ fn word16(b0: u8, b1: u8) -> u16
     ensures { λ r. ⌜ r ≡ numberOf (b0 ∷ b1 ∷ []) ⌝ }
 {
     (b0 as u16) + 256 * (b1 as u16)
-}
-
-// The number that four bytes stand for.
-fn word32(b0: u8, b1: u8, b2: u8, b3: u8) -> u32
-    ensures { λ r. ⌜ r ≡ numberOf (b0 ∷ b1 ∷ b2 ∷ b3 ∷ []) ⌝ }
-{
-    (b0 as u32) + 256 * ((b1 as u32) + 256 * ((b2 as u32) + 256 * (b3 as u32)))
 }
 
 // The byte at a place, or 0 where there is none.
@@ -39,20 +32,6 @@ pub fn read16(s: &[u8], at: usize) -> u16
     }
     if at <= n - 2 {
         return word16(s[at], s[at + 1]);
-    }
-    0
-}
-
-// The 32-bit number at a place, or 0 where the slice does not hold it whole.
-pub fn read32(s: &[u8], at: usize) -> u32
-    ensures { λ r. ⌜ r ≡ numberAt 4 (now (s .entry)) at ⌝ }
-{
-    let n = s.len();
-    if n < 4 {
-        return 0;
-    }
-    if at <= n - 4 {
-        return word32(s[at], s[at + 1], s[at + 2], s[at + 3]);
     }
     0
 }

@@ -1,2 +1,2 @@
--- The laws of the bytes of a number written, which the functions' proofs cite.
-pub mod Bytes
+-- The laws that the functions' proofs cite.
+pub mod Copied

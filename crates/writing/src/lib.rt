@@ -1,5 +1,5 @@
-// Numbers of 16 and 32 bits written into byte slices, low byte first, and bytes copied into them. Nothing here asks anything of
-// its caller: a place may be anywhere, and what is written there is written whole or not at all.
+// 16-bit words written into byte slices, low byte first, and bytes copied into them. Nothing here asks anything of its caller: a place may
+// be anywhere, and what is written there is written whole or not at all.
 ghost use mathlib.Core.Path.{_≡_};
 ghost use Rattle.formats.specs.Numbers.{bytesOf};
 ghost use Rattle.formats.specs.Written.{written};
@@ -15,25 +15,6 @@ pub fn write16(s: &mut [u8], at: usize, n: u16)
     if at <= len - 2 {
         s[at] = (n % 256) as u8;
         s[at + 1] = (n / 256 % 256) as u8;
-    }
-}
-
-// Writes the four bytes of n at a place, or nothing where they do not all fit.
-pub fn write32(s: &mut [u8], at: usize, n: u32)
-    ensures { λ _. ⌜ now (s .exit) ≡ written (now (s .entry)) at (bytesOf 4 n) ⌝ }
-{
-    let len = s.len();
-    if len < 4 {
-        return;
-    }
-    if at <= len - 4 {
-        let n1 = n / 256;
-        let n2 = n1 / 256;
-        let n3 = n2 / 256;
-        s[at] = (n % 256) as u8;
-        s[at + 1] = (n1 % 256) as u8;
-        s[at + 2] = (n2 % 256) as u8;
-        s[at + 3] = (n3 % 256) as u8;
     }
 }
 

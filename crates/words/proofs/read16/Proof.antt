@@ -3,7 +3,7 @@
 use native.Mathlib.Nat.{add-zero}
 use native.Mathlib.Omega.{arith}
 use borrow.Author.Needs.{needs}
-use Rattle.words.proofs.Bytes.{number-read, number-cut}
+use Rattle.formats.proofs.Numbers.{number-read, number-cut}
 use Rattle.words.proofs.read16.Statement.{statement}
 use Rattle.words.proofs.read16.Tie as tie
 

@@ -5,7 +5,7 @@ use native.Mathlib.Omega.{arith}
 use lib.ListN.{length-set}
 use borrow.Author.Needs.{needs}
 use Rattle.formats.specs.Numbers.{bytesOf}
-use Rattle.writing.proofs.Bytes.{number-written, number-short}
+use Rattle.formats.proofs.Written.{number-written, number-short}
 use Rattle.writing.proofs.write16.Statement.{statement}
 use Rattle.writing.proofs.write16.Tie as tie
 

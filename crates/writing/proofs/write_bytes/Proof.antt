@@ -1,7 +1,7 @@
 -- `writing::write_bytes` meets its contract. Before each turn as many bytes as were passed stand where they belong; what is left of them falls.
 use Prim.Native.Nat.{_-_}
 use lib.ListN.{length}
-use Rattle.writing.proofs.Bytes.{Copied, copied}
+use Rattle.writing.proofs.Copied.{Copied, copied}
 use borrow.Author.Needs.{needs}
 use Rattle.writing.proofs.write_bytes.Statement.{statement}
 use Rattle.writing.proofs.write_bytes.Tie as tie

@@ -1,9 +1,9 @@
--- `words::word32` meets its contract: the sum is the one by which `numberOf` is defined, and bytes are small enough for it to fit.
+-- `words32::word32` meets its contract: the sum is the one by which `numberOf` is defined, and bytes are small enough for it to fit.
 use Rattle.formats.specs.Numbers.{numberOf}
 use native.Mathlib.Omega.{arith}
 use borrow.Author.Needs.{needs}
-use Rattle.words.proofs.word32.Statement.{statement}
-use Rattle.words.proofs.word32.Tie as tie
+use Rattle.words32.proofs.word32.Statement.{statement}
+use Rattle.words32.proofs.word32.Tie as tie
 
 pub word32-spec : {M : Type 1} → statement M
 unfolding numberOf

@@ -1,11 +1,11 @@
--- `words::read32` meets its contract. Where the number is whole, the bytes read are those from the place on, and they stand for the number there.
+-- `words32::read32` meets its contract. Where the number is whole, the bytes read are those from the place on, and they stand for the number there.
 -- Elsewhere it reads as 0.
 use native.Mathlib.Nat.{add-zero}
 use native.Mathlib.Omega.{arith}
 use borrow.Author.Needs.{needs}
-use Rattle.words.proofs.Bytes.{number-read, number-cut}
-use Rattle.words.proofs.read32.Statement.{statement}
-use Rattle.words.proofs.read32.Tie as tie
+use Rattle.formats.proofs.Numbers.{number-read, number-cut}
+use Rattle.words32.proofs.read32.Statement.{statement}
+use Rattle.words32.proofs.read32.Tie as tie
 
 pub read32-spec : {M : Type 1} → statement M
 read32-spec =

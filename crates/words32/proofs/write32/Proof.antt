@@ -1,13 +1,13 @@
--- `writing::write32` meets its contract. Where the number fits, its bytes are set one after the other; a store keeps the length, so each is in range.
+-- `words32::write32` meets its contract. Where the number fits, its bytes are set one after the other; a store keeps the length, so each is in range.
 -- Elsewhere nothing is set, and nothing is to be written.
 use native.Mathlib.Numerals.{towards-suc}
 use native.Mathlib.Omega.{arith}
 use lib.ListN.{length-set}
 use borrow.Author.Needs.{needs}
 use Rattle.formats.specs.Numbers.{bytesOf}
-use Rattle.writing.proofs.Bytes.{number-written, number-short}
-use Rattle.writing.proofs.write32.Statement.{statement}
-use Rattle.writing.proofs.write32.Tie as tie
+use Rattle.formats.proofs.Written.{number-written, number-short}
+use Rattle.words32.proofs.write32.Statement.{statement}
+use Rattle.words32.proofs.write32.Tie as tie
 
 pub write32-spec : {M : Type 1} → statement M
 unfolding bytesOf

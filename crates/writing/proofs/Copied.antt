@@ -1,24 +1,12 @@
--- Writing by single bytes, over every width. A number's bytes, set one after the other, are the number written, and so are copied bytes.
+-- Bytes copied one after the other are the bytes written.
 use Prim.Native.Nat.{ℕ, _+_, _-_, _≤_, _<_}
 use mathlib.Core.List.{List, [], _∷_, _++_}
 use mathlib.Core.Path.{_≡_, refl, sym, ap, _∙_}
 use native.Mathlib.Omega.{arith}
 use lib.ListN.{length, getD, take, set, length-append, length-set}
-use lib.Seq.{drop-cons, sets, length-take-le, take-add, take-all}
-use Rattle.formats.specs.Numbers.{bytesOf}
+use lib.Seq.{drop-cons, length-take-le, take-add, take-all}
 use Rattle.formats.specs.Written.{written}
-use Rattle.formats.proofs.Numbers.{length-bytesOf}
-use Rattle.formats.proofs.Written.{wrote, written-none, written-one, written-append, written-sets, written-short}
-
--- a number's bytes, set one after the other, are the number written
-pub number-written : (width : ℕ) (s : List ℕ) (p n : ℕ) → p + width ≤ length s → sets s p (bytesOf width n) ≡ written s p (bytesOf width n)
-number-written width s p n fits = written-sets s p (bytesOf width n) (rw length-bytesOf fits)
-
--- a buffer in which a number does not fit is as if it had been written
-pub number-short : (width : ℕ) (s : List ℕ) (p n : ℕ) → length s < p + width → s ≡ written s p (bytesOf width n)
-number-short width s p n short = sym (written-short s p (bytesOf width n) (rw length-bytesOf short))
-
--- ---- bytes copied one after the other
+use Rattle.formats.proofs.Written.{wrote, written-none, written-one, written-append, written-short}
 
 -- t is s with the first k bytes of vs written at p
 pub record Copied (s : List ℕ) (p : ℕ) (vs t : List ℕ) (k : ℕ) : Type 0 where

@@ -1,2 +1,2 @@
 -- What the exported functions answer.
-pub mod Answer
+pub mod Fills

@@ -1,17 +1,17 @@
--- `hogvax_c::tell` meets its contract: a law of proofs/Laws.antt for each way out.
+-- `answers::tell_tree` meets its contract: a law of proofs/Laws.antt for each way out.
 use borrow.Author.Needs.{needs}
-use Rattle.hogvax_c.proofs.Laws.{filled-ways}
-use Rattle.hogvax_c.proofs.tell.Statement.{statement}
-use Rattle.hogvax_c.proofs.tell.Tie as tie
+use Rattle.answers.proofs.Laws.{tree-ways}
+use Rattle.answers.proofs.tell_tree.Statement.{statement}
+use Rattle.answers.proofs.tell_tree.Tie as tie
 
-enum-known-filled : tie.Need-enum-known-filled
-enum-known-filled c = search needs
+enum-known-found : tie.Need-enum-known-found
+enum-known-found c = search needs
 
 store-requires : tie.Need-store-requires
 store-requires c κs = search needs
 
-enum-known-filled-2 : tie.Need-enum-known-filled-2
-enum-known-filled-2 c = search needs
+enum-known-found-2 : tie.Need-enum-known-found-2
+enum-known-found-2 c = search needs
 
 number-of-requires : tie.Need-number-of-requires
 number-of-requires c κs = search needs
@@ -23,21 +23,21 @@ same-length : tie.Need-same-length
 same-length c = search needs
 
 returns : tie.Need-returns
-returns c = search filled-ways
+returns c = search tree-ways
 
 same-length-2 : tie.Need-same-length-2
 same-length-2 c = search needs
 
 returns-2 : tie.Need-returns-2
-returns-2 c = search filled-ways
+returns-2 c = search tree-ways
 
-pub tell-spec : {M : Type 1} → statement M
-tell-spec =
+pub tell-tree-spec : {M : Type 1} → statement M
+tell-tree-spec =
     tie.close
     (tie.spec
-    enum-known-filled
+    enum-known-found
     store-requires
-    enum-known-filled-2
+    enum-known-found-2
     number-of-requires
     store-requires-2
     same-length

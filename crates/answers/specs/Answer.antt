@@ -1,4 +1,4 @@
--- The exported functions' answers: a number, and the places of a lent answer.
+-- What a call answers: a number, and the places of a lent answer.
 use Prim.Native.Nat.{ℕ}
 use mathlib.Core.Bool.{true, false}
 use mathlib.Core.List.{List, [], _∷_}
@@ -6,9 +6,8 @@ use mathlib.Core.Path.{_≡_}
 use lib.Dec.{ltb}
 use lib.ListN.{length}
 use Rattle.formats.specs.Refusals.{spaceTooShort}
-use Rattle.formats.specs.Results.{Result, done, refusal, onValue}
+use Rattle.formats.specs.Results.{Result, done, refusal}
 use Rattle.formats.specs.Written.{written}
-use Rattle.formats.specs.Blocks.{lent}
 
 -- How many places the answer takes.
 abbrev pub answerPlaces : ℕ
@@ -24,13 +23,13 @@ unfoldable pub placesOf : Result ℕ → List ℕ
 placesOf (done bytes) = 0 ∷ bytes ∷ []
 placesOf (refusal number place) = place ∷ 0 ∷ []
 
+-- A number given and two places stored: 13 where there are too few, which are then untouched.
+pub record Stores (number place bytes : ℕ) (before after : List ℕ) (r : ℕ) : Type 0 where
+  pub given : r ≡ elim (ltb (length before) answerPlaces) [ true ↦ spaceTooShort | false ↦ number ]
+  pub places : after ≡ written before 0 (place ∷ bytes ∷ [])
+
 -- A call that answers with so many bytes, or a refusal, and what its answer's places then hold: 13 where there are too few, which are then
 -- untouched.
 pub record Answers (due : Result ℕ) (before after : List ℕ) (r : ℕ) : Type 0 where
   pub number : r ≡ elim (ltb (length before) answerPlaces) [ true ↦ spaceTooShort | false ↦ refusalOf due ]
   pub places : after ≡ written before 0 (placesOf due)
-
--- A call that fills a lent buffer besides. Where the answer has too few places, the buffer is untouched too.
-pub record Fills (due : Result (List ℕ)) (buffer filled before after : List ℕ) (r : ℕ) : Type 0 where
-  pub answers : Answers (onValue length due) before after r
-  pub holds : filled ≡ elim (ltb (length before) answerPlaces) [ true ↦ buffer | false ↦ lent buffer due ]

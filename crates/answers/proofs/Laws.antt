@@ -1,0 +1,70 @@
+-- What a call answers, a law for each way out of the functions that tell it.
+use Prim.Native.Nat.{ℕ, _≤_, _<_}
+use mathlib.Core.List.{List, [], _∷_}
+use mathlib.Core.Path.{_≡_, refl, sym, ap, subst, _∙_}
+use borrow.Author.Tests.{lt-ltb, le-ltb}
+use lib.ListN.{length, set}
+use Rattle.formats.specs.Refusals.{spaceTooShort}
+use Rattle.formats.specs.Results.{Result, done, refusal}
+use Rattle.formats.specs.Written.{written}
+use Rattle.formats.proofs.Written.{written-sets, written-short}
+use Rattle.refusal.specs.declared.Refusal.{Refusal}
+use Rattle.refusal.specs.Number.{number}
+use Rattle.refusal.specs.Put.{answered}
+use Rattle.refusal.specs.declared.Filled.{Filled}
+use Rattle.refusal.specs.declared.Filled.the-variants.{Written, Refused}
+use Rattle.tree.specs.Answer.{answered as treeAnswered}
+use Rattle.tree.specs.declared.TreeAnswer.{TreeAnswer}
+use Rattle.tree.specs.declared.TreeAnswer.the-variants.{Tree, Refused as TreeRefused}
+use Rattle.answers.specs.Answer.{answerPlaces, refusalOf, placesOf, Stores, Answers}
+
+-- ---- `store`
+
+module _ (n place bytes : ℕ) (before : List ℕ) where
+  pub store-short : (r : ℕ) → length before < answerPlaces → r ≡ spaceTooShort → Stores n place bytes before before r
+  store-short r h e = record { given = rw (lt-ltb _ _ h) e; places = sym (written-short before 0 (place ∷ bytes ∷ []) h) }
+
+  -- two stores from the first place on are the two numbers written there
+  pub store-done : answerPlaces ≤ length before → Stores n place bytes before (set (set before 0 place) 1 bytes) n
+  store-done h = record { given = rw (le-ltb _ _ h) refl; places = written-sets before 0 (place ∷ bytes ∷ []) h }
+
+pub ruleset store-ways = (store-short, store-done)
+
+-- ---- the answers
+
+-- an answer takes as many places as it says
+length-places : (due : Result ℕ) → length (placesOf due) ≡ answerPlaces
+unfolding placesOf
+length-places (done bytes) = refl
+length-places (refusal n q) = refl
+
+-- too few places
+pub too-few : (due : Result ℕ) (before : List ℕ) (r : ℕ) → length before < answerPlaces → r ≡ spaceTooShort → Answers due before before r
+too-few due before r h e = record { number = rw (lt-ltb _ _ h) e; places = sym (written-short before 0 (placesOf due) (rw length-places h)) }
+
+module _ (before after : List ℕ) (r : ℕ) where
+  all-done : (due : Result ℕ) (bytes : ℕ) → due ≡ done bytes → Stores 0 0 bytes before after r → Answers due before after r
+  unfolding refusalOf placesOf
+  all-done due bytes e s = subst (λ (d : Result ℕ). Answers d before after r) (sym e) (record { number = s .given; places = s .places })
+
+  a-refusal : (due : Result ℕ) (n place : ℕ) → due ≡ refusal n place → Stores n place 0 before after r → Answers due before after r
+  unfolding refusalOf placesOf
+  a-refusal due n place e s = subst (λ (d : Result ℕ). Answers d before after r) (sym e) (record { number = s .given; places = s .places })
+
+  pub tree-done : (found : TreeAnswer) (end : ℕ) → found ≡ Tree end → Stores 0 0 end before after r → Answers (treeAnswered found) before after r
+  tree-done found end case = all-done (treeAnswered found) end (ap treeAnswered case)
+
+  pub tree-refused : (found : TreeAnswer) (why : Refusal) (place n : ℕ) → found ≡ TreeRefused why place → n ≡ number why → Stores n place 0 before after r
+      → Answers (treeAnswered found) before after r
+  tree-refused found why place n case is = a-refusal (treeAnswered found) n place (ap treeAnswered case ∙ ap (λ m. refusal m place) (sym is))
+
+  pub filled-done : (filled : Filled) (bytes : ℕ) → filled ≡ Written bytes → Stores 0 0 bytes before after r → Answers (answered filled) before after r
+  filled-done filled bytes case = all-done (answered filled) bytes (ap answered case)
+
+  pub filled-refused : (filled : Filled) (why : Refusal) (place n : ℕ) → filled ≡ Refused why place → n ≡ number why → Stores n place 0 before after r
+      → Answers (answered filled) before after r
+  filled-refused filled why place n case is = a-refusal (answered filled) n place (ap answered case ∙ ap (λ m. refusal m place) (sym is))
+
+pub ruleset tree-ways = (tree-done, tree-refused)
+
+pub ruleset filled-ways = (filled-done, filled-refused)

@@ -1,0 +1,34 @@
+-- `answers::store` meets its contract: too few places, or two stores from the first one on.
+use borrow.Author.Needs.{needs}
+use Rattle.answers.proofs.Laws.{store-ways}
+use Rattle.answers.proofs.store.Statement.{statement}
+use Rattle.answers.proofs.store.Tie as tie
+
+number-of-requires : tie.Need-number-of-requires
+number-of-requires c κs = search needs
+
+returns : tie.Need-returns
+returns c = search store-ways
+
+slice-write-answer : tie.Need-slice-write-answer
+slice-write-answer c = search needs
+
+slice-write-answer-2 : tie.Need-slice-write-answer-2
+slice-write-answer-2 c = search needs
+
+same-length : tie.Need-same-length
+same-length c = search needs
+
+returns-2 : tie.Need-returns-2
+returns-2 c = search store-ways
+
+pub store-spec : {M : Type 1} → statement M
+store-spec =
+    tie.close
+    (tie.spec
+    number-of-requires
+    returns
+    slice-write-answer
+    slice-write-answer-2
+    same-length
+    returns-2)

@@ -1,0 +1,53 @@
+// The answer of a call from C or Rust: a number, and the first places of an array that the caller lends.
+use refusal::Filled;
+use refusal::Refusal;
+use tree::TreeAnswer;
+ghost use mathlib.Core.Path.{_≡_};
+ghost use lib.Dec.{leb};
+ghost use lib.ListN.{length};
+ghost use Rattle.refusal.specs.Put.{answered};
+ghost use Rattle.tree.specs.Answer.{answered as treeAnswered};
+ghost use Rattle.answers.specs.Answer.{answerPlaces, Stores, Answers};
+
+// How many places an answer takes. Later ones will stand behind these.
+const ANSWER_PLACES: usize = 2;
+
+// Whether so many places are lent.
+pub fn has_room(answer: &[u64]) -> bool
+    ensures { λ r. ⌜ r ≡ leb answerPlaces (length (now (answer .entry))) ⌝ }
+{
+    ANSWER_PLACES <= answer.len()
+}
+
+// Stores a refusal's place and a number of bytes as the answer's first two places, and gives the refusal's number. With fewer places: 13, and
+// the answer is untouched.
+fn store(answer: &mut [u64], number: u32, place: usize, bytes: usize) -> u32
+    ensures { λ r. ⌜ Stores number place bytes (now (answer .entry)) (now (answer .exit)) r ⌝ }
+{
+    if answer.len() < ANSWER_PLACES {
+        return refusal::number_of(Refusal::SpaceTooShort);
+    }
+    answer[0] = place as u64;
+    answer[1] = bytes as u64;
+    number
+}
+
+// The answer of the tree reader.
+pub fn tell_tree(found: TreeAnswer, answer: &mut [u64]) -> u32
+    ensures { λ r. ⌜ Answers (treeAnswered found) (now (answer .entry)) (now (answer .exit)) r ⌝ }
+{
+    match found {
+        TreeAnswer::Tree(end) => store(answer, 0, 0, end),
+        TreeAnswer::Refused(why, place) => store(answer, refusal::number_of(why), place, 0),
+    }
+}
+
+// The answer of a call that has filled a lent buffer, or refused to.
+pub fn tell(filled: Filled, answer: &mut [u64]) -> u32
+    ensures { λ r. ⌜ Answers (answered filled) (now (answer .entry)) (now (answer .exit)) r ⌝ }
+{
+    match filled {
+        Filled::Written(bytes) => store(answer, 0, 0, bytes),
+        Filled::Refused(why, place) => store(answer, refusal::number_of(why), place, 0),
+    }
+}

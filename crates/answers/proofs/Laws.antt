@@ -6,7 +6,6 @@ use borrow.Author.Tests.{lt-ltb, le-ltb}
 use lib.ListN.{length, set}
 use Rattle.formats.specs.Refusals.{spaceTooShort}
 use Rattle.formats.specs.Results.{Result, done, refusal}
-use Rattle.formats.specs.Written.{written}
 use Rattle.formats.proofs.Written.{written-sets, written-short}
 use Rattle.refusal.specs.declared.Refusal.{Refusal}
 use Rattle.refusal.specs.Number.{number}

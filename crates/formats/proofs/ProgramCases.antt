@@ -15,7 +15,7 @@ use Rattle.formats.specs.Blocks.{wordSum, checkWord, blockBody, blockOf,
 -- ---- Grow
 
 -- document 01's Grow: Case 0, Leaf, Add, Var 0, Const 1, Node, Call 0 on 1, Call 0 on 2
-grow : Program
+unfoldable pub grow : Program
 grow = record {
   edition = 1;
   functions = record {
@@ -39,7 +39,7 @@ unfolding readProgram headerRow headerFrom functionRow functionAt functionFrom s
 grow-parses = refl
 
 -- it is within the limits, so that what is proved of such programs is not empty
-grow-lawful : Lawful grow
+pub grow-lawful : Lawful grow
 unfolding grow total signatureOf size prefix prefixes arityOf nth mostParameters countArgs
 grow-lawful = record {
   edition = refl;

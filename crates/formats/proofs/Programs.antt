@@ -89,7 +89,7 @@ length-records program = simp (length-append, length-map, length-nodes)
 -- ---- the fields fit
 
 -- a property of the elements of two lists is one of those of the joined list ..
-every-append : {A : Type 0} (P : A → Type 0) (xs ys : List A) → Every P xs → Every P ys → Every P (xs ++ ys)
+pub every-append : {A : Type 0} (P : A → Type 0) (xs ys : List A) → Every P xs → Every P ys → Every P (xs ++ ys)
 every-append P [] ys h g = g
 every-append P (x ∷ xs) ys h g = (h .0, every-append P xs ys (h .1) g)
 

@@ -1,0 +1,14 @@
+-- Proofs of the statements in specs/. `Parts` and `Walks` are for the functions that walk a program's records.
+pub mod Splits
+pub mod Entries
+pub mod PassOne
+pub mod Words
+pub mod Typed
+pub mod PassTwo
+pub mod FirstFault
+pub mod Printed
+pub mod OrderChecker
+pub mod Parts
+pub mod Walks
+pub mod Cases
+pub mod Figure7

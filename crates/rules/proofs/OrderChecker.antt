@@ -1,0 +1,124 @@
+-- The order checker passes precisely what document 000's typing rules admit, within the limits: the proof of specs/OrderChecker.antt.
+use Prim.Native.Nat.{ℕ, zero, suc, _+_, _≤_, _<_}
+use mathlib.Core.List.{List, [], _∷_, _++_, append-nil}
+use mathlib.Core.Logic.{_↔_}
+use mathlib.Core.Path.{_≡_, refl, sym, ap, subst, _∙_}
+use native.Mathlib.Omega.{arith}
+use lib.Dec.{lit<}
+use Rattle.formats.specs.Results.{Result, done, refusal, andThen}
+use Rattle.formats.specs.Programs.{size, Signature, Function, Program, signatures, mostParameters, LawfulFunction, LawfulFunctions, Lawful}
+use Rattle.formats.proofs.Results.{done-not, then-done, then-inv}
+use Rattle.rules.specs.Types.{resultType}
+use Rattle.rules.specs.Typing.{Types, TypedFunction}
+use Rattle.rules.specs.Leftover.{InOrder}
+use Rattle.rules.specs.Scopes.{scope, startOf, entered, enteredAll}
+use Rattle.rules.specs.PassOne.{mostWords, wordsOf, passOver, passOne}
+use Rattle.rules.specs.PassTwo.{walk, noneLeft, walkAll, passTwo, order}
+use Rattle.rules.specs.OrderChecker.{firstNode, CheckedFunction, AdmittedFunction, AdmittedFrom, Admitted, Split, OrderChecker}
+use Rattle.rules.proofs.Splits.{splits, checks-types, no-longer, one-listing}
+use Rattle.rules.proofs.Entries.{in-prefix-order, one-by-one, part-types}
+use Rattle.rules.proofs.PassOne.{Passes, pass-one, pass-nothing, pass-left, pass-right, pass-both}
+use Rattle.rules.proofs.Words.{few-words}
+use Rattle.rules.proofs.Typed.{passes-one}
+use Rattle.rules.proofs.PassTwo.{walks, second, no-typing}
+use Rattle.rules.proofs.FirstFault.{pass-two, only-one}
+use Rattle.rules.proofs.Printed.{printed, fixed}
+
+-- ---- one function
+
+-- a function's parameters are few words
+few-parameters : (gs : List Signature) (j : ℕ) (f : Function) → LawfulFunction gs j f → f .parameters ≤ mostWords
+unfolding mostParameters
+few-parameters gs zero f l = omega (arith, l .few-parameters)
+few-parameters gs (suc j) f l = omega (arith, l .few-parameters)
+
+-- a walk that ends with no tree pending
+none-left : (r : ℕ) (Δ : List ℕ) → noneLeft r Δ ≡ done tt → Δ ≡ []
+unfolding noneLeft
+none-left r [] e = refl
+none-left r (x ∷ xs) e = done-not e refl
+
+module _ (gs : List Signature) (r : ℕ) (f : Function) where
+  unused-all : Split gs (f .parameters) 1 (0 ∷ []) (f .body) (resultType (f .sort)) [] → TypedFunction gs f
+  unused-all split = rw (split .joins ∙ append-nil (split .used)) (split .types)
+
+  admits :
+      (j : ℕ) → LawfulFunction gs j f → Passes gs (startOf f) r (f .body) → walk 1 r (0 ∷ []) (f .body) ≡ done [] → AdmittedFunction gs r f
+  unfolding startOf
+  admits j l one two =
+      let o = second gs (f .parameters) 1 (f .parameters) r (0 ∷ []) (resultType (f .sort)) (f .body) [] (l .applied) one two in
+      record {
+        typed = unused-all (checks-types (o .derivation));
+        few-words = few-words gs (f .parameters) 1 (f .parameters) r (resultType (f .sort)) (f .body) (l .applied) (few-parameters gs j f l) one;
+        derivation = o .derivation;
+        few-pending = o .few;
+      }
+
+  passes-first : AdmittedFunction gs r f → Passes gs (startOf f) r (f .body)
+  unfolding startOf
+  passes-first a =
+      passes-one gs (f .parameters) 1 (f .parameters) r (0 ∷ []) (resultType (f .sort)) (f .body) (a .typed) (lit< tt, tt) (a .few-words)
+
+  walks-through : AdmittedFunction gs r f → walk 1 r (0 ∷ []) (f .body) ≡ done []
+  walks-through a = walks (record { derivation = a .derivation; few = a .few-pending })
+
+-- ---- all functions
+
+admits-all :
+    (gs : List Signature) (j r : ℕ) (fs : List Function)
+    → LawfulFunctions gs j fs
+    → passOver gs (enteredAll r fs) ≡ done tt
+    → walkAll r fs ≡ done tt
+    → AdmittedFrom gs r fs
+unfolding enteredAll walkAll
+admits-all gs j r [] l one two = tt
+admits-all gs j r (f ∷ fs) l one two =
+    let body = then-inv (walk 1 r (0 ∷ []) (f .body)) _ tt two in
+    let through = then-inv (noneLeft r (body .value)) _ tt (body .second) in
+    let none : walk 1 r (0 ∷ []) (f .body) ≡ done [] = body .first ∙ ap done (none-left r (body .value) (through .first)) in
+    let here = entered (startOf f) r (f .body) in
+    let there = enteredAll (r + size (f .body)) fs in (
+      admits gs r f j (l .0) (pass-left gs here there one) none,
+      admits-all gs (suc j) (r + size (f .body)) fs (l .1) (pass-right gs here there one) (through .second),
+    )
+
+passes-all : (gs : List Signature) (r : ℕ) (fs : List Function) → AdmittedFrom gs r fs → passOver gs (enteredAll r fs) ≡ done tt
+unfolding enteredAll
+passes-all gs r [] a = pass-nothing gs
+passes-all gs r (f ∷ fs) a = pass-both gs _ _ (passes-first gs r f (a .0)) (passes-all gs (r + size (f .body)) fs (a .1))
+
+walks-all : (gs : List Signature) (r : ℕ) (fs : List Function) → AdmittedFrom gs r fs → walkAll r fs ≡ done tt
+unfolding walkAll noneLeft
+walks-all gs r [] a = refl
+walks-all gs r (f ∷ fs) a = then-done _ (walks-through gs r f (a .0)) ∙ walks-all gs (r + size (f .body)) fs (a .1)
+
+-- ---- programs
+
+admitted : (program : Program) → Lawful program → order program ≡ done tt → Admitted program
+unfolding order passOne passTwo
+admitted program l e =
+    let both = then-inv (passOne program) _ tt e in
+    admits-all (signatures program) 0 (firstNode program) (program .functions) (l .functions) (both .first) (both .second)
+
+passed : (program : Program) → Admitted program → order program ≡ done tt
+unfolding order passOne passTwo
+passed program a =
+    then-done (λ u. passTwo program) (passes-all (signatures program) (firstNode program) (program .functions) a)
+    ∙ walks-all (signatures program) (firstNode program) (program .functions) a
+
+pub order-checker : OrderChecker
+order-checker = record {
+  splits = splits;
+  passes = λ program l. (admitted program l, passed program);
+  no-longer = no-longer;
+  one-listing = one-listing;
+  part-types = part-types;
+  in-prefix-order = in-prefix-order;
+  one-by-one = one-by-one;
+  pass-one = pass-one;
+  pass-two = pass-two;
+  only-one = only-one;
+  no-typing = no-typing;
+  printed = printed;
+  fixed = fixed;
+}

@@ -1,0 +1,113 @@
+-- What holds of the order checker: the statements. They are proved in proofs/OrderChecker.antt.
+--
+-- Demand 2: "within the limits, the order checker passes precisely what document 000's typing rules admit, with document 01's for Let and IfZero".
+use Prim.Native.Nat.{ℕ, zero, suc, _+_, _≤_, _<_}
+use mathlib.Core.List.{List, [], _∷_, _++_, map}
+use mathlib.Core.Logic.{_↔_}
+use mathlib.Core.Path.{_≡_}
+use lib.ListN.{length}
+use Rattle.formats.specs.Refusals.{outOfOrder}
+use Rattle.formats.specs.Results.{done, refusal}
+use Rattle.formats.specs.Records.{Kind, partsOf}
+use Rattle.formats.specs.Programs.{Expr, size, Every, Signature, signatureOf, Function, Program, signatures, nodes, Lawful}
+use Rattle.rules.specs.Types.{Ty, resultType, functionType}
+use Rattle.rules.specs.Typing.{Types, TypedFunction}
+use Rattle.rules.specs.Leftover.{Checks, Line, lines, FewAtCase, NoLonger, InOrder, mostPending}
+use Rattle.rules.specs.Scopes.{Scope, inside, expectedIn, PartTyped, Entry, entry, enteredAll}
+use Rattle.rules.specs.PassOne.{mostWords, wordsOf, passOne, FirstFails}
+use Rattle.rules.specs.PassTwo.{passTwo, order}
+use Rattle.rules.specs.FirstFault.{FirstFault}
+use Rattle.rules.specs.Printed.{function, fix, Judges, functionTerm, JudgedFunction}
+
+-- The record behind the header and the function records.
+abbrev pub firstNode : Program → ℕ
+firstNode program = suc (length (program .functions))
+
+-- ---- what the rules admit
+
+-- A function's body, its first node at record r, by Figure 19, with no tree left over.
+abbrev pub CheckedFunction : List Signature → ℕ → Function → Type 0
+CheckedFunction gs r f = Checks gs (f .parameters) 1 r (0 ∷ []) (f .body) (resultType (f .sort)) []
+
+-- A function within the limits that has a derivation by Figure 6. The limit of 16 pending is of the whole list, so it is said of the derivation by
+-- Figure 19, whose lists those are: fewer than 16 at each Case.
+pub record AdmittedFunction (gs : List Signature) (r : ℕ) (f : Function) : Type 0 where
+  pub typed : TypedFunction gs f
+  pub few-words : wordsOf gs (f .parameters) (f .body) ≤ mostWords
+  pub derivation : CheckedFunction gs r f
+  pub few-pending : Every FewAtCase (lines derivation)
+
+-- Functions, the first node of the first at record r.
+abbrev pub AdmittedFrom : List Signature → ℕ → List Function → Type 0
+AdmittedFrom gs r [] = Unit {0}
+AdmittedFrom gs r (f ∷ fs) = AdmittedFunction gs r f × AdmittedFrom gs (r + size (f .body)) fs
+
+abbrev pub Admitted : Program → Type 0
+Admitted program = AdmittedFrom (signatures program) (firstNode program) (program .functions)
+
+-- An environment Δ splits as Δ₁, Δ′, and e is typed on Δ₁ by Figure 6.
+pub record Split (gs : List Signature) (g n : ℕ) (Δ : List ℕ) (e : Expr) (τ : Ty) (Δ′ : List ℕ) : Type 0 where
+  pub used : List ℕ
+  pub joins : Δ ≡ used ++ Δ′
+  pub types : Types gs g n used e τ
+
+-- Kinds stand at records one after the other, from r on.
+abbrev pub Numbered : ℕ → List Entry → Type 0
+Numbered r [] = Unit {0}
+Numbered r (entry sc k kind ∷ xs) = (k ≡ r) × Numbered (suc r) xs
+
+unfoldable pub kindIn : Entry → Kind
+kindIn (entry sc r kind) = kind
+
+-- ---- the theorems
+
+pub record OrderChecker : Type 0 where
+  -- Figure 19's judgement holds with Δ′ left over exactly where the environment splits as Δ₁, Δ′ with Figure 6's judgement on Δ₁. (000, 3.4: "The
+  -- relation means that Γ | Δ₁ ⊢ M : τ holds for Δ₁ such that Δ = Δ₁, Δ′.")
+  pub splits : (gs : List Signature) (g n r : ℕ) (Δ : List ℕ) (e : Expr) (τ : Ty) (Δ′ : List ℕ) → Checks gs g n r Δ e τ Δ′ ↔ Split gs g n Δ e τ Δ′
+  -- A program passes both passes exactly when every function body has a derivation by Figure 6 and stays within the limits.
+  pub passes : (program : Program) → Lawful program → (order program ≡ done tt) ↔ Admitted program
+  -- The limit of 16 pending, said otherwise: no list of the derivation is longer than 16.
+  pub no-longer :
+      (gs : List Signature) (g n r : ℕ) (Δ : List ℕ) (e : Expr) (τ : Ty) (Δ′ : List ℕ) (d : Checks gs g n r Δ e τ Δ′)
+      → length Δ ≤ mostPending
+      → Every FewAtCase (lines d) ↔ Every NoLonger (lines d)
+  -- A derivation's lines are determined by what is checked and the list before it.
+  pub one-listing :
+      (gs : List Signature) (g n r : ℕ) (Δ : List ℕ) (e : Expr) (τ : Ty) (Δ₁ Δ₂ : List ℕ) (d : Checks gs g n r Δ e τ Δ₁) (d′ : Checks gs g n r Δ e τ Δ₂)
+      → (Δ₁ ≡ Δ₂) × (lines d ≡ lines d′)
+  -- The types that pass one expects of a record's parts are those that the one match over the kinds gives them.
+  pub part-types : (kind : Kind) (i : ℕ) (sc : Scope) → PartTyped (partsOf kind) i (expectedIn sc) (expectedIn (inside kind i sc))
+  -- Pass one goes through the nodes in prefix order ..
+  pub in-prefix-order : (program : Program) → map kindIn (enteredAll (firstNode program) (program .functions)) ≡ nodes (program .functions)
+  pub one-by-one : (program : Program) → Numbered (firstNode program) (enteredAll (firstNode program) (program .functions))
+  -- .. and refuses 9, 8 or 10 at a record exactly where that condition first fails.
+  pub pass-one :
+      (program : Program) (number r : ℕ)
+      → (passOne program ≡ refusal number r) ↔ FirstFails (signatures program) (enteredAll (firstNode program) (program .functions)) number r
+  -- Pass two refuses at a record exactly where the first fault stands ..
+  pub pass-two :
+      (program : Program) (number r : ℕ)
+      → Lawful program
+      → passOne program ≡ done tt
+      → (passTwo program ≡ refusal number r) ↔ FirstFault (signatures program) (firstNode program) (program .functions) number r
+  -- .. and that is the only one.
+  pub only-one :
+      (program : Program) (number r number′ r′ : ℕ)
+      → Lawful program
+      → passOne program ≡ done tt
+      → FirstFault (signatures program) (firstNode program) (program .functions) number r
+      → FirstFault (signatures program) (firstNode program) (program .functions) number′ r′
+      → (number ≡ number′) × (r ≡ r′)
+  -- Where pass two refuses with 11, some function body has no derivation.
+  pub no-typing :
+      (program : Program) (r : ℕ)
+      → passTwo program ≡ refusal outOfOrder r
+      → Every (TypedFunction (signatures program)) (program .functions)
+      → ⊥
+  -- The rules in Typing admit the same functions as Figure 6 in printed form.
+  pub printed : (gs : List Signature) (f : Function) → TypedFunction gs f ↔ JudgedFunction gs (signatureOf f) f
+  -- Where there is one function, that is T-Fix itself: its fixed point has the function's type under no names.
+  pub fixed :
+      (f : Function)
+      → TypedFunction (signatureOf f ∷ []) f ↔ Judges [] [] (fix (function 0) (functionTerm f)) (functionType (signatureOf f))

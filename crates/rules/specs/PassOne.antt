@@ -1,0 +1,125 @@
+-- Document 01, "Checking": pass one. "Pass one, in prefix order, at each record: name bound, then type, then words."
+use Prim.Native.Nat.{ℕ, zero, suc, _<_, max}
+use mathlib.Core.Bool.{Bool, true, false}
+use mathlib.Core.List.{List, [], _∷_}
+use mathlib.Core.Option.{none, some}
+use mathlib.Core.Path.{_≡_}
+use lib.Dec.{ltb}
+use lib.ListN.{length}
+use Rattle.formats.specs.Refusals.{wrongType, notBound, tooManyWords}
+use Rattle.formats.specs.Results.{Result, done, andThen, check}
+use Rattle.formats.specs.Records.{Kind, Const, Var, Add, IfZero, Let, Leaf, Node, Case, Call, nth}
+use Rattle.formats.specs.Programs.{Expr, const, var, add, ifZero, letIn, leafOf, nodeOf, caseOf, call, Args, noArgs, arg, Sort, numberValued, treeValued, Signature, Program, signatures}
+use Rattle.rules.specs.Types.{Ty, isInt, isTree, fits}
+use Rattle.rules.specs.Scopes.{Scope, scope, Entry, entry, enteredAll}
+
+-- 01: "16 is the most".
+abbrev pub mostWords : ℕ
+mostWords = 16
+
+-- The name is bound.
+unfoldable pub named : Scope → Kind → Bool
+named (scope g n w τ) (Const i) = true
+named (scope g n w τ) (Var a) = ltb a g
+named (scope g n w τ) Add = true
+named (scope g n w τ) IfZero = true
+named (scope g n w τ) Let = true
+named (scope g n w τ) Leaf = true
+named (scope g n w τ) Node = true
+named (scope g n w τ) (Case a) = ltb a n
+named (scope g n w τ) (Call a b) = ltb a n
+
+-- The type is the one expected; IfZero, Let and Case have the type of their parts.
+unfoldable pub typed : List Signature → Scope → Kind → Bool
+typed gs (scope g n w τ) (Const i) = isInt τ
+typed gs (scope g n w τ) (Var a) = isInt τ
+typed gs (scope g n w τ) Add = isInt τ
+typed gs (scope g n w τ) IfZero = true
+typed gs (scope g n w τ) Let = true
+typed gs (scope g n w τ) Leaf = isTree τ
+typed gs (scope g n w τ) Node = isTree τ
+typed gs (scope g n w τ) (Case a) = true
+typed gs (scope g n w τ) (Call a b) = elim (nth gs b) [ none ↦ false | some s ↦ fits (s .sort) τ ]
+
+-- A number-valued function with no arguments.
+unfoldable pub bareNumber : Signature → Bool
+bareNumber s = elim (s .sort) [ treeValued ↦ false | numberValued ↦ elim (s .parameters) [ zero ↦ true | suc k ↦ false ] ]
+
+-- 01: "It is tested on entering Const, Var, Case, and a number-valued Call with no arguments: refused where 16 stand already."
+unfoldable pub wordsTested : List Signature → Kind → Bool
+wordsTested gs (Const i) = true
+wordsTested gs (Var a) = true
+wordsTested gs Add = false
+wordsTested gs IfZero = false
+wordsTested gs Let = false
+wordsTested gs Leaf = false
+wordsTested gs Node = false
+wordsTested gs (Case a) = true
+wordsTested gs (Call a b) = elim (nth gs b) [ none ↦ false | some s ↦ bareNumber s ]
+
+unfoldable pub roomy : List Signature → Scope → Kind → Bool
+roomy gs (scope g n w τ) kind = elim (wordsTested gs kind) [ true ↦ ltb w mostWords | false ↦ true ]
+
+-- A condition that holds, or its refusal at record r.
+abbrev pub holdsAt : Bool → ℕ → ℕ → Result (Unit {0})
+holdsAt condition number r = check condition number r tt
+
+-- A record's own tests.
+unfoldable pub atEntry : List Signature → Entry → Result (Unit {0})
+atEntry gs (entry sc r kind) =
+    andThen
+    (holdsAt (named sc kind) notBound r)
+    (λ u. andThen (holdsAt (typed gs sc kind) wrongType r) (λ v. holdsAt (roomy gs sc kind) tooManyWords r))
+
+unfoldable pub passOver : List Signature → List Entry → Result (Unit {0})
+passOver gs [] = done tt
+passOver gs (x ∷ xs) = andThen (atEntry gs x) (λ u. passOver gs xs)
+
+unfoldable pub passOne : Program → Result (Unit {0})
+passOne program = passOver (signatures program) (enteredAll (suc (length (program .functions))) (program .functions))
+
+-- ---- where a condition first fails
+
+-- One of the three conditions fails at a record, and those before it in the row hold.
+pub data Fails (gs : List Signature) : Entry → ℕ → ℕ → Type 0 where
+  name-not-bound : {sc : Scope} {r : ℕ} {kind : Kind} → named sc kind ≡ false → Fails gs (entry sc r kind) notBound r
+  wrong-type : {sc : Scope} {r : ℕ} {kind : Kind} → named sc kind ≡ true → typed gs sc kind ≡ false → Fails gs (entry sc r kind) wrongType r
+  too-many-words :
+      {sc : Scope} {r : ℕ} {kind : Kind}
+      → named sc kind ≡ true
+      → typed gs sc kind ≡ true
+      → roomy gs sc kind ≡ false
+      → Fails gs (entry sc r kind) tooManyWords r
+
+-- All three hold.
+pub data Holds (gs : List Signature) : Entry → Type 0 where
+  all-three : {sc : Scope} {r : ℕ} {kind : Kind} → named sc kind ≡ true → typed gs sc kind ≡ true → roomy gs sc kind ≡ true → Holds gs (entry sc r kind)
+
+-- The first record, in this order, at which a condition fails.
+pub data FirstFails (gs : List Signature) : List Entry → ℕ → ℕ → Type 0 where
+  here : {x : Entry} {xs : List Entry} {number r : ℕ} → Fails gs x number r → FirstFails gs (x ∷ xs) number r
+  later : {x : Entry} {xs : List Entry} {number r : ℕ} → Holds gs x → FirstFails gs xs number r → FirstFails gs (x ∷ xs) number r
+
+-- ---- the limit of 16 words
+
+-- 01: "The word count is that of the value stack above the frame's base". The most words that stand while an expression is taken, w on entering it. A
+-- number is left on a word.
+unfoldable pub valueWords : Sort → ℕ → ℕ
+valueWords numberValued w = suc w
+valueWords treeValued w = w
+
+unfoldable mutual
+  pub wordsOf : List Signature → ℕ → Expr → ℕ
+  wordsOf gs w (const i) = suc w
+  wordsOf gs w (var a) = suc w
+  wordsOf gs w (add p q) = max (wordsOf gs w p) (wordsOf gs (suc w) q)
+  wordsOf gs w (ifZero t z o) = max (wordsOf gs w t) (max (wordsOf gs w z) (wordsOf gs w o))
+  wordsOf gs w (letIn p body) = max (wordsOf gs w p) (wordsOf gs (suc w) body)
+  wordsOf gs w (leafOf p) = wordsOf gs w p
+  wordsOf gs w (nodeOf p q) = max (wordsOf gs w p) (wordsOf gs w q)
+  wordsOf gs w (caseOf a p q) = max (wordsOf gs (suc w) p) (wordsOf gs w q)
+  wordsOf gs w (call a b xs) = elim (nth gs b) [ none ↦ w | some s ↦ max (valueWords (s .sort) w) (wordsOfArgs gs w xs) ]
+
+  pub wordsOfArgs : List Signature → ℕ → Args → ℕ
+  wordsOfArgs gs w noArgs = w
+  wordsOfArgs gs w (arg x xs) = max (wordsOf gs w x) (wordsOfArgs gs (suc w) xs)

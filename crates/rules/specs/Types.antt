@@ -1,0 +1,42 @@
+-- Document 000, section 3.1: types.
+use Prim.Native.Nat.{ℕ, zero, suc}
+use mathlib.Core.Bool.{Bool, true, false}
+use Rattle.formats.specs.Programs.{Sort, numberValued, treeValued, Signature}
+
+-- 000, Definition 1: "Int | Tree^d | τ₁ → τ₂", d being − or +. "We write Tree⁻ for the type of input trees, and write Tree⁺ for the type of
+-- output trees."
+pub data Ty : Type 0 where
+  Int : Ty
+  Tree⁻ : Ty
+  Tree⁺ : Ty
+  arrow : Ty → Ty → Ty
+
+-- The type of a function's value.
+unfoldable pub resultType : Sort → Ty
+resultType numberValued = Int
+resultType treeValued = Tree⁺
+
+-- A function takes so many numbers, then its tree.
+unfoldable pub arrows : ℕ → Ty → Ty
+arrows zero result = arrow Tree⁻ result
+arrows (suc k) result = arrow Int (arrows k result)
+
+unfoldable pub functionType : Signature → Ty
+functionType s = arrows (s .parameters) (resultType (s .sort))
+
+unfoldable pub isInt : Ty → Bool
+isInt Int = true
+isInt Tree⁻ = false
+isInt Tree⁺ = false
+isInt (arrow σ τ) = false
+
+unfoldable pub isTree : Ty → Bool
+isTree Int = false
+isTree Tree⁻ = false
+isTree Tree⁺ = true
+isTree (arrow σ τ) = false
+
+-- A value of this sort has the type.
+unfoldable pub fits : Sort → Ty → Bool
+fits numberValued τ = isInt τ
+fits treeValued τ = isTree τ

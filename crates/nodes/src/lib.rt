@@ -33,7 +33,7 @@ pub fn node_row(flat: &[u8]) -> Verdict
 }
 
 // How many parts these are.
-fn part_count(flat: &[u8], parts: Parts) -> usize
+pub fn part_count(flat: &[u8], parts: Parts) -> usize
     ensures { λ r. ⌜ r ≡ partCount (arityIn (now (flat .entry))) (listed parts) ⌝ }
 {
     match parts {

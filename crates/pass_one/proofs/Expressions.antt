@@ -1,0 +1,167 @@
+-- The walk over an expression and over its parts: a law for each way out of `enter` and of `enter_parts`, and that the records left fall.
+use Prim.Native.Nat.{ℕ, suc, _+_, _-_, _*_, _≤_, _<_}
+use mathlib.Core.Bool.{true}
+use mathlib.Core.List.{List}
+use mathlib.Core.Path.{_≡_, refl, sym, ap, subst, _∙_}
+use native.Mathlib.Numerals.{add-one}
+use native.Mathlib.Omega.{arith}
+use lib.ListN.{length}
+use Rattle.formats.specs.Results.{Result, done, refusal, andThen, onValue}
+use Rattle.formats.specs.Records.{below, partCount}
+use Rattle.formats.specs.Programs.{Expr, size, Placed, partsAt, Signature}
+use Rattle.formats.specs.Rows.{headerIn, arityIn, nodeIn}
+use Rattle.formats.proofs.Results.{done-injective, done-not, then-done, then-refused, value-inv}
+use Rattle.formats.proofs.Records.{node-below}
+use Rattle.formats.proofs.Programs.{some-record}
+use Rattle.refusal.specs.Number.{number}
+use Rattle.refusal.specs.Said.{said}
+use Rattle.refusal.specs.declared.Refusal.{Refusal}
+use Rattle.refusal.specs.declared.Refusal.the-variants.{PrefixForm}
+use Rattle.refusal.specs.declared.Verdict.{Verdict}
+use Rattle.refusal.specs.declared.Verdict.the-variants.{Passed}
+use Rattle.refusal.specs.declared.Verdict.the-variants.{Refused as Refuses}
+use Rattle.records.specs.Read.{Shape, meant, listed, shapeOf, shaped, described}
+use Rattle.records.specs.declared.Parts.{Parts}
+use Rattle.records.specs.declared.Record.{Record}
+use Rattle.records.specs.declared.RecordRead.{RecordRead}
+use Rattle.records.specs.declared.RecordRead.the-variants.{Read}
+use Rattle.records.specs.declared.RecordRead.the-variants.{Refused as Unread}
+use Rattle.rules.specs.Scopes.{inside, entry, entered}
+use Rattle.rules.specs.PassOne.{atEntry, passOver}
+use Rattle.rules.proofs.Parts.{Known, headOf, Holds, Row, passParts}
+use Rattle.rules.proofs.Walks.{node-held, parts-held, parts-counted, pass-parts, FirstOf, row-first, row-none, row-upto}
+use Rattle.pass_one.specs.Walk.{scopeOf, told, Fits, FitsParts, Tested, Entered, EnteredParts}
+use Rattle.pass_one.specs.declared.Scope.{Scope}
+use Rattle.pass_one.specs.declared.Walked.{Walked}
+use Rattle.pass_one.specs.declared.Walked.the-variants.{To, Refused}
+use Rattle.pass_one.proofs.PartScopes.{inside-fits}
+
+-- a refusal comes to no record
+stopped : {A : Type 0} (why : Refusal) (place next : ℕ) → _≡_ {A = Walked} (Refused why place) (To next) → A
+stopped why place next e = let z : _≡_ {A = ℕ} 0 1 = cc in absurd (omega arith)
+
+-- where a changed value is refused, the value is
+pub refused-value : {A B : Type 0} (f : A → B) (r : Result A) (number place : ℕ) → onValue f r ≡ refusal number place → r ≡ refusal number place
+refused-value f (done x) number place e = done-not refl e
+refused-value f (refusal n p) number place e = cc
+
+-- ---- `enter`
+
+module _ (s : List ℕ) (k end : ℕ) (c : Scope) where
+  pub enter-past : end ≤ k → Entered s k end c (Refused PrefixForm k)
+  enter-past over = record {
+    on = λ next e. stopped PrefixForm k next e;
+    is = λ gs e known held within. absurd (omega (arith, some-record e));
+  }
+
+  module _ (found : RecordRead) (is-found : described found ≡ onValue shapeOf (nodeIn s k)) where
+    pub enter-unread : (why : Refusal) (place : ℕ) → found ≡ Unread why place → Entered s k end c (Refused why place)
+    enter-unread why place case = record {
+      on = λ next e. stopped why place next e;
+      is = λ gs e known held within. done-not (ap (onValue shapeOf) (node-held s gs k e held)) (sym is-found ∙ ap described case);
+    }
+
+    module _ (node : Record) (parts : Parts) (case : found ≡ Read node parts) where
+      -- the record read is the expression's own
+      own-shape : (gs : List Signature) (e : Expr) → Holds s gs k e → shaped node parts ≡ shapeOf (headOf e)
+      own-shape gs e held = done-injective (ap described (sym case) ∙ is-found ∙ ap (onValue shapeOf) (node-held s gs k e held))
+
+      own-kind : (gs : List Signature) (e : Expr) → Holds s gs k e → meant node ≡ headOf e
+      own-kind gs e held = ap (λ (shape : Shape). shape .kind) (own-shape gs e held)
+
+      module _ (own : Verdict) (tested : Tested s c k node own) where
+        -- its own tests say what is said on entering it
+        own-said : (gs : List Signature) (e : Expr) → Known s gs → Holds s gs k e → said own ≡ atEntry gs (entry (scopeOf c) k (headOf e))
+        own-said gs e known held =
+            let same = own-kind gs e held in
+            let low : below (headerIn s .functions) (meant node) ≡ true = rw same (node-below s k (headOf e) (node-held s gs k e held)) in
+            tested .is gs known low ∙ ap (λ kind. atEntry gs (entry (scopeOf c) k kind)) same
+
+        pub enter-refused : (why : Refusal) (place : ℕ) → own ≡ Refuses why place → Entered s k end c (Refused why place)
+        enter-refused why place fails = record {
+          on = λ next e. stopped why place next e;
+          is = λ gs e known held within.
+              sym (ap (onValue (λ u. k + size e)) (pass-parts gs (scopeOf c) k e ∙ then-refused _ (sym (own-said gs e known held) ∙ ap said fails)));
+        }
+
+        pub enter-passed : (count : ℕ) (r : Walked) → own ≡ Passed → count ≡ partCount (arityIn s) (listed parts)
+            → EnteredParts s node 0 count (k + 1) end c r → Entered s k end c r
+        enter-passed count r passes many walked = record {
+          on = λ next e. let o = walked .on next e in (omega arith, o .1);
+          is = λ gs e known held within.
+              let row : Row s gs (k + 1) (partsAt k e) (k + size e) = rw add-one (parts-held s gs k e held) in
+              let all : 0 + length (partsAt k e) ≡ count =
+              omega (arith, parts-counted s gs k e known held, ap (λ (shape : Shape). partCount (arityIn s) (shape .parts)) (own-shape gs e held)) in
+              walked .is gs (partsAt k e) (k + size e) known row all within
+              ∙ ap (onValue (λ u. k + size e))
+              (ap (λ kind. passParts gs kind 0 (scopeOf c) (partsAt k e)) (own-kind gs e held)
+              ∙ sym (pass-parts gs (scopeOf c) k e ∙ then-done _ (sym (own-said gs e known held) ∙ ap said passes)));
+        }
+
+pub ruleset entering = (enter-past, enter-unread, enter-refused, enter-passed)
+
+-- ---- `enter_parts`
+
+module _ (s : List ℕ) (node : Record) (i count k end : ℕ) (c : Scope) where
+  pub parts-none : count ≤ i → k ≤ end → EnteredParts s node i count k end c (To k)
+  unfolding passParts
+  parts-none none upto = record {
+    on = λ next e. let same : k ≡ next = cc in (omega arith, omega arith);
+    is = λ gs ps m known row all within.
+        let nothing = row-none row (omega arith) in
+        sym (ap (λ ps. onValue (λ u. m) (passParts gs (meant node) i (scopeOf c) ps)) (nothing .0) ∙ ap done (nothing .1));
+  }
+
+  module _ (part : Scope) (walked : Walked) (more : i < count) (is-part : scopeOf part ≡ inside (meant node) i (scopeOf c)) (w : Entered s k end part walked) where
+    -- the next part, and those behind it
+    record Turn (gs : List Signature) (ps : List Placed) (m : ℕ) : Type 0 where
+      first : FirstOf s gs k ps m
+      over : Result (Unit {0})
+      here : told walked ≡ onValue (λ u. k + size (first .expr)) over
+      split : passParts gs (meant node) i (scopeOf c) ps ≡ andThen over (λ u. passParts gs (meant node) (suc i) (scopeOf c) (first .others))
+
+    turn : (gs : List Signature) (ps : List Placed) (m : ℕ) → Known s gs → Row s gs k ps m → i + length ps ≡ count → m ≤ end → Turn gs ps m
+    unfolding passParts
+    turn gs ps m known row all within =
+        let f = row-first row (omega arith) in
+        record {
+          first = f;
+          over = passOver gs (entered (inside (meant node) i (scopeOf c)) k (f .expr));
+          here = w .is gs (f .expr) known (f .here) (omega (arith, row-upto (f .later))) ∙ ap (λ sc. onValue (λ u. k + size (f .expr)) (passOver gs (entered sc k (f .expr)))) is-part;
+          split = ap (passParts gs (meant node) i (scopeOf c)) (f .both);
+        }
+
+    pub parts-refused : (why : Refusal) (place : ℕ) → walked ≡ Refused why place → EnteredParts s node i count k end c (Refused why place)
+    parts-refused why place case = record {
+      on = λ next e. stopped why place next e;
+      is = λ gs ps m known row all within.
+          let t = turn gs ps m known row all within in
+          sym (ap (onValue (λ u. m)) (t .split ∙ then-refused _ (refused-value (λ u. k + size (t .first .expr)) (t .over) (number why) place (sym (t .here) ∙ ap told case))));
+    }
+
+    pub parts-more : (next : ℕ) (r : Walked) → walked ≡ To next → EnteredParts s node (i + 1) count next end c r → EnteredParts s node i count k end c r
+    parts-more next r case others = record {
+      on = λ last e. let o = others .on last e in let before = w .on next case in (omega arith, o .1);
+      is = λ gs ps m known row all within.
+          let t = turn gs ps m known row all within in
+          let f = t .first in
+          let v = value-inv (λ u. k + size (f .expr)) (t .over) next (sym (t .here) ∙ ap told case) in
+          let long : length ps ≡ suc (length (f .others)) = ap length (f .both) in
+          others .is gs (f .others) m known (rw (← (v .second)) (f .later)) (omega arith) within
+          ∙ ap (onValue (λ u. m)) (ap (λ j. passParts gs (meant node) j (scopeOf c) (f .others)) (add-one i) ∙ sym (t .split ∙ then-done _ (v .first)));
+    }
+
+    -- the walk goes on behind the part, with fewer records left ..
+    pub fewer : (next t : ℕ) → walked ≡ To next → 2 * (end - k) + 1 ≡ t → 2 * (end - next) + 1 < t
+    fewer next t case e = let o = w .on next case in omega arith
+
+    pub again : (next : ℕ) → walked ≡ To next → FitsParts i k end (scopeOf c) → FitsParts (i + 1) next end (scopeOf c)
+    again next case fits =
+        let o = w .on next case in
+        record { before-end = o .1; few = fits .few; numbers = omega (arith, fits .numbers); trees = omega (arith, fits .trees); words = omega (arith, fits .words) }
+
+  -- .. and what fits the parts fits the next of them
+  pub into : (part : Scope) → scopeOf part ≡ inside (meant node) i (scopeOf c) → FitsParts i k end (scopeOf c) → Fits k end (scopeOf part)
+  into part e fits = subst (Fits k end) (sym e) (inside-fits (meant node) i k end (scopeOf c) fits)
+
+pub ruleset entering-parts = (parts-none, parts-refused, parts-more)

@@ -1,0 +1,6 @@
+-- The laws that the functions' proofs cite.
+pub mod Arms
+pub mod Entries
+pub mod PartScopes
+pub mod Expressions
+pub mod Functions

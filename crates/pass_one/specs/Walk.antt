@@ -1,0 +1,94 @@
+-- What the functions of pass one answer, over flat records s.
+use Prim.Native.Nat.{ℕ, suc, _+_, _-_, _*_, _≤_, _<_}
+use mathlib.Core.Bool.{Bool, true, false}
+use mathlib.Core.List.{List}
+use mathlib.Core.Path.{_≡_}
+use lib.ListN.{length}
+use Rattle.formats.specs.Results.{Result, done, refusal, onValue}
+use Rattle.formats.specs.Records.{below}
+use Rattle.formats.specs.Programs.{Expr, size, Placed, Signature, Function, signatureOf, Program}
+use Rattle.formats.specs.Rows.{headerIn, functionIn, readProgram}
+use Rattle.refusal.specs.Number.{number}
+use Rattle.refusal.specs.Said.{said}
+use Rattle.refusal.specs.declared.Verdict.{Verdict}
+use Rattle.records.specs.Read.{meant}
+use Rattle.records.specs.declared.Record.{Record}
+use Rattle.rules.specs.Types.{Ty, Int, Tree⁺}
+use Rattle.rules.specs.Scopes.{scope, startOf, entry, entered}
+use Rattle.rules.specs.Scopes.{Scope as Known-there}
+use Rattle.rules.specs.PassOne.{typed, roomy, bareNumber, atEntry, passOver, passOne}
+use Rattle.rules.proofs.Parts.{Known, Holds, Row, passParts}
+use Rattle.pass_one.specs.declared.Scope.{Scope}
+use Rattle.pass_one.specs.declared.Walked.{Walked}
+use Rattle.pass_one.specs.declared.Walked.the-variants.{To, Refused}
+
+-- The type expected.
+abbrev pub expected : Bool → Ty
+expected true = Tree⁺
+expected false = Int
+
+abbrev pub scopeOf : Scope → Known-there
+scopeOf c = scope (c .numbers) (c .trees) (c .words) (expected (c .tree))
+
+-- The record come to, or the refusal's number and its record.
+abbrev pub told : Walked → Result ℕ
+told (To k) = done k
+told (Refused why place) = refusal (number why) place
+
+-- Counts that can grow on entering part i of a record.
+abbrev pub RoomFor : ℕ → Known-there → Type 0
+RoomFor i (scope g n w τ) = (g < 200000) × ((n < 300000) × (w + i < 200000))
+
+-- Counts that grow with each record entered, by two at most, stay small up to the end.
+pub record Small (k end g n w : ℕ) : Type 0 where
+  pub before-end : k ≤ end
+  pub few : end ≤ 100000
+  pub numbers : g + (end - k) ≤ 200000
+  pub trees : n + 2 * (end - k) ≤ 300000
+  pub words : w + (end - k) ≤ 200000
+
+-- On entering record k.
+abbrev pub Fits : ℕ → ℕ → Known-there → Type 0
+Fits k end (scope g n w τ) = Small k end g n w
+
+-- On entering part i of a record at record k.
+abbrev pub FitsParts : ℕ → ℕ → ℕ → Known-there → Type 0
+FitsParts i k end (scope g n w τ) = Small k end (suc g) (suc (suc n)) (suc (w + i))
+
+-- Tests of a node that was read, by the signatures of the function records.
+pub record Typed (s : List ℕ) (c : Scope) (node : Record) (r : Bool) : Type 0 where
+  pub is : (gs : List Signature) → Known s gs → below (headerIn s .functions) (meant node) ≡ true → r ≡ typed gs (scopeOf c) (meant node)
+
+-- A function that gives a number and takes none.
+pub record Bare (s : List ℕ) (b : ℕ) (r : Bool) : Type 0 where
+  pub is : (g : Signature) → functionIn s b ≡ done g → r ≡ bareNumber g
+
+pub record Roomy (s : List ℕ) (c : Scope) (node : Record) (r : Bool) : Type 0 where
+  pub is : (gs : List Signature) → Known s gs → below (headerIn s .functions) (meant node) ≡ true → r ≡ roomy gs (scopeOf c) (meant node)
+
+pub record Tested (s : List ℕ) (c : Scope) (k : ℕ) (node : Record) (r : Verdict) : Type 0 where
+  pub is : (gs : List Signature) → Known s gs → below (headerIn s .functions) (meant node) ≡ true
+      → said r ≡ atEntry gs (entry (scopeOf c) k (meant node))
+
+-- The expression at record k, entered so.
+pub record Entered (s : List ℕ) (k end : ℕ) (c : Scope) (r : Walked) : Type 0 where
+  pub on : (next : ℕ) → r ≡ To next → (k < next) × (next ≤ end)
+  pub is : (gs : List Signature) (e : Expr) → Known s gs → Holds s gs k e → k + size e ≤ end
+      → told r ≡ onValue (λ u. k + size e) (passOver gs (entered (scopeOf c) k e))
+
+-- The parts of a record of this kind from part i on, so many in all, the next of them at record k.
+pub record EnteredParts (s : List ℕ) (node : Record) (i count k end : ℕ) (c : Scope) (r : Walked) : Type 0 where
+  pub on : (next : ℕ) → r ≡ To next → (k ≤ next) × (next ≤ end)
+  pub is : (gs : List Signature) (ps : List Placed) (m : ℕ) → Known s gs → Row s gs k ps m → i + length ps ≡ count → m ≤ end
+      → told r ≡ onValue (λ u. m) (passParts gs (meant node) i (scopeOf c) ps)
+
+-- The scope on entering the body of function j.
+pub record Starts (s : List ℕ) (j : ℕ) (c : Scope) : Type 0 where
+  pub is : (f : Function) → functionIn s j ≡ done (signatureOf f) → scopeOf c ≡ startOf f
+  pub numbers : c .numbers < 256
+  pub trees : c .trees ≡ 1
+  pub words : c .words < 256
+
+-- Pass one, where flat records s are a program's.
+pub record PassSays (s : List ℕ) (r : Verdict) : Type 0 where
+  pub is : (program : Program) → readProgram s ≡ done program → said r ≡ passOne program

@@ -1,0 +1,297 @@
+// Document 01's pass one, over flat records, 8 bytes each: at each record, in prefix order, name bound, then type, then words.
+use records::Record;
+use records::RecordRead;
+use refusal::Refusal;
+use refusal::Verdict;
+ghost use Prim.Native.Nat.{_+_, _≤_, _<_};
+ghost use mathlib.Core.Path.{_≡_};
+ghost use Rattle.formats.specs.Results.{andThen, verdict};
+ghost use Rattle.formats.specs.Rows.{readProgram};
+ghost use Rattle.records.specs.Read.{meant};
+ghost use Rattle.refusal.specs.Said.{said};
+ghost use Rattle.rules.specs.Types.{Int, Tree⁺};
+ghost use Rattle.rules.specs.Scopes.{scope as scoped, inside as insideOf};
+ghost use Rattle.rules.specs.PassOne.{named, passOne};
+ghost use Rattle.pass_one.specs.Walk.{expected, scopeOf, RoomFor, Fits, FitsParts, Typed, Bare, Roomy, Tested, Entered, EnteredParts, Starts, PassSays};
+
+// The most words above the frame's base.
+const MOST_WORDS: usize = 16;
+
+// The sort of a function that gives a tree.
+const TREE_VALUED: u8 = 1;
+
+// What is known on entering a record: number names and tree names bound, words above the frame's base, and whether a tree is expected.
+struct Scope {
+    numbers: usize,
+    trees: usize,
+    words: usize,
+    tree: bool,
+}
+
+// How far the walk came: to this record, or to a refusal.
+enum Walked {
+    To(usize),
+    Refused(Refusal, usize),
+}
+
+// Whether the record's name is bound.
+fn is_named(node: Record, scope: Scope) -> bool
+    ensures { λ r. ⌜ r ≡ named (scopeOf scope) (meant node) ⌝ }
+{
+    match node {
+        Record::Var(v) => (v.a as usize) < scope.numbers,
+        Record::Case(t) => (t.a as usize) < scope.trees,
+        Record::Call(c) => (c.a as usize) < scope.trees,
+        _ => true,
+    }
+}
+
+// Whether the record has the type expected.
+fn is_typed(flat: &[u8], node: Record, scope: Scope) -> bool
+    ensures { λ r. ⌜ Typed (now (flat .entry)) scope node r ⌝ }
+{
+    match node {
+        Record::Const(c) => !scope.tree,
+        Record::Var(v) => !scope.tree,
+        Record::Add => !scope.tree,
+        Record::Leaf => scope.tree,
+        Record::Node => scope.tree,
+        Record::Call(c) => {
+            if signatures::sort_number(flat, c.b) == TREE_VALUED {
+                return scope.tree;
+            }
+            !scope.tree
+        }
+        _ => true,
+    }
+}
+
+// Whether a Call of this function leaves a number and takes none.
+fn is_bare_number(flat: &[u8], b: u16) -> bool
+    ensures { λ r. ⌜ Bare (now (flat .entry)) b r ⌝ }
+{
+    if signatures::sort_number(flat, b) == TREE_VALUED {
+        return false;
+    }
+    signatures::parameters(flat, b) == 0
+}
+
+// Whether there is a word for the record, where that is tested.
+fn is_roomy(flat: &[u8], node: Record, scope: Scope) -> bool
+    ensures { λ r. ⌜ Roomy (now (flat .entry)) scope node r ⌝ }
+{
+    let room = scope.words < MOST_WORDS;
+    match node {
+        Record::Const(c) => room,
+        Record::Var(v) => room,
+        Record::Case(t) => room,
+        Record::Call(c) => {
+            if is_bare_number(flat, c.b) {
+                return room;
+            }
+            true
+        }
+        _ => true,
+    }
+}
+
+// A record's own tests: name bound, then type, then words.
+fn tests(flat: &[u8], node: Record, scope: Scope, k: usize) -> Verdict
+    ensures { λ r. ⌜ Tested (now (flat .entry)) scope k node r ⌝ }
+{
+    if !is_named(node, scope) {
+        return Verdict::Refused(Refusal::NotBound, k);
+    }
+    if !is_typed(flat, node, scope) {
+        return Verdict::Refused(Refusal::WrongType, k);
+    }
+    if is_roomy(flat, node, scope) {
+        return Verdict::Passed;
+    }
+    Verdict::Refused(Refusal::TooManyWords, k)
+}
+
+// A number is expected, and so many more words stand.
+fn number_part(scope: Scope, more: usize) -> Scope
+    requires { ⌜ scope .words + more ≤ 200000 ⌝ }
+    ensures { λ r. ⌜ scopeOf r ≡ scoped (scope .numbers) (scope .trees) (scope .words + more) Int ⌝ }
+{
+    Scope {
+        numbers: scope.numbers,
+        trees: scope.trees,
+        words: scope.words + more,
+        tree: false,
+    }
+}
+
+// A tree is expected.
+fn tree_part(scope: Scope) -> Scope
+    ensures { λ r. ⌜ scopeOf r ≡ scoped (scope .numbers) (scope .trees) (scope .words) Tree⁺ ⌝ }
+{
+    Scope {
+        numbers: scope.numbers,
+        trees: scope.trees,
+        words: scope.words,
+        tree: true,
+    }
+}
+
+// One more number is named, on a word of its own.
+fn under_number(scope: Scope) -> Scope
+    requires { ⌜ (scope .numbers < 200000) × (scope .words < 200000) ⌝ }
+    ensures { λ r. ⌜ scopeOf r ≡ scoped (scope .numbers + 1) (scope .trees) (scope .words + 1) (expected (scope .tree)) ⌝ }
+{
+    Scope {
+        numbers: scope.numbers + 1,
+        trees: scope.trees,
+        words: scope.words + 1,
+        tree: scope.tree,
+    }
+}
+
+// Two more trees are named.
+fn under_trees(scope: Scope) -> Scope
+    requires { ⌜ scope .trees < 300000 ⌝ }
+    ensures { λ r. ⌜ scopeOf r ≡ scoped (scope .numbers) (scope .trees + 2) (scope .words) (expected (scope .tree)) ⌝ }
+{
+    Scope {
+        numbers: scope.numbers,
+        trees: scope.trees + 2,
+        words: scope.words,
+        tree: scope.tree,
+    }
+}
+
+// What is known on entering part i of the record.
+fn inside(node: Record, i: usize, scope: Scope) -> Scope
+    requires { ⌜ RoomFor i (scopeOf scope) ⌝ }
+    ensures { λ r. ⌜ scopeOf r ≡ insideOf (meant node) i (scopeOf scope) ⌝ }
+{
+    match node {
+        Record::Add => {
+            if i == 0 {
+                return number_part(scope, 0);
+            }
+            number_part(scope, 1)
+        }
+        Record::IfZero => {
+            if i == 0 {
+                return number_part(scope, 0);
+            }
+            scope
+        }
+        Record::Let => {
+            if i == 0 {
+                return number_part(scope, 0);
+            }
+            under_number(scope)
+        }
+        Record::Leaf => number_part(scope, 0),
+        Record::Node => tree_part(scope),
+        Record::Case(t) => {
+            if i == 0 {
+                return under_number(scope);
+            }
+            under_trees(scope)
+        }
+        Record::Call(c) => number_part(scope, i),
+        _ => scope,
+    }
+}
+
+// Pass one over the expression at record k, entered with this scope: its own tests, then its parts in order. The records left up to the end fall at
+// each call.
+fn enter(flat: &[u8], k: usize, end: usize, scope: Scope) -> Walked
+    requires { ⌜ Fits k end (scopeOf scope) ⌝ }
+    ensures { λ r. ⌜ Entered (now (flat .entry)) k end scope r ⌝ }
+{
+    if end <= k {
+        return Walked::Refused(Refusal::PrefixForm, k);
+    }
+    let found = records::record_at(flat, k);
+    match found {
+        RecordRead::Refused(why, place) => Walked::Refused(why, place),
+        RecordRead::Read(node, parts) => {
+            let own = tests(flat, node, scope, k);
+            if let Verdict::Refused(why, place) = own {
+                return Walked::Refused(why, place);
+            }
+            let count = nodes::part_count(flat, parts);
+            enter_parts(flat, node, 0, count, k + 1, end, scope)
+        }
+    }
+}
+
+// Pass one over the parts of a record from part i on, the next of them at record k.
+fn enter_parts(
+    flat: &[u8],
+    node: Record,
+    i: usize,
+    count: usize,
+    k: usize,
+    end: usize,
+    scope: Scope,
+) -> Walked
+    requires { ⌜ FitsParts i k end (scopeOf scope) ⌝ }
+    ensures { λ r. ⌜ EnteredParts (now (flat .entry)) node i count k end scope r ⌝ }
+{
+    if count <= i {
+        return Walked::To(k);
+    }
+    let part = inside(node, i, scope);
+    let walked = enter(flat, k, end, part);
+    match walked {
+        Walked::Refused(why, place) => Walked::Refused(why, place),
+        Walked::To(next) => enter_parts(flat, node, i + 1, count, next, end, scope),
+    }
+}
+
+// What is known on entering the body of function j.
+fn start(flat: &[u8], j: u16) -> Scope
+    ensures { λ r. ⌜ Starts (now (flat .entry)) j r ⌝ }
+{
+    let numbers = signatures::parameters(flat, j) as usize;
+    let tree = signatures::sort_number(flat, j) == TREE_VALUED;
+    Scope {
+        numbers: numbers,
+        trees: 1,
+        words: numbers,
+        tree: tree,
+    }
+}
+
+// The row "pass one".
+fn pass(flat: &[u8]) -> Verdict
+    ensures { λ r. ⌜ PassSays (now (flat .entry)) r ⌝ }
+{
+    let functions = words::read8(flat, 1) as u16;
+    let nodes = words::read16(flat, 2) as usize;
+    let end = 1 + (functions as usize) + nodes;
+    let mut k = 1 + (functions as usize);
+    let mut j = 0;
+    while j < functions {
+        let scope = start(flat, j);
+        let walked = enter(flat, k, end, scope);
+        match walked {
+            Walked::Refused(why, place) => {
+                return Verdict::Refused(why, place);
+            }
+            Walked::To(next) => {
+                k = next;
+                j = j + 1;
+            }
+        }
+    }
+    Verdict::Passed
+}
+
+// The rows header to prefix form, then pass one.
+pub fn check_pass_one(flat: &[u8]) -> Verdict
+    ensures { λ r. ⌜ said r ≡ verdict (andThen (readProgram (now (flat .entry))) passOne) ⌝ }
+{
+    let rows = program::check_records(flat);
+    if let Verdict::Refused(why, place) = rows {
+        return Verdict::Refused(why, place);
+    }
+    pass(flat)
+}

@@ -5,10 +5,13 @@ use mathlib.Core.Path.{_≡_, refl, sym, ap, subst, _∙_}
 use borrow.Author.Tests.{lt-ltb, le-ltb}
 use lib.ListN.{length, set}
 use Rattle.formats.specs.Refusals.{spaceTooShort}
-use Rattle.formats.specs.Results.{Result, done, refusal}
+use Rattle.formats.specs.Results.{Result, done, refusal, onValue}
 use Rattle.formats.proofs.Written.{written-sets, written-short}
 use Rattle.refusal.specs.declared.Refusal.{Refusal}
 use Rattle.refusal.specs.Number.{number}
+use Rattle.refusal.specs.Said.{said}
+use Rattle.refusal.specs.declared.Verdict.{Verdict}
+use Rattle.refusal.specs.declared.Verdict.the-variants.{Passed, Refused as VerdictRefused}
 use Rattle.refusal.specs.Put.{answered}
 use Rattle.refusal.specs.declared.Filled.{Filled}
 use Rattle.refusal.specs.declared.Filled.the-variants.{Written, Refused}
@@ -64,6 +67,16 @@ module _ (before after : List ℕ) (r : ℕ) where
       → Answers (answered filled) before after r
   filled-refused filled why place n case is = a-refusal (answered filled) n place (ap answered case ∙ ap (λ m. refusal m place) (sym is))
 
+  pub verdict-done : (verdict : Verdict) → verdict ≡ Passed → Stores 0 0 0 before after r → Answers (onValue (λ u. 0) (said verdict)) before after r
+  verdict-done verdict case = all-done (onValue (λ u. 0) (said verdict)) 0 (ap (λ v. onValue (λ u. 0) (said v)) case)
+
+  pub verdict-refused : (verdict : Verdict) (why : Refusal) (place n : ℕ) → verdict ≡ VerdictRefused why place → n ≡ number why → Stores n place 0 before after r
+      → Answers (onValue (λ u. 0) (said verdict)) before after r
+  verdict-refused verdict why place n case is =
+      a-refusal (onValue (λ u. 0) (said verdict)) n place (ap (λ v. onValue (λ u. 0) (said v)) case ∙ ap (λ m. refusal m place) (sym is))
+
 pub ruleset tree-ways = (tree-done, tree-refused)
 
 pub ruleset filled-ways = (filled-done, filled-refused)
+
+pub ruleset verdict-ways = (verdict-done, verdict-refused)

@@ -1,11 +1,14 @@
 // The answer of a call from C or Rust: a number, and the first places of an array that the caller lends.
 use refusal::Filled;
 use refusal::Refusal;
+use refusal::Verdict;
 use tree::TreeAnswer;
 ghost use mathlib.Core.Path.{_≡_};
 ghost use lib.Dec.{leb};
 ghost use lib.ListN.{length};
 ghost use Rattle.refusal.specs.Put.{answered};
+ghost use Rattle.formats.specs.Results.{onValue};
+ghost use Rattle.refusal.specs.Said.{said};
 ghost use Rattle.tree.specs.Answer.{answered as treeAnswered};
 ghost use Rattle.answers.specs.Answer.{answerPlaces, Stores, Answers};
 
@@ -49,5 +52,15 @@ pub fn tell(filled: Filled, answer: &mut [u64]) -> u32
     match filled {
         Filled::Written(bytes) => store(answer, 0, 0, bytes),
         Filled::Refused(why, place) => store(answer, refusal::number_of(why), place, 0),
+    }
+}
+
+// The answer of a check: it has no bytes to tell of.
+pub fn tell_verdict(verdict: Verdict, answer: &mut [u64]) -> u32
+    ensures { λ r. ⌜ Answers (onValue (λ u. 0) (said verdict)) (now (answer .entry)) (now (answer .exit)) r ⌝ }
+{
+    match verdict {
+        Verdict::Passed => store(answer, 0, 0, 0),
+        Verdict::Refused(why, place) => store(answer, refusal::number_of(why), place, 0),
     }
 }

@@ -1,28 +1,26 @@
 -- A law for each way out of the file reader and writer. The reader's own space holds every file's flat records, so that the rows of the blocks
 -- refuse for no lack of it.
-use Prim.Native.Nat.{ℕ, _+_, _*_, _≤_, _<_}
-use mathlib.Core.List.{List, _++_}
+use Prim.Native.Nat.{ℕ, _≤_, _<_}
+use mathlib.Core.List.{List}
 use mathlib.Core.Path.{_≡_, refl, sym, ap, _∙_}
-use native.Mathlib.Omega.{arith}
-use lib.ListN.{length, take, drop, length-append}
-use lib.Seq.{take-at}
+use lib.ListN.{length, take}
 use Rattle.formats.specs.Written.{written}
-use Rattle.formats.specs.Results.{Result, done, refusal, andThen, onValue, verdict}
+use Rattle.formats.specs.Results.{refusal, andThen, onValue, verdict}
 use Rattle.formats.specs.Rows.{readProgram}
-use Rattle.formats.specs.Blocks.{partBytes, mostBlocks, flatIn, flatInto, fileOf, programRecords, readFile, writeFile, within, programInto, readInto, writeInto, lent}
-use Rattle.formats.proofs.Results.{outcome, gave, stopped, Outcome, done-not, then-done, then-refused, value-inv, Value, passed-is, refused-is}
-use Rattle.formats.proofs.Written.{written-fits}
-use Rattle.formats.proofs.Files.{flat-short, within-room, within-short}
+use Rattle.formats.specs.Blocks.{flatInto, fileOf, programRecords, readFile, writeFile, within, programInto, readInto, writeInto}
+use Rattle.formats.proofs.Results.{then-done, then-refused, Value, passed-is, refused-is}
+use Rattle.formats.proofs.Files.{within-room, within-short}
 use Rattle.refusal.specs.declared.Refusal.{Refusal}
 use Rattle.refusal.specs.declared.Refusal.the-variants.{SpaceTooShort}
 use Rattle.refusal.specs.declared.Verdict.{Verdict}
 use Rattle.refusal.specs.declared.Verdict.the-variants as verdict-is
 use Rattle.refusal.specs.Number.{number}
 use Rattle.refusal.specs.Said.{said}
-use Rattle.refusal.specs.Put.{answered, Put}
+use Rattle.refusal.specs.Put.{Put}
 use Rattle.refusal.specs.declared.Filled.{Filled}
 use Rattle.refusal.specs.declared.Filled.the-variants.{Written, Refused}
 use Rattle.refusal.proofs.Put.{put-refused, put-done}
+use Rattle.block_reader.proofs.Taken.{mostBytes, not-taken, taken-out}
 
 -- ---- the rows header to prefix form
 
@@ -71,66 +69,22 @@ pub ruleset write-ways = (file-refused, file-put)
 
 -- ---- `read_file`
 
--- a refusal of a changed value is the value's own
-value-refused : {A B : Type 0} (f : A → B) (r : Result A) (n place : ℕ) → onValue f r ≡ refusal n place → r ≡ refusal n place
-value-refused f (done x) n place e = done-not refl e
-value-refused f (refusal m q) n place e = cc
+module _ (s space : List ℕ) (size : length space ≡ mostBytes) (after : List ℕ) (taken : Filled) (put : Put (flatInto (length space) s) space after taken) where
+  pub read-refused : (before : List ℕ) (why : Refusal) (place : ℕ) → taken ≡ Refused why place → Put (readInto (length before) s) before before (Refused why place)
+  unfolding readInto readFile
+  read-refused before why place is =
+      put-refused _ before why place (then-refused (within (length before)) (then-refused programRecords (not-taken s space size after taken put why place is)))
 
--- the reader's own space
-abbrev mostBytes : ℕ
-mostBytes = partBytes * mostBlocks
+  pub read-inside : (bytes : ℕ) → taken ≡ Written bytes → bytes ≤ length after
+  read-inside bytes is = taken-out s space size after taken put bytes is .inside
 
-module _ (s space : List ℕ) (size : length space ≡ mostBytes) where
-  -- it has room for the flat records of every file
-  room-for : flatInto (length space) s ≡ flatIn s
-  unfolding flatInto
-  room-for = by (outcome (flatIn s))
-    where
-      by : Outcome (flatIn s) → andThen (flatIn s) (within (length space)) ≡ flatIn s
-      by (gave r e) = then-done (within (length space)) e ∙ within-room (length space) r (rw size (flat-short s r e)) ∙ sym e
-      by (stopped n q e) = then-refused (within (length space)) e ∙ sym e
-
-  module _ (after : List ℕ) (taken : Filled) (put : Put (flatInto (length space) s) space after taken) where
-    pub read-refused : (before : List ℕ) (why : Refusal) (place : ℕ) → taken ≡ Refused why place → Put (readInto (length before) s) before before (Refused why place)
-    unfolding readInto readFile
-    read-refused before why place is =
-        let none : flatIn s ≡ refusal (number why) place = sym room-for ∙ value-refused length _ (number why) place (sym (put .answer) ∙ ap answered is) in
-        put-refused _ before why place (then-refused (within (length before)) (then-refused programRecords none))
-
-    -- the flat records stand at the start of the space
-    record Taken (bytes : ℕ) : Type 0 where
-      flat : List ℕ
-      is : flatIn s ≡ done flat
-      measure : length flat ≡ bytes
-      there : take bytes after ≡ flat
-      inside : bytes ≤ length after
-
-    taken-out : (bytes : ℕ) → taken ≡ Written bytes → Taken bytes
-    unfolding lent
-    taken-out bytes is =
-        let v = value-inv length (flatInto (length space) s) bytes (sym (put .answer) ∙ ap answered is) in
-        let flat : flatIn s ≡ done (v .value) = sym room-for ∙ v .first in
-        let fits : 0 + length (v .value) ≤ length space = omega (arith, size, flat-short s (v .value) flat) in
-        let wrote : after ≡ v .value ++ drop (0 + length (v .value)) space =
-        put .buffer ∙ ap (lent space) (v .first) ∙ written-fits space 0 (v .value) fits in
-        record {
-          flat = v .value;
-          is = flat;
-          measure = v .second;
-          there = ap (take bytes) wrote ∙ take-at (v .value) _ bytes (v .second);
-          inside = omega (arith, ap length wrote, length-append (v .value) (drop (0 + length (v .value)) space), v .second);
-        }
-
-    pub read-inside : (bytes : ℕ) → taken ≡ Written bytes → bytes ≤ length after
-    read-inside bytes is = taken-out bytes is .inside
-
-    pub read-put : (before last : List ℕ) (bytes : ℕ) (filled : Filled) → taken ≡ Written bytes → Put (programInto (length before) (take bytes after)) before last filled
-        → Put (readInto (length before) s) before last filled
-    unfolding readInto readFile programInto
-    read-put before last bytes filled is p =
-        let f = taken-out bytes is in
-        let same : readInto (length before) s ≡ programInto (length before) (take bytes after) =
-        ap (λ r. andThen r (within (length before))) (then-done programRecords (f .is)) ∙ ap (programInto (length before)) (sym (f .there)) in
-        rw same p
+  pub read-put : (before last : List ℕ) (bytes : ℕ) (filled : Filled) → taken ≡ Written bytes → Put (programInto (length before) (take bytes after)) before last filled
+      → Put (readInto (length before) s) before last filled
+  unfolding readInto readFile programInto
+  read-put before last bytes filled is p =
+      let f = taken-out s space size after taken put bytes is in
+      let same : readInto (length before) s ≡ programInto (length before) (take bytes after) =
+      ap (λ r. andThen r (within (length before))) (then-done programRecords (f .is)) ∙ ap (programInto (length before)) (sym (f .there)) in
+      rw same p
 
 pub ruleset read-ways = (read-refused, read-inside, read-put)

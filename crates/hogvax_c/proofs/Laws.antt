@@ -10,6 +10,8 @@ use Rattle.formats.specs.Refusals.{spaceTooShort}
 use Rattle.formats.specs.Results.{Result, onValue}
 use Rattle.refusal.specs.Put.{answered, Put}
 use Rattle.refusal.specs.declared.Filled.{Filled}
+use Rattle.refusal.specs.Said.{said}
+use Rattle.refusal.specs.declared.Verdict.{Verdict}
 use Rattle.tree.specs.Answer.{answered as treeAnswered}
 use Rattle.tree.specs.declared.TreeAnswer.{TreeAnswer}
 use Rattle.answers.specs.Answer.{answerPlaces, Answers}
@@ -20,6 +22,12 @@ use Rattle.hogvax_c.specs.Fills.{Fills}
 
 pub tree-told : (due : Result ℕ) (before after : List ℕ) (r : ℕ) (found : TreeAnswer) → treeAnswered found ≡ due → Answers (treeAnswered found) before after r → Answers due before after r
 tree-told due before after r found told a = rw (← told) a
+
+-- ---- the order checker
+
+pub verdict-told : (due : Result (Unit {0})) (before after : List ℕ) (r : ℕ) (verdict : Verdict) → said verdict ≡ due
+    → Answers (onValue (λ u. 0) (said verdict)) before after r → Answers (onValue (λ u. 0) due) before after r
+verdict-told due before after r verdict says a = rw (← says) a
 
 -- ---- calls that fill a buffer
 

@@ -3,7 +3,9 @@ use refusal::Refusal;
 ghost use mathlib.Core.Path.{_≡_};
 ghost use lib.ListN.{length};
 ghost use Rattle.formats.specs.Blocks.{readInto, writeInto};
+ghost use Rattle.formats.specs.Results.{onValue};
 ghost use Rattle.formats.specs.Tokens.{firstEnd, firstTree, ownBytes};
+ghost use Rattle.rules.specs.PassTwo.{checkRecords, checkFile};
 ghost use Rattle.answers.specs.Answer.{Answers};
 ghost use Rattle.hogvax_c.specs.Fills.{Fills};
 
@@ -49,4 +51,21 @@ pub extern "C" fn hogvax_unpack(file: &[u8], flat: &mut [u8], answer: &mut [u64]
     }
     let filled = files::read_file(file, flat);
     answers::tell(filled, answer)
+}
+
+// Whether the program of a file passes both passes. The refusal's number, 0 where it passes; the refusal's place goes to the answer's first place,
+// and its second is 0. With fewer places: 13, and the answer is untouched.
+#[no_mangle]
+pub extern "C" fn hogvax_check(file: &[u8], answer: &mut [u64]) -> u32
+    ensures { λ r. ⌜ Answers (onValue (λ u. 0) (checkFile (now (file .entry)))) (now (answer .entry)) (now (answer .exit)) r ⌝ }
+{
+    answers::tell_verdict(order::check_file(file), answer)
+}
+
+// Whether flat records, 8 bytes each, are a program that passes both passes. The answer is that of `hogvax_check`.
+#[no_mangle]
+pub extern "C" fn hogvax_check_records(flat: &[u8], answer: &mut [u64]) -> u32
+    ensures { λ r. ⌜ Answers (onValue (λ u. 0) (checkRecords (now (flat .entry)))) (now (answer .entry)) (now (answer .exit)) r ⌝ }
+{
+    answers::tell_verdict(pass_two::check_order(flat), answer)
 }

@@ -21,7 +21,7 @@ use Rattle.refusal.specs.declared.Verdict.the-variants.{Passed}
 use Rattle.refusal.specs.declared.Verdict.the-variants.{Refused as Refuses}
 use Rattle.rules.specs.Types.{resultType}
 use Rattle.rules.specs.Scopes.{scope, startOf, entered, enteredAll}
-use Rattle.rules.specs.PassOne.{passOver, passOne}
+use Rattle.rules.specs.PassOne.{passOver, passOne, checkOne}
 use Rattle.rules.proofs.Parts.{Known, Bodies, no-more, one-more}
 use Rattle.rules.proofs.Walks.{program-held, pass-append}
 use Rattle.pass_one.specs.Walk.{expected, told, Entered, Starts, PassSays}
@@ -158,18 +158,15 @@ pub ruleset walking = (walk-none, walk-more, walk-refused, walk-all)
 
 -- ---- `check_pass_one`
 
--- a check says what it says
-said-itself : (r : Result (Unit {0})) → r ≡ verdict r
-said-itself (done u) = refl
-said-itself (refusal number place) = refl
-
 module _ (s : List ℕ) (rows : Verdict) (is : said rows ≡ verdict (readProgram s)) where
-  pub rows-refused : (why : Refusal) (place : ℕ) → rows ≡ Refuses why place → refusal (number why) place ≡ verdict (andThen (readProgram s) passOne)
-  rows-refused why place case = sym (ap verdict (then-refused passOne (refused-is (readProgram s) (number why) place (sym is ∙ ap said case))))
+  pub rows-refused : (why : Refusal) (place : ℕ) → rows ≡ Refuses why place → refusal (number why) place ≡ checkOne s
+  unfolding checkOne
+  rows-refused why place case = sym (then-refused passOne (refused-is (readProgram s) (number why) place (sym is ∙ ap said case)))
 
-  pub rows-passed : (r : Verdict) → rows ≡ Passed → PassSays s r → said r ≡ verdict (andThen (readProgram s) passOne)
+  pub rows-passed : (r : Verdict) → rows ≡ Passed → PassSays s r → said r ≡ checkOne s
+  unfolding checkOne
   rows-passed r passes says =
       let v = passed-is (readProgram s) (sym is ∙ ap said passes) in
-      says .is (v .value) (v .is) ∙ said-itself (passOne (v .value)) ∙ sym (ap verdict (then-done passOne (v .is)))
+      says .is (v .value) (v .is) ∙ sym (then-done passOne (v .is))
 
 pub ruleset checked = (rows-refused, rows-passed)

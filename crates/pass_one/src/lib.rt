@@ -5,13 +5,11 @@ use refusal::Refusal;
 use refusal::Verdict;
 ghost use Prim.Native.Nat.{_+_, _≤_, _<_};
 ghost use mathlib.Core.Path.{_≡_};
-ghost use Rattle.formats.specs.Results.{andThen, verdict};
-ghost use Rattle.formats.specs.Rows.{readProgram};
 ghost use Rattle.records.specs.Read.{meant};
 ghost use Rattle.refusal.specs.Said.{said};
 ghost use Rattle.rules.specs.Types.{Int, Tree⁺};
 ghost use Rattle.rules.specs.Scopes.{scope as scoped, inside as insideOf};
-ghost use Rattle.rules.specs.PassOne.{named, passOne};
+ghost use Rattle.rules.specs.PassOne.{named, checkOne};
 ghost use Rattle.pass_one.specs.Walk.{expected, scopeOf, RoomFor, Fits, FitsParts, Typed, Bare, Roomy, Tested, Entered, EnteredParts, Starts, PassSays};
 
 // The most words above the frame's base.
@@ -287,7 +285,7 @@ fn pass(flat: &[u8]) -> Verdict
 
 // The rows header to prefix form, then pass one.
 pub fn check_pass_one(flat: &[u8]) -> Verdict
-    ensures { λ r. ⌜ said r ≡ verdict (andThen (readProgram (now (flat .entry))) passOne) ⌝ }
+    ensures { λ r. ⌜ said r ≡ checkOne (now (flat .entry)) ⌝ }
 {
     let rows = program::check_records(flat);
     if let Verdict::Refused(why, place) = rows {

@@ -2,7 +2,7 @@
 use Prim.Native.Nat.{ℕ, zero, suc}
 use mathlib.Core.List.{List, [], _∷_, map}
 use mathlib.Core.Path.{_≡_, refl}
-use Rattle.formats.specs.Results.{Result, done, refusal}
+use Rattle.formats.specs.Results.{done, refusal}
 use Rattle.formats.specs.Records.{nth}
 use Rattle.formats.specs.Programs.{Expr, const, var, add, ifZero, letIn, leafOf, nodeOf, caseOf, call, noArgs, arg, prefix, prefixes, size, numberValued, treeValued, Signature, signatureOf, Function, Program}
 use Rattle.formats.proofs.ProgramCases.{grow, grow-lawful}

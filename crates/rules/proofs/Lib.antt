@@ -1,4 +1,4 @@
--- Proofs of the statements in specs/. `Parts` and `Walks` are for the functions that walk a program's records.
+-- Proofs of the statements in specs/. `Parts`, `Walks` and `Lists` are for the functions that walk a program's records.
 pub mod Splits
 pub mod Entries
 pub mod PassOne
@@ -10,5 +10,6 @@ pub mod Printed
 pub mod OrderChecker
 pub mod Parts
 pub mod Walks
+pub mod Lists
 pub mod Cases
 pub mod Figure7

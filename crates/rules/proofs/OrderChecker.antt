@@ -1,20 +1,18 @@
 -- The order checker passes precisely what document 000's typing rules admit, within the limits: the proof of specs/OrderChecker.antt.
 use Prim.Native.Nat.{ℕ, zero, suc, _+_, _≤_, _<_}
-use mathlib.Core.List.{List, [], _∷_, _++_, append-nil}
-use mathlib.Core.Logic.{_↔_}
-use mathlib.Core.Path.{_≡_, refl, sym, ap, subst, _∙_}
+use mathlib.Core.List.{List, [], _∷_, append-nil}
+use mathlib.Core.Path.{_≡_, refl, ap, _∙_}
 use native.Mathlib.Omega.{arith}
 use lib.Dec.{lit<}
-use Rattle.formats.specs.Results.{Result, done, refusal, andThen}
+use Rattle.formats.specs.Results.{done}
 use Rattle.formats.specs.Programs.{size, Signature, Function, Program, signatures, mostParameters, LawfulFunction, LawfulFunctions, Lawful}
 use Rattle.formats.proofs.Results.{done-not, then-done, then-inv}
 use Rattle.rules.specs.Types.{resultType}
-use Rattle.rules.specs.Typing.{Types, TypedFunction}
-use Rattle.rules.specs.Leftover.{InOrder}
-use Rattle.rules.specs.Scopes.{scope, startOf, entered, enteredAll}
-use Rattle.rules.specs.PassOne.{mostWords, wordsOf, passOver, passOne}
+use Rattle.rules.specs.Typing.{TypedFunction}
+use Rattle.rules.specs.Scopes.{startOf, entered, enteredAll}
+use Rattle.rules.specs.PassOne.{mostWords, passOver, passOne}
 use Rattle.rules.specs.PassTwo.{walk, noneLeft, walkAll, passTwo, order}
-use Rattle.rules.specs.OrderChecker.{firstNode, CheckedFunction, AdmittedFunction, AdmittedFrom, Admitted, Split, OrderChecker}
+use Rattle.rules.specs.OrderChecker.{firstNode, AdmittedFunction, AdmittedFrom, Admitted, Split, OrderChecker}
 use Rattle.rules.proofs.Splits.{splits, checks-types, no-longer, one-listing}
 use Rattle.rules.proofs.Entries.{in-prefix-order, one-by-one, part-types}
 use Rattle.rules.proofs.PassOne.{Passes, pass-one, pass-nothing, pass-left, pass-right, pass-both}

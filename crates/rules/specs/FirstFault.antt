@@ -1,13 +1,10 @@
 -- The first fault that pass two meets, as a relation: how the walk comes to a record, all before it being in order, and what fails there.
-use Prim.Native.Nat.{ℕ, zero, suc, _+_, _≤_, _<_}
+use Prim.Native.Nat.{ℕ, suc, _+_, _≤_, _<_}
 use mathlib.Core.List.{List, [], _∷_}
 use mathlib.Core.Logic.{_≢_}
 use lib.ListN.{length}
-use mathlib.Core.Option.{some}
-use mathlib.Core.Path.{_≡_}
 use Rattle.formats.specs.Refusals.{outOfOrder, tooManyPending}
-use Rattle.formats.specs.Records.{nth}
-use Rattle.formats.specs.Programs.{Expr, const, var, add, ifZero, letIn, leafOf, nodeOf, caseOf, call, Args, noArgs, arg, size, Signature, Function}
+use Rattle.formats.specs.Programs.{Expr, add, ifZero, letIn, leafOf, nodeOf, caseOf, call, Args, noArgs, arg, size, Signature, Function}
 use Rattle.rules.specs.Types.{Ty, Int, Tree⁺, resultType}
 use Rattle.rules.specs.Leftover.{InOrder, mostPending}
 

@@ -2,14 +2,14 @@
 --
 -- A judgement Γ | Δ ⊢ M : τ ↗ Δ′ is `Checks gs g n r Δ e τ Δ′`: Γ and n are those of Typing, r is the number of e's own record. A derivation is
 -- data, and its lines are one fold over it.
-use Prim.Native.Nat.{ℕ, zero, suc, _+_, _≤_, _<_}
+use Prim.Native.Nat.{ℕ, suc, _+_, _≤_, _<_}
 use mathlib.Core.List.{List, [], _∷_, _++_}
 use mathlib.Core.Option.{some}
 use mathlib.Core.Path.{_≡_}
 use lib.ListN.{length}
 use Rattle.formats.specs.Records.{Kind, Const, Var, Add, IfZero, Let, Leaf, Node, Case, Call, nth}
-use Rattle.formats.specs.Programs.{Expr, const, var, add, ifZero, letIn, leafOf, nodeOf, caseOf, call, Args, noArgs, arg, size, Every, Signature, Function}
-use Rattle.rules.specs.Types.{Ty, Int, Tree⁻, Tree⁺, arrow, resultType, functionType}
+use Rattle.formats.specs.Programs.{Expr, const, var, add, ifZero, letIn, leafOf, nodeOf, caseOf, call, Args, noArgs, arg, size, Every, Signature}
+use Rattle.rules.specs.Types.{Ty, Int, Tree⁻, Tree⁺, arrow, functionType}
 
 -- The judgement for the tree name that a Case or a Call has.
 pub data ChecksName : List ℕ → ℕ → Ty → List ℕ → Type 0 where

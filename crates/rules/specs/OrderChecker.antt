@@ -1,7 +1,7 @@
 -- What holds of the order checker: the statements. They are proved in proofs/OrderChecker.antt.
 --
 -- Demand 2: "within the limits, the order checker passes precisely what document 000's typing rules admit, with document 01's for Let and IfZero".
-use Prim.Native.Nat.{ℕ, zero, suc, _+_, _≤_, _<_}
+use Prim.Native.Nat.{ℕ, suc, _+_, _≤_}
 use mathlib.Core.List.{List, [], _∷_, _++_, map}
 use mathlib.Core.Logic.{_↔_}
 use mathlib.Core.Path.{_≡_}
@@ -12,7 +12,7 @@ use Rattle.formats.specs.Records.{Kind, partsOf}
 use Rattle.formats.specs.Programs.{Expr, size, Every, Signature, signatureOf, Function, Program, signatures, nodes, Lawful}
 use Rattle.rules.specs.Types.{Ty, resultType, functionType}
 use Rattle.rules.specs.Typing.{Types, TypedFunction}
-use Rattle.rules.specs.Leftover.{Checks, Line, lines, FewAtCase, NoLonger, InOrder, mostPending}
+use Rattle.rules.specs.Leftover.{Checks, lines, FewAtCase, NoLonger, mostPending}
 use Rattle.rules.specs.Scopes.{Scope, inside, expectedIn, PartTyped, Entry, entry, enteredAll}
 use Rattle.rules.specs.PassOne.{mostWords, wordsOf, passOne, FirstFails}
 use Rattle.rules.specs.PassTwo.{passTwo, order}

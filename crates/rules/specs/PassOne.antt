@@ -1,5 +1,5 @@
 -- Document 01, "Checking": pass one. "Pass one, in prefix order, at each record: name bound, then type, then words."
-use Prim.Native.Nat.{ℕ, zero, suc, _<_, max}
+use Prim.Native.Nat.{ℕ, zero, suc, max}
 use mathlib.Core.Bool.{Bool, true, false}
 use mathlib.Core.List.{List, [], _∷_}
 use mathlib.Core.Option.{none, some}
@@ -10,7 +10,8 @@ use Rattle.formats.specs.Refusals.{wrongType, notBound, tooManyWords}
 use Rattle.formats.specs.Results.{Result, done, andThen, check}
 use Rattle.formats.specs.Records.{Kind, Const, Var, Add, IfZero, Let, Leaf, Node, Case, Call, nth}
 use Rattle.formats.specs.Programs.{Expr, const, var, add, ifZero, letIn, leafOf, nodeOf, caseOf, call, Args, noArgs, arg, Sort, numberValued, treeValued, Signature, Program, signatures}
-use Rattle.rules.specs.Types.{Ty, isInt, isTree, fits}
+use Rattle.formats.specs.Rows.{readProgram}
+use Rattle.rules.specs.Types.{isInt, isTree, fits}
 use Rattle.rules.specs.Scopes.{Scope, scope, Entry, entry, enteredAll}
 
 -- 01: "16 is the most".
@@ -77,6 +78,10 @@ passOver gs (x ∷ xs) = andThen (atEntry gs x) (λ u. passOver gs xs)
 
 unfoldable pub passOne : Program → Result (Unit {0})
 passOne program = passOver (signatures program) (enteredAll (suc (length (program .functions))) (program .functions))
+
+-- Flat records: the rows header to prefix form, then pass one. 01: "The source run needs pass one only".
+unfoldable pub checkOne : List ℕ → Result (Unit {0})
+checkOne s = andThen (readProgram s) passOne
 
 -- ---- where a condition first fails
 

@@ -1,5 +1,5 @@
 -- Document 01, "Checking": pass two. "The pending trees are a list of at most 16 numbers, at first the parameter alone."
-use Prim.Native.Nat.{ℕ, zero, suc, _+_}
+use Prim.Native.Nat.{ℕ, suc, _+_}
 use mathlib.Core.Bool.{Bool, true, false, _&&_}
 use mathlib.Core.List.{List, [], _∷_}
 use lib.Dec.{ltb, eqb}
@@ -7,6 +7,8 @@ use lib.ListN.{length}
 use Rattle.formats.specs.Refusals.{outOfOrder, tooManyPending}
 use Rattle.formats.specs.Results.{Result, done, refusal, andThen, check}
 use Rattle.formats.specs.Programs.{Expr, const, var, add, ifZero, letIn, leafOf, nodeOf, caseOf, call, Args, noArgs, arg, size, Function, Program}
+use Rattle.formats.specs.Rows.{readProgram}
+use Rattle.formats.specs.Blocks.{flatIn}
 use Rattle.rules.specs.Leftover.{mostPending}
 use Rattle.rules.specs.PassOne.{holdsAt, passOne}
 
@@ -67,3 +69,11 @@ passTwo program = walkAll (suc (length (program .functions))) (program .function
 -- Both passes. 01: "A check row is finished for the whole file before the next begins".
 unfoldable pub order : Program → Result (Unit {0})
 order program = andThen (passOne program) (λ u. passTwo program)
+
+-- Flat records: the rows header to prefix form, then both passes. 01: "the translator needs both passes".
+unfoldable pub checkRecords : List ℕ → Result (Unit {0})
+checkRecords s = andThen (readProgram s) order
+
+-- A program file: the block rows first.
+unfoldable pub checkFile : List ℕ → Result (Unit {0})
+checkFile s = andThen (flatIn s) checkRecords

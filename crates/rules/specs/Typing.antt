@@ -5,7 +5,7 @@
 -- number of tree names bound so far: 01 counts names along the path, so Case's node part binds n and n + 1.
 --
 -- The theorem stands beside this file: OrderChecker.antt, field `passes`. The checker passes precisely what these rules admit, within the limits.
-use Prim.Native.Nat.{ℕ, zero, suc, _<_}
+use Prim.Native.Nat.{ℕ, suc, _<_}
 use mathlib.Core.List.{List, [], _∷_, _++_}
 use mathlib.Core.Option.{some}
 use mathlib.Core.Path.{_≡_}

@@ -1,0 +1,2 @@
+-- The laws of the order checker over program files.
+pub mod Laws

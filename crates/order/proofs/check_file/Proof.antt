@@ -1,0 +1,20 @@
+-- `order::check_file` meets its contract: what the blocks gave stands at the start of the space, and both passes go over it.
+use borrow.Author.Needs.{needs}
+use lib.Seq.{length-take-le}
+use Rattle.order.proofs.Laws.{check-ways}
+use Rattle.order.proofs.check_file.Statement.{statement}
+use Rattle.order.proofs.check_file.Tie as tie
+
+pub check-file-spec : {M : Type 1} → statement M
+check-file-spec =
+    tie.close
+    (tie.spec
+    (λ c. search needs)
+    (λ c κs. search needs)
+    (λ c. search needs)
+    (λ c. search needs)
+    (λ c. search check-ways)
+    (λ c. search (needs, length-take-le, check-ways))
+    (λ c κs. search needs)
+    (λ c. search check-ways)
+    (λ c. search check-ways))

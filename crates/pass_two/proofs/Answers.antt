@@ -1,0 +1,85 @@
+-- What the answers of pass two's functions say of the walks that they tell, and where an expression's parts stand.
+use Prim.Native.Nat.{ℕ, suc, _+_, _-_}
+use mathlib.Core.List.{List, _∷_}
+use mathlib.Core.Path.{_≡_, refl, sym, ap, _∙_}
+use native.Mathlib.Nat.{le-trans}
+use native.Mathlib.Omega.{arith}
+use Rattle.formats.specs.Results.{Result, done, refusal, andThen, onValue}
+use Rattle.formats.specs.Programs.{Expr, size, Placed, behind, partsAt}
+use Rattle.formats.proofs.Results.{byResult, done-injective, done-not, then-done, then-refused}
+use Rattle.refusal.specs.Number.{number}
+use Rattle.refusal.specs.declared.Refusal.{Refusal}
+use Rattle.refusal.specs.declared.Verdict.{Verdict}
+use Rattle.refusal.specs.declared.Verdict.the-variants.{Passed, Refused}
+use Rattle.rules.specs.PassTwo.{joined}
+use Rattle.rules.proofs.Walks.{parts-held, row-upto}
+use Rattle.rules.proofs.Lists.{row-front, row-others}
+use Rattle.pass_two.specs.declared.Checked.{Checked}
+use Rattle.pass_two.specs.Walk.{listOf, Lent, Stand, stand, Tells, Here, HereRow, Joined, Went}
+
+-- ---- what an answer says of a walk
+
+-- nothing is both
+pub never : {A : Type 0} {v : Verdict} {why : Refusal} {place : ℕ} → v ≡ Refused why place → v ≡ Passed → A
+never e f = let z : _≡_ {A = ℕ} 0 1 = cc in absurd (omega arith)
+
+-- it passed: the trees are pending that the answer has, and it came to m
+pub record Came (c : Checked) (m : ℕ) (w : Result (List ℕ)) : Type 0 where
+  pub list : w ≡ done (listOf (c .pending))
+  pub place : c .next ≡ m
+
+pub came : {c : Checked} {m : ℕ} {w : Result (List ℕ)} → Tells c m w → c .verdict ≡ Passed → Came c m w
+came {c} {m} {w} told passed =
+    let is : done (stand (c .next) (listOf (c .pending))) ≡ onValue (stand m) w = sym (rw passed) ∙ told .is in
+    byResult w
+    (λ Δ e.
+    let same : stand (c .next) (listOf (c .pending)) ≡ stand m Δ = done-injective (is ∙ ap (onValue (stand m)) e) in
+    record { list = e ∙ ap (λ (x : Stand). done (x .trees)) (sym same); place = ap (λ (x : Stand). x .next) same })
+    (λ number place e. done-not (sym is) (ap (onValue (stand m)) e))
+
+-- what follows goes on with these trees
+pub follows : {c r : Checked} {m i : ℕ} {w : Result (List ℕ)} (f : List ℕ → Result (List ℕ)) → Tells c m w → c .verdict ≡ Passed
+    → Tells r i (f (listOf (c .pending))) → Tells r i (andThen w f)
+follows {i = i} f told passed t = record { is = t .is ∙ sym (ap (onValue (stand i)) (then-done f (came told passed .list))) }
+
+-- it refused: so does the walk ..
+pub stops : {c : Checked} {m : ℕ} {w : Result (List ℕ)} {why : Refusal} {place : ℕ} → Tells c m w → c .verdict ≡ Refused why place → w ≡ refusal (number why) place
+stops {c} {m} {w} {why} {place} told refused =
+    let stop : onValue (stand m) w ≡ refusal (number why) place = sym (told .is) ∙ (rw refused) in
+    byResult w
+    (λ Δ e. done-not (ap (onValue (stand m)) e) stop)
+    (λ number′ place′ e. let same : _≡_ {A = Result Stand} (refusal number′ place′) (refusal (number why) place) = sym (ap (onValue (stand m)) e) ∙ stop in e ∙ cc)
+
+-- .. and the whole, whatever follows
+pub stays : {c : Checked} {m : ℕ} {w : Result (List ℕ)} {why : Refusal} {place : ℕ} (i : ℕ) (f : List ℕ → Result (List ℕ))
+    → Tells c m w → c .verdict ≡ Refused why place → Tells c i (andThen w f)
+stays i f told refused = record { is = (rw refused) ∙ sym (ap (onValue (stand i)) (then-refused f (stops told refused))) }
+
+-- a test may come before what follows
+pub tested : {A B : Type 0} (w : Result A) (test : A → Result (Unit {0})) (f : A → Result B)
+    → andThen w (λ x. andThen (test x) (λ u. f x)) ≡ andThen (andThen w (λ x. andThen (test x) (λ u. done x))) f
+tested (done x) test f = byResult (test x) (λ u e. rw e) (λ number place e. rw e)
+tested (refusal number place) test f = refl
+
+-- a refusal did not go on
+pub stopped : (k last : ℕ) {c : Checked} {why : Refusal} {place : ℕ} → Lent (c .pending) → c .verdict ≡ Refused why place → Went k last c
+stopped k last lent refused = record { on = λ passed. never refused passed; lent = lent }
+
+-- both branches are through
+pub both-joined : {k i m : ℕ} {u w : Result (List ℕ)} {one other r : Checked} → Tells one i u → one .verdict ≡ Passed → Tells other m w → other .verdict ≡ Passed
+    → Joined (one .pending) other k r → Tells r m (joined k u w)
+unfolding joined
+both-joined told₁ passed₁ told₂ passed₂ j =
+    follows _ told₁ passed₁ (follows _ told₂ passed₂ (rw (came told₂ passed₂ .place) at (j .tells passed₂)))
+
+-- ---- where the parts stand
+
+module _ {s : List ℕ} {last : ℕ} where
+  pub parts-here : {k : ℕ} {e : Expr} → Here s last k e → HereRow s last (suc k) (partsAt k e) (k + size e)
+  parts-here {k} {e} h = record { signed = h .signed; known = h .known; row = parts-held s (h .signed) k e (h .holds); fits = h .fits }
+
+  pub first-here : {k i m : ℕ} {e : Expr} {ps : List Placed} → HereRow s last k (behind i e ∷ ps) m → Here s last k e
+  first-here h = record { signed = h .signed; known = h .known; holds = row-front (h .row); fits = le-trans (row-upto (row-others (h .row))) (h .fits) }
+
+  pub rest-here : {k i m : ℕ} {e : Expr} {ps : List Placed} → HereRow s last k (behind i e ∷ ps) m → HereRow s last (k + size e) ps m
+  rest-here h = record { signed = h .signed; known = h .known; row = row-others (h .row); fits = h .fits }

@@ -1,0 +1,242 @@
+-- Expressions, lists of them, and functions: a law for each way out of the functions that walk them, and what their calls ask.
+use Prim.Native.Nat.{ℕ, _+_, _-_, _*_, _≤_, _<_}
+use mathlib.Core.List.{List, [], _∷_}
+use mathlib.Core.Logic.{_≢_}
+use mathlib.Core.Path.{_≡_, refl, sym, ap, subst, _∙_}
+use native.Mathlib.Nat.{le-refl}
+use native.Mathlib.Numerals.{add-one}
+use native.Mathlib.Omega.{arith}
+use borrow.Author.Needs.{needs}
+use denote.Enum.Declared.{tagOf}
+use types.Run.{OneOf, miss}
+use lib.ListN.{length}
+use Rattle.formats.specs.Results.{done, onValue}
+use Rattle.formats.specs.Records.{Kind, partCount}
+use Rattle.formats.specs.Records.{IfZero as anIfZero, Case as aCase, Call as aCall}
+use Rattle.formats.specs.Programs.{Expr, size, Placed, behind, partsAt, Signature}
+use Rattle.formats.specs.Rows.{arityIn, nodeIn}
+use Rattle.formats.proofs.Results.{done-injective, done-not}
+use Rattle.formats.proofs.Programs.{some-record}
+use Rattle.refusal.specs.declared.Refusal.{Refusal}
+use Rattle.refusal.specs.declared.Refusal.the-variants.{PrefixForm, OutOfOrder}
+use Rattle.refusal.specs.declared.Verdict.the-variants.{Passed, Refused}
+use Rattle.records.specs.Read.{Shape, meant, listed, described, shapeOf}
+use Rattle.records.specs.declared.Record.{Record}
+use Rattle.records.specs.declared.Record.the-variants.{Const, Var, Add, IfZero, Let, Leaf, Node, Case, Call}
+use Rattle.records.specs.declared.Parts.{Parts}
+use Rattle.records.specs.declared.RecordRead.{RecordRead}
+use Rattle.records.specs.declared.RecordRead.the-variants.{Read, Refused as NotRead}
+use Rattle.records.specs.declared.TreeName.{TreeName}
+use Rattle.records.specs.declared.Called.{Called}
+use Rattle.records.proofs.Record as TheRecord
+use Rattle.rules.specs.PassTwo.{walk, noneLeft}
+use Rattle.rules.proofs.Parts.{Known, headOf, Row, walkParts}
+use Rattle.rules.proofs.Parts.{end as no-part, next as a-part}
+use Rattle.rules.proofs.Walks.{node-held, parts-counted}
+use Rattle.rules.proofs.Lists.{walk-call, Plain, walk-parts, Shaped, shaped, plain, an-if, a-case, a-call}
+use Rattle.pass_two.specs.declared.Pending.{Pending}
+use Rattle.pass_two.specs.declared.Checked.{Checked}
+use Rattle.pass_two.specs.Walk.{fromLast, listOf, Alone, Lent, Room, Small, Tells, Here, HereRow, Took, TookForCase, Went, Ordered, OrderedCall, OrderedCase, OrderedIf, OrderedList, OrderedFunction}
+use Rattle.pass_two.proofs.Heads.{by-head}
+use Rattle.pass_two.proofs.Answers.{never, came, follows, stays, stopped, parts-here, first-here, rest-here}
+
+-- ---- `order_list`
+
+-- a row has no part, or a first one
+data Split (s : List ℕ) (last k : ℕ) : List Placed → ℕ → Type 0 where
+  none : Split s last k [] k
+  some : {m : ℕ} {e : Expr} {ps : List Placed} → HereRow s last k (behind k e ∷ ps) m → Split s last k (behind k e ∷ ps) m
+
+split : {s : List ℕ} {last k m : ℕ} {ps : List Placed} → HereRow s last k ps m → Split s last k ps m
+split {s} {last} {k} h = by (h .row) (h .known) (h .fits)
+  where
+    by : {gs : List Signature} {ps : List Placed} {m : ℕ} → Row s gs k ps m → Known s gs → m ≤ last → Split s last k ps m
+    by no-part known fits = none
+    by (a-part e more) known fits = some (record { signed = _; known = known; row = a-part e more; fits = fits })
+
+module _ (s : List ℕ) (i count k last n : ℕ) (p : Pending) where
+  pub list-done : Small k last n → Lent p → count ≤ i → OrderedList s i count k last n p (record { verdict = Passed; pending = p; next = k })
+  unfolding walkParts
+  list-done small lent over = record { on = λ u. (le-refl k, small .before-end); lent = lent; tells = λ ps m h e. told (split h) e }
+    where
+      told : {ps : List Placed} {m : ℕ} → Split s last k ps m → i + length ps ≡ count
+          → Tells (record { verdict = Passed; pending = p; next = k }) m (walkParts n (listOf p) ps)
+      told none e = record { is = refl }
+      told (some h) e = absurd (omega arith)
+
+  module _ (first : Checked) (of : Ordered s k last n p first) (more : i < count) where
+    pub list-stops : (why : Refusal) (place : ℕ) → first .verdict ≡ Refused why place → OrderedList s i count k last n p first
+    unfolding walkParts
+    list-stops why place refused = record { on = λ passed. never refused passed; lent = of .went .lent; tells = λ ps m h e. told (split h) e }
+      where
+        told : {ps : List Placed} {m : ℕ} → Split s last k ps m → i + length ps ≡ count → Tells first m (walkParts n (listOf p) ps)
+        told none e = absurd (omega arith)
+        told (some h) e = stays _ _ (of .tells _ (first-here h)) refused
+
+    pub list-more : (r : Checked) → first .verdict ≡ Passed → OrderedList s (i + 1) count (first .next) last n (first .pending) r → OrderedList s i count k last n p r
+    unfolding walkParts
+    list-more r passed o = record {
+      on = λ u.
+          let before = of .went .on passed in
+          let behind = o .on u in
+          omega arith;
+      lent = o .lent;
+      tells = λ ps m h e. told (split h) e;
+    }
+      where
+        told : {ps : List Placed} {m : ℕ} → Split s last k ps m → i + length ps ≡ count → Tells r m (walkParts n (listOf p) ps)
+        told none e = absurd (omega arith)
+        told (some {e = x} h) e =
+            let here = of .tells x (first-here h) in
+            let rest : OrderedList s (i + 1) count (k + size x) last n (first .pending) r = rw (came here passed .place) at o in
+            follows _ here passed (rest .tells _ _ (rest-here h) (omega arith))
+
+pub ruleset lists = (list-done, list-stops, list-more)
+
+-- ---- `order_call`
+
+module _ (s : List ℕ) (a count k last n : ℕ) (p : Pending) (after : Checked) (oa : OrderedList s 0 count (k + 1) last n p after) where
+  args-told : {ps : List Placed} {m : ℕ} → HereRow s last (k + 1) ps m → length ps ≡ count → Tells after m (walkParts n (listOf p) ps)
+  args-told h e = oa .tells _ _ h (omega arith)
+
+  pub call-stops : (why : Refusal) (place : ℕ) → after .verdict ≡ Refused why place → OrderedCall s a count k last n p after
+  call-stops why place refused = record { went = stopped k last (oa .lent) refused; tells = λ ps m h e. stays _ _ (args-told h e) refused }
+
+  pub call-takes : (r : Checked) → after .verdict ≡ Passed → Took (after .pending) a k (after .next) r → OrderedCall s a count k last n p r
+  call-takes r passed took = record {
+    went = record {
+      on = λ u. let on = oa .on passed in omega (arith, took .on);
+      lent = took .lent;
+    };
+    tells = λ ps m h e. follows _ (args-told h e) passed (rw (came (args-told h e) passed .place) at (took .tells));
+  }
+
+pub ruleset calls = (call-stops, call-takes)
+
+-- ---- `order_at`
+
+pub at-end : (s : List ℕ) (k last n : ℕ) (p : Pending) → Lent p → last ≤ k → Ordered s k last n p (record { verdict = Refused PrefixForm k; pending = p; next = k })
+at-end s k last n p lent over = record { went = stopped k last lent refl; tells = λ e h. absurd (omega (arith, some-record e, h .fits)) }
+
+-- the arms that take parts alone are those of six kinds
+abbrev plainTags : List ℕ
+plainTags = 0 ∷ 1 ∷ 2 ∷ 4 ∷ 5 ∷ 6 ∷ []
+
+plain-read : (node : Record) → OneOf plainTags (tagOf TheRecord.the-type node) → Plain (meant node)
+plain-read (Const c) h = tt
+plain-read (Var v) h = tt
+plain-read Add h = tt
+plain-read IfZero h = miss plainTags 3 tt h
+plain-read Let h = tt
+plain-read Leaf h = tt
+plain-read Node h = tt
+plain-read (Case t) h = miss plainTags 7 tt h
+plain-read (Call c) h = miss plainTags 8 tt h
+
+module _ (s : List ℕ) (k last n : ℕ) (p : Pending) (read : RecordRead) (told : described read ≡ onValue shapeOf (nodeIn s k)) where
+  -- what is read is the expression's own record
+  own-read : {e : Expr} → Here s last k e → described read ≡ done (shapeOf (headOf e))
+  own-read {e} h = told ∙ ap (onValue shapeOf) (node-held s (h .signed) k e (h .holds))
+
+  pub at-refused : (why : Refusal) (place : ℕ) → Lent p → read ≡ NotRead why place → Ordered s k last n p (record { verdict = Refused why place; pending = p; next = k })
+  at-refused why place lent is = record { went = stopped k last lent refl; tells = λ e h. done-not (own-read h) (ap described is) }
+
+  module _ (node : Record) (parts : Parts) (is : read ≡ Read node parts) where
+    own-shape : {e : Expr} → Here s last k e → shapeOf (headOf e) ≡ record { kind = meant node; parts = listed parts }
+    own-shape h = done-injective (sym (own-read h) ∙ ap described is)
+
+    own-kind : (kind : Kind) (e : Expr) → Here s last k e → meant node ≡ kind → Shaped kind e
+    own-kind kind e h case = subst (λ (x : Kind). Shaped x e) (ap (λ (x : Shape). x .kind) (own-shape h) ∙ case) (shaped e)
+
+    pub at-if : (r : Checked) → node ≡ IfZero → OrderedIf s k last n p r → Ordered s k last n p r
+    at-if r case o = record { went = o .went; tells = λ e h. by (own-kind anIfZero e h (ap meant case)) h }
+      where
+        by : {e : Expr} → Shaped anIfZero e → Here s last k e → Tells r (k + size e) (walk n k (listOf p) e)
+        by (plain never) h = absurd never
+        by an-if h = o .tells _ _ _ h
+
+    pub at-case : (r : Checked) (t : TreeName) → node ≡ Case t → OrderedCase s (t .a) k last n p r → Ordered s k last n p r
+    at-case r t case o = record { went = o .went; tells = λ e h. by (own-kind (aCase (t .a)) e h (ap meant case)) h }
+      where
+        by : {e : Expr} → Shaped (aCase (t .a)) e → Here s last k e → Tells r (k + size e) (walk n k (listOf p) e)
+        by (plain never) h = absurd never
+        by a-case h = o .tells _ _ h
+
+    module _ (count : ℕ) (counted : count ≡ partCount (arityIn s) (listed parts)) where
+      -- so many parts, from the next record on
+      here-parts : {e : Expr} → Here s last k e → HereRow s last (k + 1) (partsAt k e) (k + size e)
+      here-parts h = rw add-one (parts-here h)
+
+      count-parts : (e : Expr) → Here s last k e → length (partsAt k e) ≡ count
+      count-parts e h =
+          parts-counted s (h .signed) k e (h .known) (h .holds) ∙ ap (λ (x : Shape). partCount (arityIn s) (x .parts)) (own-shape h) ∙ sym counted
+
+      pub at-call : (r : Checked) (c : Called) → node ≡ Call c → OrderedCall s (c .a) count k last n p r → Ordered s k last n p r
+      unfolding partsAt
+      at-call r c case o = record { went = o .went; tells = λ e h. by (own-kind (aCall (c .a) (c .b)) e h (ap meant case)) h }
+        where
+          by : {e : Expr} → Shaped (aCall (c .a) (c .b)) e → Here s last k e → Tells r (k + size e) (walk n k (listOf p) e)
+          by (plain never) h = absurd never
+          by (a-call {xs = xs}) h = rw (walk-call n k (listOf p) (c .a) (c .b) xs) (o .tells _ _ (here-parts h) (count-parts _ h))
+
+      pub at-parts : (r : Checked) → OneOf plainTags (tagOf TheRecord.the-type node) → OrderedList s 0 count (k + 1) last n p r → Ordered s k last n p r
+      at-parts r tag o = record {
+        went = record { on = λ u. let on = o .on u in omega arith; lent = o .lent };
+        tells = λ e h.
+            let kind : headOf e ≡ meant node = ap (λ (x : Shape). x .kind) (own-shape h) in
+            let counts = count-parts e h in
+            rw (walk-parts n k (listOf p) e (rw kind (plain-read node tag))) (o .tells _ _ (here-parts h) (omega arith));
+      }
+
+pub ruleset ats = (at-end, at-refused, at-if, at-case, at-call, at-parts)
+
+-- ---- `order_function`
+
+module _ (s : List ℕ) (k last : ℕ) (start : Pending) (alone : Alone start) (body : Checked) (o : Ordered s k last 1 start body) where
+  -- the body's walk, from its parameter alone
+  body-told : {e : Expr} → Here s last k e → Tells body (k + size e) (walk 1 k (0 ∷ []) e)
+  body-told {e} h = rw (alone .is) at (o .tells e h)
+
+  pub function-stops : (why : Refusal) (place : ℕ) → body .verdict ≡ Refused why place → OrderedFunction s k last body
+  function-stops why place refused = record { went = o .went; tells = λ e h. stays _ _ (body-told h) refused }
+
+  module _ (passed : body .verdict ≡ Passed) where
+    pub function-left : body .pending .len ≢ 0 → OrderedFunction s k last (record { verdict = Refused OutOfOrder k; pending = body .pending; next = k })
+    unfolding noneLeft
+    function-left left = record {
+      went = stopped k last (o .went .lent) refl;
+      tells = λ e h. follows _ (body-told h) passed (record { is = rw (by-head (body .pending) left) });
+    }
+
+    pub function-none : body .pending .len ≡ 0 → OrderedFunction s k last body
+    unfolding noneLeft fromLast
+    function-none empty = record {
+      went = o .went;
+      tells = λ e h. follows _ (body-told h) passed (record { is = rw (passed, came (body-told h) passed .place, empty) });
+    }
+
+pub ruleset functions = (function-stops, function-left, function-none)
+
+-- ---- what the calls ask: names stay few, there is room for two more, and the records left fall
+
+pub case-room : (p : Pending) (a k : ℕ) (taken : Checked) → TookForCase p a k taken → taken .verdict ≡ Passed → Room (taken .pending)
+case-room p a k taken took passed = took .room passed
+
+module _ (k last : ℕ) (c : Checked) (went : Went k last c) (passed : c .verdict ≡ Passed) where
+  pub few-on : (n : ℕ) → Small k last n → Small (c .next) last n
+  few-on n small = let on = went .on passed in record { before-end = on .1; few = small .few; trees = omega (arith, small .trees) }
+
+  pub few-inside : (n : ℕ) → Small k last n → Small (c .next) last (n + 2)
+  few-inside n small = let on = went .on passed in record { before-end = on .1; few = small .few; trees = omega (arith, small .trees) }
+
+  pub fall-list : (t : ℕ) → 3 * (last - k) + 2 ≡ t → 3 * (last - c .next) + 2 < t
+  fall-list t h = let on = went .on passed in omega arith
+
+module _ (t k last : ℕ) (is : 3 * (last - k) ≡ t) (c : Checked) (went : Went (k + 1) last c) (passed : c .verdict ≡ Passed) where
+  pub fall-second : 3 * (last - c .next) + 1 < t
+  fall-second = let on = went .on passed in omega arith
+
+  pub fall-third : (d : Checked) → Went (c .next) last d → d .verdict ≡ Passed → 3 * (last - d .next) + 1 < t
+  fall-third d went′ passed′ = let on = went .on passed in let on′ = went′ .on passed′ in omega arith
+
+pub ruleset asked = (case-room, few-on, few-inside, fall-list, fall-second, fall-third, needs)

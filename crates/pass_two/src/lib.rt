@@ -1,0 +1,322 @@
+// Document 01's pass two, over flat records, 8 bytes each: the order in which a program visits its trees.
+use records::Record;
+use records::RecordRead;
+use refusal::Refusal;
+use refusal::Verdict;
+ghost use Prim.Native.Nat.{_+_};
+ghost use mathlib.Core.Path.{_≡_};
+ghost use Rattle.formats.specs.Results.{done, verdict};
+ghost use Rattle.formats.specs.Rows.{readProgram};
+ghost use Rattle.refusal.specs.Said.{said};
+ghost use Rattle.rules.specs.PassTwo.{sameNames, checkRecords};
+ghost use Rattle.pass_two.specs.Walk.{listOf, Lent, Room, Small, Alone, Took, TookForCase, Put, Joined, Ordered, OrderedCall, OrderedCase, OrderedIf, OrderedList, OrderedFunction, PassSays};
+
+// The most trees pending.
+const MOST_PENDING: usize = 16;
+
+// The pending trees: the names of so many, the head last.
+struct Pending {
+    names: [u16; MOST_PENDING],
+    len: usize,
+}
+
+// What a check says, with the trees then pending and the record behind what was checked.
+struct Checked {
+    verdict: Verdict,
+    pending: Pending,
+    next: usize,
+}
+
+// The pending trees at first: a function's parameter alone, tree 0.
+fn parameter_alone() -> Pending
+    ensures { λ r. ⌜ Alone r ⌝ }
+{
+    Pending {
+        names: [0u16; MOST_PENDING],
+        len: 1,
+    }
+}
+
+// The pending trees without tree `a`, which must be their head: else 11 at record k.
+fn take_head(pending: Pending, a: u8, k: usize, next: usize) -> Checked
+    requires { ⌜ Lent pending ⌝ }
+    ensures { λ r. ⌜ Took pending a k next r ⌝ }
+{
+    let len = pending.len;
+    let names = pending.names;
+    if len == 0 {
+        return Checked {
+            verdict: Verdict::Refused(Refusal::OutOfOrder, k),
+            pending: pending,
+            next: next,
+        };
+    }
+    if names[len - 1] != (a as u16) {
+        return Checked {
+            verdict: Verdict::Refused(Refusal::OutOfOrder, k),
+            pending: pending,
+            next: next,
+        };
+    }
+    Checked {
+        verdict: Verdict::Passed,
+        pending: Pending {
+            names: names,
+            len: len - 1,
+        },
+        next: next,
+    }
+}
+
+// A Case at record k takes tree `a`, where there is room for its two names: else 12.
+fn take_for_case(pending: Pending, a: u8, k: usize) -> Checked
+    requires { ⌜ Lent pending ⌝ }
+    ensures { λ r. ⌜ TookForCase pending a k r ⌝ }
+{
+    let taken = take_head(pending, a, k, k);
+    let said = taken.verdict;
+    if let Verdict::Refused(why, place) = said {
+        return taken;
+    }
+    if MOST_PENDING <= pending.len {
+        return Checked {
+            verdict: Verdict::Refused(Refusal::TooManyPending, k),
+            pending: pending,
+            next: k,
+        };
+    }
+    taken
+}
+
+// The pending trees with two more in front: the left tree's name, then the right one's.
+fn put_two(pending: Pending, left: u16, right: u16) -> Pending
+    requires { ⌜ Room pending ⌝ }
+    ensures { λ r. ⌜ Put pending left right r ⌝ }
+{
+    let len = pending.len;
+    let mut names = pending.names;
+    names[len] = right;
+    names[len + 1] = left;
+    Pending {
+        names: names,
+        len: len + 2,
+    }
+}
+
+// Whether the same trees are pending.
+fn is_same(one: Pending, other: Pending) -> bool
+    requires { ⌜ Lent one × Lent other ⌝ }
+    ensures { λ r. ⌜ r ≡ sameNames (listOf one) (listOf other) ⌝ }
+{
+    let len = one.len;
+    if len != other.len {
+        return false;
+    }
+    let these = one.names;
+    let those = other.names;
+    let mut i = 0;
+    while i < len {
+        if these[i] != those[i] {
+            return false;
+        }
+        i = i + 1;
+    }
+    true
+}
+
+// Both branches of the Case or IfZero at record k are through: they must have left the same trees.
+fn joined(one: Pending, other: Checked, k: usize) -> Checked
+    requires { ⌜ Lent one × Lent (other .pending) ⌝ }
+    ensures { λ r. ⌜ Joined one other k r ⌝ }
+{
+    let after = other.pending;
+    if is_same(one, after) {
+        return other;
+    }
+    Checked {
+        verdict: Verdict::Refused(Refusal::OutOfOrder, k),
+        pending: after,
+        next: other.next,
+    }
+}
+
+// Pass two over the expression at record k, where so many tree names are bound. The records left up to the end fall at each call.
+fn order_at(flat: &[u8], k: usize, end: usize, trees: u16, pending: Pending) -> Checked
+    requires { ⌜ Small k end trees × Lent pending ⌝ }
+    ensures { λ r. ⌜ Ordered (now (flat .entry)) k end trees pending r ⌝ }
+{
+    if end <= k {
+        return Checked {
+            verdict: Verdict::Refused(Refusal::PrefixForm, k),
+            pending: pending,
+            next: k,
+        };
+    }
+    let found = records::record_at(flat, k);
+    match found {
+        RecordRead::Refused(why, place) => Checked {
+            verdict: Verdict::Refused(why, place),
+            pending: pending,
+            next: k,
+        },
+        RecordRead::Read(node, parts) => {
+            let count = nodes::part_count(flat, parts);
+            match node {
+                Record::IfZero => order_if(flat, k, end, trees, pending),
+                Record::Case(t) => order_case(flat, t.a, k, end, trees, pending),
+                Record::Call(c) => order_call(flat, c.a, count, k, end, trees, pending),
+                _ => order_list(flat, 0, count, k + 1, end, trees, pending),
+            }
+        }
+    }
+}
+
+// A Call takes the head after its arguments.
+fn order_call(
+    flat: &[u8],
+    a: u8,
+    count: usize,
+    k: usize,
+    end: usize,
+    trees: u16,
+    pending: Pending,
+) -> Checked
+    requires { ⌜ Small (k + 1) end trees × Lent pending ⌝ }
+    ensures { λ r. ⌜ OrderedCall (now (flat .entry)) a count k end trees pending r ⌝ }
+{
+    let after = order_list(flat, 0, count, k + 1, end, trees, pending);
+    let said = after.verdict;
+    if let Verdict::Refused(why, place) = said {
+        return after;
+    }
+    take_head(after.pending, a, k, after.next)
+}
+
+// Pass two over a list of arguments, or of parts, from number i on, the next of them at record k: one after the other.
+fn order_list(
+    flat: &[u8],
+    i: usize,
+    count: usize,
+    k: usize,
+    end: usize,
+    trees: u16,
+    pending: Pending,
+) -> Checked
+    requires { ⌜ Small k end trees × Lent pending ⌝ }
+    ensures { λ r. ⌜ OrderedList (now (flat .entry)) i count k end trees pending r ⌝ }
+{
+    if count <= i {
+        return Checked {
+            verdict: Verdict::Passed,
+            pending: pending,
+            next: k,
+        };
+    }
+    let first = order_at(flat, k, end, trees, pending);
+    let said = first.verdict;
+    if let Verdict::Refused(why, place) = said {
+        return first;
+    }
+    order_list(flat, i + 1, count, first.next, end, trees, first.pending)
+}
+
+// A Case takes the head. Its leaf part begins with the others; its node part with its two names in front of them.
+fn order_case(flat: &[u8], a: u8, k: usize, end: usize, trees: u16, pending: Pending) -> Checked
+    requires { ⌜ Small (k + 1) end trees × Lent pending ⌝ }
+    ensures { λ r. ⌜ OrderedCase (now (flat .entry)) a k end trees pending r ⌝ }
+{
+    let taken = take_for_case(pending, a, k);
+    let head_said = taken.verdict;
+    if let Verdict::Refused(why, place) = head_said {
+        return taken;
+    }
+    let leaf = order_at(flat, k + 1, end, trees, taken.pending);
+    let leaf_said = leaf.verdict;
+    if let Verdict::Refused(why, place) = leaf_said {
+        return leaf;
+    }
+    let inner = put_two(taken.pending, trees, trees + 1);
+    let node = order_at(flat, leaf.next, end, trees + 2, inner);
+    let node_said = node.verdict;
+    if let Verdict::Refused(why, place) = node_said {
+        return node;
+    }
+    joined(leaf.pending, node, k)
+}
+
+// IfZero's parts both begin with the trees that its test left.
+fn order_if(flat: &[u8], k: usize, end: usize, trees: u16, pending: Pending) -> Checked
+    requires { ⌜ Small (k + 1) end trees × Lent pending ⌝ }
+    ensures { λ r. ⌜ OrderedIf (now (flat .entry)) k end trees pending r ⌝ }
+{
+    let test = order_at(flat, k + 1, end, trees, pending);
+    let test_said = test.verdict;
+    if let Verdict::Refused(why, place) = test_said {
+        return test;
+    }
+    let zero = order_at(flat, test.next, end, trees, test.pending);
+    let zero_said = zero.verdict;
+    if let Verdict::Refused(why, place) = zero_said {
+        return zero;
+    }
+    let other = order_at(flat, zero.next, end, trees, test.pending);
+    let other_said = other.verdict;
+    if let Verdict::Refused(why, place) = other_said {
+        return other;
+    }
+    joined(zero.pending, other, k)
+}
+
+// A function, its body at record k: begun with its parameter alone and ended with none.
+fn order_function(flat: &[u8], k: usize, end: usize) -> Checked
+    requires { ⌜ Small k end 1 ⌝ }
+    ensures { λ r. ⌜ OrderedFunction (now (flat .entry)) k end r ⌝ }
+{
+    let body = order_at(flat, k, end, 1, parameter_alone());
+    let said = body.verdict;
+    if let Verdict::Refused(why, place) = said {
+        return body;
+    }
+    let left = body.pending;
+    if left.len != 0 {
+        return Checked {
+            verdict: Verdict::Refused(Refusal::OutOfOrder, k),
+            pending: left,
+            next: k,
+        };
+    }
+    body
+}
+
+// The row "pass two": one function after the other.
+fn pass(flat: &[u8]) -> Verdict
+    requires { ⌜ verdict (readProgram (now flat)) ≡ done tt ⌝ }
+    ensures { λ r. ⌜ PassSays (now (flat .entry)) r ⌝ }
+{
+    let functions = words::read8(flat, 1) as usize;
+    let nodes = words::read16(flat, 2) as usize;
+    let end = 1 + functions + nodes;
+    let mut k = 1 + functions;
+    let mut j = 0;
+    while j < functions {
+        let checked = order_function(flat, k, end);
+        let said = checked.verdict;
+        if let Verdict::Refused(why, place) = said {
+            return Verdict::Refused(why, place);
+        }
+        k = checked.next;
+        j = j + 1;
+    }
+    Verdict::Passed
+}
+
+// The rows header to prefix form, pass one, then pass two.
+pub fn check_order(flat: &[u8]) -> Verdict
+    ensures { λ r. ⌜ said r ≡ checkRecords (now (flat .entry)) ⌝ }
+{
+    let one = pass_one::check_pass_one(flat);
+    if let Verdict::Refused(why, place) = one {
+        return Verdict::Refused(why, place);
+    }
+    pass(flat)
+}

@@ -26,7 +26,19 @@ extern "C" {
         answer: *mut u64,
         answer_len: usize,
     ) -> u32;
+
+    fn hogvax_check(file: *const u8, file_len: usize, answer: *mut u64, answer_len: usize) -> u32;
+
+    fn hogvax_check_records(
+        records: *const u8,
+        records_len: usize,
+        answer: *mut u64,
+        answer_len: usize,
+    ) -> u32;
 }
+
+/// A call that reads its first slice and answers in its second.
+type Question = unsafe extern "C" fn(*const u8, usize, *mut u64, usize) -> u32;
 
 /// A call that reads its first slice, writes to its second, and answers in
 /// its third.
@@ -41,16 +53,8 @@ pub fn tree_bytes(input: &[u8]) -> usize {
 
 /// The tree reader's answer as numbers; see `tree_into`.
 pub fn tree(input: &[u8], answer: &mut [u64]) -> u32 {
-    // SAFETY: pointers and lengths are those of one slice each, and the
-    // slice written is borrowed mutably.
-    unsafe {
-        hogvax_tree(
-            input.as_ptr(),
-            input.len(),
-            answer.as_mut_ptr(),
-            answer.len(),
-        )
-    }
+    // SAFETY: the library exports this call.
+    unsafe { ask(hogvax_tree, input, answer) }
 }
 
 /// The program file of these records; see `pack_into`.
@@ -63,6 +67,36 @@ pub fn pack(records: &[u8], file: &mut [u8], answer: &mut [u64]) -> u32 {
 pub fn unpack(file: &[u8], records: &mut [u8], answer: &mut [u64]) -> u32 {
     // SAFETY: the library exports this call.
     unsafe { convert(hogvax_unpack, file, records, answer) }
+}
+
+/// Both passes over this program file; see `check_into`.
+pub fn check(file: &[u8], answer: &mut [u64]) -> u32 {
+    // SAFETY: the library exports this call.
+    unsafe { ask(hogvax_check, file, answer) }
+}
+
+/// Both passes over these records; see `check_records_into`.
+pub fn check_records(records: &[u8], answer: &mut [u64]) -> u32 {
+    // SAFETY: the library exports this call.
+    unsafe { ask(hogvax_check_records, records, answer) }
+}
+
+/// Lends the two slices to a call.
+///
+/// # Safety
+///
+/// The call is one that the library exports.
+unsafe fn ask(call: Question, input: &[u8], answer: &mut [u64]) -> u32 {
+    // SAFETY: pointers and lengths are those of one slice each, and the
+    // slice written is borrowed mutably.
+    unsafe {
+        call(
+            input.as_ptr(),
+            input.len(),
+            answer.as_mut_ptr(),
+            answer.len(),
+        )
+    }
 }
 
 /// Lends the three slices to a call.

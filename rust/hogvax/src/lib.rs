@@ -10,9 +10,11 @@ use std::fmt;
 
 #[allow(unsafe_code)]
 mod ffi;
+mod order;
 mod program;
 mod tree;
 
+pub use order::{check, check_into, check_records, check_records_into};
 pub use program::{pack, pack_into, unpack, unpack_into, LONGEST_FILE, LONGEST_RECORDS};
 pub use tree::{first_tree, tree, tree_into};
 

@@ -125,6 +125,17 @@ fn records_and_files_are_the_programs() {
     }
 }
 
+#[test]
+fn programs_pass_the_order_checker() {
+    for (name, program) in programs() {
+        let records = bytes(&format!("programs/{name}.records"));
+        let file = bytes(&format!("programs/{name}.program"));
+        assert_eq!(hogvax::check_records(&records), Ok(()), "{name}");
+        assert_eq!(hogvax::check(&file), Ok(()), "{name}");
+        assert_eq!(reference::check_program(&program), Ok(()), "{name}");
+    }
+}
+
 /// The start of a function's line in the README: its number, result, number
 /// parameters and records.
 fn line(number: usize, function: &Function) -> String {

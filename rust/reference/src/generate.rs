@@ -4,13 +4,18 @@
 use crate::random::Random;
 use crate::tree::{Token, Tree};
 
+pub mod bodies;
 pub mod file_damage;
+pub mod order_damage;
+pub mod ordered;
 pub mod program_shapes;
 pub mod programs;
 pub mod random_damage;
 pub mod record_damage;
 
+pub use bodies::Alphabet;
 pub use file_damage::FileDamage;
+pub use order_damage::changed_program;
 pub use random_damage::{changed_file, damaged_file, damaged_records, resized_file};
 pub use record_damage::RecordDamage;
 

@@ -1,14 +1,16 @@
 //! Reference implementation for tests: trees, their tokens, the tree reader,
-//! programs, their records and program files, with generators of random
-//! inputs.
+//! programs, their records and program files, and the order checker, with
+//! generators of random inputs.
 
 #![forbid(unsafe_code)]
 
 pub mod generate;
+pub mod order;
 pub mod program;
 pub mod random;
 pub mod tree;
 
+pub use order::{check, check_program, check_records, Fault, Found};
 pub use program::{
     kind, lay_out, lay_out_runs, mend_checks, part_count, read_file, read_file_into, write_file,
     write_file_into, Expr, Function, Program, Record,

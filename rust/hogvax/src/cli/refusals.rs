@@ -126,17 +126,18 @@ The function holds 16 words already where a Const, a Var, a Case, or a Call
 that gives a number and has no arguments needs one more. 16 is the most.",
         place: "the record; the header is record 0.",
         example: "\
-one function, 16 times Let with Const 1 as its number, each the body of
-the one before, and Const 1 as the last body:
+one function, which gives a number: 16 times Let with Const 1 as its
+number, each the body of the one before, and Const 1 as the last body:
   refused 10 34",
     },
     Refusal {
         number: 11,
         name: "order of the trees",
         meaning: "\
-Trees are not taken in the order in which they come in the input. A Case or
-Call names a tree that is not the head of the pending ones, the branches of a
-Case or IfZero leave different trees pending, or a function leaves a tree.",
+Trees are not taken in the order in which they come in the input, each once. A
+Case or Call names a tree that is not the head of the pending ones, or none is
+pending; the branches of a Case or IfZero leave different trees pending; or a
+function leaves a tree.",
         place: "\
 the record of that Case or Call, of the Case or IfZero with those
 branches, or of the first node of that function; the header is record 0.",
@@ -153,8 +154,9 @@ A Case stands where 16 trees are pending. It would take one and put two in
 front, and 16 is the most.",
         place: "the record of the Case; the header is record 0.",
         example: "\
-one function, 16 times Case with Const 1 as its leaf part, each the
-node part of the one before and on its left tree:
+one function, which gives a number: 16 times Case with Const 1 as its
+leaf part, each the node part of the one before and on its left tree, and
+Const 1 as the last node part:
   refused 12 32",
     },
     Refusal {

@@ -2,6 +2,7 @@
 
 use std::ffi::{OsStr, OsString};
 
+use crate::check;
 use crate::help;
 use crate::outcome::{Outcome, Trouble};
 use crate::pack;
@@ -23,7 +24,14 @@ pub struct Verb {
 }
 
 /// All verbs, in the order in which they are listed.
-pub const VERBS: &[Verb] = &[tree::VERB, pack::VERB, unpack::VERB, why::VERB, help::VERB];
+pub const VERBS: &[Verb] = &[
+    tree::VERB,
+    pack::VERB,
+    unpack::VERB,
+    check::VERB,
+    why::VERB,
+    help::VERB,
+];
 
 impl Verb {
     /// How it is called: its name and its operands.

@@ -1,5 +1,6 @@
 //! The command line: what each verb prints, and its exit status.
 
+mod check;
 mod programs;
 mod tree;
 mod why;
@@ -9,7 +10,7 @@ use std::io::{ErrorKind, Write};
 use std::path::{Path, PathBuf};
 use std::process::{Child, Command, Output, Stdio};
 
-const VERBS: [&str; 5] = ["tree", "pack", "unpack", "why", "help"];
+const VERBS: [&str; 6] = ["tree", "pack", "unpack", "check", "why", "help"];
 
 fn command(words: &[&str]) -> Command {
     let mut command = Command::new(env!("CARGO_BIN_EXE_hogvax"));
@@ -157,6 +158,7 @@ fn wrong_usage_is_told() {
     let tree = "usage: hogvax tree [FILE]";
     let pack = "usage: hogvax pack [FILE] [--out FILE]";
     let unpack = "usage: hogvax unpack [FILE] [--out FILE]";
+    let check = "usage: hogvax check [FILE]";
     let why = "usage: hogvax why NUMBER";
     for (words, part) in [
         (&["trees"][..], "no verb 'trees'"),
@@ -175,6 +177,9 @@ fn wrong_usage_is_told() {
         (&["unpack", "a", "b", "--out", "c"], unpack),
         (&["unpack", "-o", "a"], unpack),
         (&["unpack", "--out=a"], unpack),
+        (&["check", "a", "b"], check),
+        (&["check", "--fast"], check),
+        (&["check", "--out", "a"], check),
         (&["why"], why),
         (&["why", "1", "2"], why),
         (&["why", ""], why),
@@ -204,7 +209,7 @@ fn words_need_not_be_text() {
 #[cfg(unix)]
 #[test]
 fn a_broken_pipe_is_no_panic() {
-    for words in [&["help"][..], &["why", "1"], &["tree"]] {
+    for words in [&["help"][..], &["why", "1"], &["tree"], &["check"]] {
         let mut child = piped(words);
         drop(child.stdout.take());
         drop(child.stdin.take());
@@ -219,7 +224,7 @@ fn a_broken_pipe_is_no_panic() {
 #[cfg(target_os = "linux")]
 #[test]
 fn a_full_device_is_told() {
-    for words in [&["help"][..], &["why", "1"], &["tree"]] {
+    for words in [&["help"][..], &["why", "1"], &["tree"], &["check"]] {
         let full = File::options().write(true).open("/dev/full").unwrap();
         let output = command(words).stdout(full).output().unwrap();
         assert!(trouble(output).contains("standard output"));

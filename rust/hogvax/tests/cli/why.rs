@@ -1,7 +1,7 @@
 //! `why`.
 
 use reference::generate::programs;
-use reference::{mend_checks, Random};
+use reference::{lay_out, mend_checks, Expr, Function, Program, Random};
 
 use super::*;
 
@@ -62,6 +62,41 @@ fn the_program_files_examples_are_true() {
         ("7", "pack", ONLY_ADD.to_vec()),
     ] {
         let line = String::from_utf8(run_on(&[verb], &input).stderr).unwrap();
+        let text = printed(run(&["why", number]));
+        assert!(text.ends_with(&format!("\n  {line}")), "{line}{text}");
+    }
+}
+
+/// The file of a program of one function.
+fn file(tree_valued: bool, body: Expr) -> Vec<u8> {
+    let program = Program::new(vec![Function {
+        tree_valued,
+        parameters: 0,
+        body,
+    }]);
+    lay_out(&program.records())
+}
+
+#[test]
+fn the_order_checkers_examples_are_true() {
+    let one = || Expr::constant(1);
+    let call = |tree| Expr::call(tree, 0, vec![]);
+    let lets = (0..16).fold(one(), |body, _| Expr::let_in(one(), body));
+    let right_first = Expr::node(call(2), call(1));
+    let right_first = Expr::case(0, Expr::leaf(Expr::var(0)), right_first);
+    let left = |above: u8| if above == 0 { 0 } else { 2 * above - 1 };
+    let cases = (0..16).rev();
+    let cases = cases.fold(one(), |node, above| Expr::case(left(above), one(), node));
+    for (number, input) in [
+        ("8", file(true, one())),
+        ("9", file(false, Expr::var(0))),
+        ("10", file(false, lets)),
+        ("11", file(true, right_first)),
+        ("12", file(false, cases)),
+    ] {
+        let output = run_on(&["check"], &input);
+        assert_eq!(output.status.code(), Some(1));
+        let line = String::from_utf8(output.stdout).unwrap();
         let text = printed(run(&["why", number]));
         assert!(text.ends_with(&format!("\n  {line}")), "{line}{text}");
     }

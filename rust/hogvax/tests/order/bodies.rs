@@ -1,0 +1,84 @@
+//! Every short program: the library, the walk and all splits.
+
+use reference::generate::Alphabet;
+
+use super::*;
+
+/// Every program with a body of so many records, or fewer: how many there
+/// are. The library and the reference's walk answer alike; where pass one is
+/// passed, all splits say the same.
+fn check_all(
+    alphabet: &Alphabet,
+    lengths: impl IntoIterator<Item = usize>,
+    trees: &[bool],
+) -> usize {
+    let mut count = 0;
+    for length in lengths {
+        for &tree_valued in trees {
+            alphabet.every_program(length, tree_valued, &mut |program| {
+                count += 1;
+                let found = order::check_program(program);
+                let refusal = found.map_err(order::Found::refusal);
+                let answer = hogvax::check_records(&program.records());
+                assert_eq!(answer, refusal.map_err(told), "{:?}", program.functions);
+                if ![8, 9, 10].contains(&number(answer)) {
+                    assert!(order::ways_agree(program), "{:?}", program.functions);
+                }
+            });
+        }
+    }
+    count
+}
+
+/// Const, Var 0 and 1, Add, IfZero, Let, Leaf, Node, Case 0 to 4, and Call 0
+/// on 0 to 4: 146,512 programs.
+#[test]
+fn bodies_of_up_to_five_records() {
+    let alphabet = Alphabet {
+        numbers: 1,
+        cases: 4,
+        calls: 4,
+        calls_with_argument: None,
+        trees: true,
+    };
+    assert_eq!(check_all(&alphabet, 1..=5, &[false, true]), 146_512);
+}
+
+/// In six records no tree above 2 is bound at a Case: 403,774 programs.
+#[test]
+fn bodies_of_six_records() {
+    let alphabet = Alphabet {
+        numbers: 0,
+        cases: 2,
+        calls: 4,
+        calls_with_argument: None,
+        trees: true,
+    };
+    assert_eq!(check_all(&alphabet, [6], &[false, true]), 403_774);
+}
+
+/// With a second function, which takes a number: 124,595 programs.
+#[test]
+fn bodies_of_up_to_six_records_with_arguments() {
+    let alphabet = Alphabet {
+        numbers: 0,
+        cases: 1,
+        calls: 2,
+        calls_with_argument: Some(2),
+        trees: false,
+    };
+    assert_eq!(check_all(&alphabet, 1..=6, &[false]), 124_595);
+}
+
+/// The same with trees: 47,410 programs.
+#[test]
+fn bodies_of_up_to_five_records_with_arguments() {
+    let alphabet = Alphabet {
+        numbers: 0,
+        cases: 1,
+        calls: 2,
+        calls_with_argument: Some(2),
+        trees: true,
+    };
+    assert_eq!(check_all(&alphabet, 1..=5, &[false, true]), 47_410);
+}

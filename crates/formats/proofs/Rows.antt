@@ -285,17 +285,17 @@ unfolding exactlyOne exprsOf
 body-done arity r e h = ap (exactlyOne r) (ap (exprsOf arity) (sym (append-nil (prefix e))) ∙ exprs-prefix e arity [] [] h refl)
 
 -- each Call in a function has its arguments
-abbrev AppliedBody : (ℕ → ℕ) → Function → Type 0
+abbrev pub AppliedBody : (ℕ → ℕ) → Function → Type 0
 AppliedBody arity f = Applied arity (f .body)
 
 -- what is known of functions whose bodies were read
-record BodiesRead (arity : ℕ → ℕ) (gs : List Signature) (ks : List Kind) (fs : List Function) : Type 0 where
-  signed : map signatureOf fs ≡ gs
-  own : nodes fs ≡ ks
-  applied : Every (AppliedBody arity) fs
+pub record BodiesRead (arity : ℕ → ℕ) (gs : List Signature) (ks : List Kind) (fs : List Function) : Type 0 where
+  pub signed : map signatureOf fs ≡ gs
+  pub own : nodes fs ≡ ks
+  pub applied : Every (AppliedBody arity) fs
 
 -- functions whose bodies were read are known ..
-bodies-inv : (arity : ℕ → ℕ) (gs : List Signature) (ks : List Kind) (r : ℕ) (fs : List Function) → length ks ≡ total gs → bodies arity gs ks r ≡ done fs
+pub bodies-inv : (arity : ℕ → ℕ) (gs : List Signature) (ks : List Kind) (r : ℕ) (fs : List Function) → length ks ≡ total gs → bodies arity gs ks r ≡ done fs
     → BodiesRead arity gs ks fs
 unfolding bodies total nodes signatureOf size
 bodies-inv arity [] [] r fs n e = subst (BodiesRead arity [] []) (done-injective e) (record { signed = refl; own = refl; applied = tt })

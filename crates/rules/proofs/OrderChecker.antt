@@ -18,7 +18,7 @@ use Rattle.rules.proofs.Entries.{in-prefix-order, one-by-one, part-type
 use Rattle.rules.proofs.PassOne.{Passes, pass-one, pass-nothing, pass-left, pass-right, pass-both}
 use Rattle.rules.proofs.Words.{few-words}
 use Rattle.rules.proofs.Typed.{passes-one}
-use Rattle.rules.proofs.PassTwo.{walks, second, no-typing}
+use Rattle.rules.proofs.PassTwo.{walks, second, no-typing, only-full}
 use Rattle.rules.proofs.FirstFault.{pass-two, only-one}
 use Rattle.rules.proofs.Printed.{printed, fixed}
 
@@ -117,6 +117,7 @@ order-checker = record {
   pass-two = pass-two;
   only-one = only-one;
   no-typing = no-typing;
+  only-full = only-full;
   printed = printed;
   fixed = fixed;
 }

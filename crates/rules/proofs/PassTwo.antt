@@ -250,23 +250,6 @@ unfolding walkArgs
 walks-args through = refl
 walks-args (one-more o os) = then-done _ (walks o) ∙ walks-args os
 
--- where Figure 19 types an expression, pass two refuses nothing but 12, and gives no other list
-pub decides :
-    {gs : List Signature} {g n r : ℕ} {Δ : List ℕ} {e : Expr} {τ : Ty} {Δ′ : List ℕ}
-    → Checks gs g n r Δ e τ Δ′
-    → (number place : ℕ)
-    → walk n r Δ e ≡ refusal number place
-    → number ≡ tooManyPending
-decides d number place e = said-refused (checked-walk d) e .0
-
-pub decides-list :
-    {gs : List Signature} {g n r : ℕ} {Δ : List ℕ} {e : Expr} {τ : Ty} {Δ′ : List ℕ}
-    → Checks gs g n r Δ e τ Δ′
-    → (Δ″ : List ℕ)
-    → walk n r Δ e ≡ done Δ″
-    → Δ″ ≡ Δ′
-decides-list d Δ″ e = said-done (checked-walk d) e
-
 -- where Figure 6 types every function, it refuses nothing but 12
 typed-walk :
     (gs : List Signature) (r : ℕ) (fs : List Function)
@@ -277,9 +260,16 @@ typed-walk gs r [] typed = good tt
 typed-walk gs r (f ∷ fs) typed =
     said-then (checked-walk (types-checks (typed .0) r [])) (λ number place h. h .0) λ Δ e. rw e (typed-walk gs (r + size (f .body)) fs (typed .1))
 
-pub no-typing : (program : Program) (r : ℕ) → passTwo program ≡ refusal outOfOrder r → Every (TypedFunction (signatures program)) (program .functions) → ⊥
+pub only-full :
+    (program : Program) (number r : ℕ)
+    → Every (TypedFunction (signatures program)) (program .functions)
+    → passTwo program ≡ refusal number r
+    → number ≡ tooManyPending
 unfolding passTwo
-no-typing program r e typed = let h = said-refused (typed-walk (signatures program) _ (program .functions) typed) e in omega arith
+only-full program number r typed e = said-refused (typed-walk (signatures program) _ (program .functions) typed) e
+
+pub no-typing : (program : Program) (r : ℕ) → passTwo program ≡ refusal outOfOrder r → Every (TypedFunction (signatures program)) (program .functions) → ⊥
+no-typing program r e typed = let h = only-full program outOfOrder r typed e in omega arith
 
 -- ---- an expression that passed pass one
 

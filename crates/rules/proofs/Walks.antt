@@ -1,25 +1,23 @@
 -- Laws of expressions in flat records, for functions that walk a program's records: an expression's own record, then its parts; the functions'
 -- signatures; and what is known of a program that was read.
 use Prim.Native.Nat.{ℕ, suc, _+_, _≤_, _<_}
-use mathlib.Core.List.{List, [], _∷_, _++_, map, append-nil}
-use mathlib.Core.Option.{Option, none, some}
-use mathlib.Core.Path.{_≡_, refl, sym, ap, ap₂, subst, _∙_}
+use mathlib.Core.List.{List, [], _∷_, _++_, map}
+use mathlib.Core.Option.{some}
+use mathlib.Core.Path.{_≡_, refl, sym, ap, subst, _∙_}
 use native.Mathlib.Nat.{zero-add, add-zero, add-suc, suc-add, add-assoc}
 use native.Mathlib.Omega.{arith}
-use lib.ListN.{length, take, drop, length-append, length-drop, length-map}
-use lib.Seq.{length-take-le}
+use lib.ListN.{length, length-append, length-map}
 use Rattle.formats.specs.Numbers.{Bytes}
 use Rattle.formats.specs.Results.{Result, done, refusal, andThen, each}
 use Rattle.formats.specs.Records.{Kind, Add, IfZero, Let, Leaf, Node, Case, Call, recordAt, fieldsOf, nth, partsOf, partCount}
 use Rattle.formats.specs.Programs.{Expr, const, var, add, ifZero, letIn, leafOf, nodeOf, caseOf, call, Args, noArgs, arg, prefix, prefixes, size, Placed, behind, argsAt, partsAt}
 use Rattle.formats.specs.Programs.{countArgs, Applied, AppliedArgs, Signature, arityOf, total, Function, signatureOf, Program, signatures, nodes, mostNodes, InRange, Every, LawfulFunctions}
-use Rattle.formats.specs.Rows.{headerIn, functionIn, arityIn, nodeIn, nodeAt, headerRow, functionRow, nodeRow, exprsOf, exactlyOne, bodies, prefixRow, readProgram}
+use Rattle.formats.specs.Rows.{headerIn, functionIn, arityIn, nodeIn, nodeAt, headerRow, functionRow, nodeRow, prefixRow, readProgram}
 use Rattle.formats.specs.ProgramFiles.{Stands, one-more}
-use Rattle.formats.proofs.Results.{done-injective, done-not, then-inv, each-inv, each-nth, each-length}
+use Rattle.formats.proofs.Results.{done-injective, then-inv, each-inv, each-nth, each-length}
 use Rattle.formats.proofs.Records.{node-done}
-use Rattle.formats.proofs.Prefix.{recordsOfAll, exprs-inv}
 use Rattle.formats.proofs.Programs.{stands-left, stands-right, every-left, every-right}
-use Rattle.formats.proofs.Rows.{FieldsRead, header-own, function-read, summed-inv, row-read, flattens, nodes-stand}
+use Rattle.formats.proofs.Rows.{FieldsRead, header-own, function-read, summed-inv, bodies-inv, row-read, flattens, nodes-stand}
 use Rattle.rules.specs.Scopes.{Scope, inside, entry, Entry, entered, enteredArgs}
 use Rattle.rules.specs.PassOne.{atEntry, passOver}
 use Rattle.rules.proofs.Parts.{Known, headOf, Holds, Row, end, next, passParts, Bodies, no-more}
@@ -239,33 +237,6 @@ module _ (gs : List Signature) where
 
 -- ---- a program that was read
 
--- where the check is done, there is one expression
-one-inv : (r : ℕ) (o : Option (List Expr)) (e : Expr) → exactlyOne r o ≡ done e → o ≡ some (e ∷ [])
-unfolding exactlyOne
-one-inv r none e h = done-not h refl
-one-inv r (some []) e h = done-not h refl
-one-inv r (some (x ∷ [])) e h = cc
-one-inv r (some (x ∷ (y ∷ es))) e h = done-not h refl
-
--- as many records as were read
-one-size : (arity : ℕ → ℕ) (ks : List Kind) (r : ℕ) (e : Expr) → exactlyOne r (exprsOf arity ks) ≡ done e → size e ≡ length ks
-unfolding size recordsOfAll
-one-size arity ks r e h = ap length (sym (append-nil (prefix e)) ∙ exprs-inv arity ks (e ∷ []) (one-inv r (exprsOf arity ks) e h) .joined)
-
--- functions whose bodies were read have the signatures that were read
-bodies-signed : (arity : ℕ → ℕ) (gs : List Signature) (ks : List Kind) (r : ℕ) (fs : List Function) → length ks ≡ total gs → bodies arity gs ks r ≡ done fs
-    → map signatureOf fs ≡ gs
-unfolding bodies total signatureOf
-bodies-signed arity [] ks r fs n e = ap (map signatureOf) (sym (done-injective e))
-bodies-signed arity (g ∷ gs) ks r fs n e =
-    let first = then-inv (exactlyOne r (exprsOf arity (take (g .count) ks))) _ fs e in
-    let later = then-inv (bodies arity gs (drop (g .count) ks) (r + g .count)) _ fs (first .second) in
-    let left : length (drop (g .count) ks) ≡ total gs = simp length-drop (omega arith) in
-    let counted : size (first .value) ≡ g .count = one-size arity _ r (first .value) (first .first) ∙ length-take-le (g .count) ks (omega arith) in
-    ap (map signatureOf) (sym (done-injective (later .second)))
-    ∙ ap₂ _∷_ (ap (λ (c : ℕ). record { sort = g .sort; parameters = g .parameters; count = c }) counted)
-    (bodies-signed arity gs (drop (g .count) ks) (r + g .count) (later .value) left (later .first))
-
 -- what the rows read: all signatures, and as many nodes as they count
 record RowsRead (s : List ℕ) (gs : List Signature) : Type 0 where
   known : Known s gs
@@ -282,7 +253,7 @@ rows-read s program e =
     let sum = summed-inv (h .value) s (g .value) (g .first) .sum in
     let long = each-length _ (h .value .nodes) (suc (h .value .functions)) (k .value) (k .first) ∙ sym sum in
     let signed : signatures program ≡ g .value =
-    ap signatures (sym (done-injective (f .second))) ∙ bodies-signed _ (g .value) (k .value) _ (f .value) long (f .first) in
+    ap signatures (sym (done-injective (f .second))) ∙ bodies-inv _ (g .value) (k .value) _ (f .value) long (f .first) .signed in
     subst (RowsRead s) (sym signed) (record { known = row-read s (g .value) (rw own (g .first)); sum = rw own sum })
 
 -- the bodies stand one behind the other

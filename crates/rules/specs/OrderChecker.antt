@@ -6,7 +6,7 @@ use mathlib.Core.List.{List, [], _∷_, _++_, map}
 use mathlib.Core.Logic.{_↔_}
 use mathlib.Core.Path.{_≡_}
 use lib.ListN.{length}
-use Rattle.formats.specs.Refusals.{outOfOrder}
+use Rattle.formats.specs.Refusals.{outOfOrder, tooManyPending}
 use Rattle.formats.specs.Results.{done, refusal}
 use Rattle.formats.specs.Records.{Kind, partsOf}
 use Rattle.formats.specs.Programs.{Expr, size, Every, Signature, signatureOf, Function, Program, signatures, nodes, Lawful}
@@ -105,6 +105,12 @@ pub record OrderChecker : Type 0 where
       → passTwo program ≡ refusal outOfOrder r
       → Every (TypedFunction (signatures program)) (program .functions)
       → ⊥
+  -- Where every body has one, it refuses nothing but 12: the limit of 16 pending is all that the checker asks besides.
+  pub only-full :
+      (program : Program) (number r : ℕ)
+      → Every (TypedFunction (signatures program)) (program .functions)
+      → passTwo program ≡ refusal number r
+      → number ≡ tooManyPending
   -- The rules in Typing admit the same functions as Figure 6 in printed form.
   pub printed : (gs : List Signature) (f : Function) → TypedFunction gs f ↔ JudgedFunction gs (signatureOf f) f
   -- Where there is one function, that is T-Fix itself: its fixed point has the function's type under no names.

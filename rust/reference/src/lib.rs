@@ -5,11 +5,13 @@
 #![forbid(unsafe_code)]
 
 pub mod generate;
+mod message;
 pub mod order;
 pub mod program;
 pub mod random;
 pub mod tree;
 
+pub use message::shown;
 pub use order::{check, check_program, check_records, Fault, Found};
 pub use program::{
     kind, lay_out, lay_out_runs, mend_checks, part_count, read_file, read_file_into, write_file,

@@ -31,9 +31,9 @@ fn check_all(
 }
 
 /// Const, Var 0 and 1, Add, IfZero, Let, Leaf, Node, Case 0 to 4, and Call 0
-/// on 0 to 4: 146,512 programs.
+/// on 0 to 4. In six records no more names can be bound: 1,150,048 programs.
 #[test]
-fn bodies_of_up_to_five_records() {
+fn bodies_of_up_to_six_records() {
     let alphabet = Alphabet {
         numbers: 1,
         cases: 4,
@@ -41,20 +41,7 @@ fn bodies_of_up_to_five_records() {
         calls_with_argument: None,
         trees: true,
     };
-    assert_eq!(check_all(&alphabet, 1..=5, &[false, true]), 146_512);
-}
-
-/// In six records no tree above 2 is bound at a Case: 403,774 programs.
-#[test]
-fn bodies_of_six_records() {
-    let alphabet = Alphabet {
-        numbers: 0,
-        cases: 2,
-        calls: 4,
-        calls_with_argument: None,
-        trees: true,
-    };
-    assert_eq!(check_all(&alphabet, [6], &[false, true]), 403_774);
+    assert_eq!(check_all(&alphabet, 1..=6, &[false, true]), 1_150_048);
 }
 
 /// With a second function, which takes a number: 124,595 programs.

@@ -7,7 +7,7 @@ mod known;
 mod rows;
 
 use hogvax::Refused;
-use reference::{lay_out, order, Program, Refusal};
+use reference::{lay_out, order, shown, Program, Refusal};
 
 type Answer = Result<(), Refused>;
 
@@ -45,16 +45,6 @@ fn refused(number: u8, place: usize) -> Answer {
 /// 0 where the program passes, or the refusal's number.
 fn number(answer: Answer) -> usize {
     answer.map_or_else(|refused| refused.number as usize, |()| 0)
-}
-
-/// The number of bytes and the first of them that are not zero, for a message.
-fn shown(input: &[u8]) -> String {
-    let bytes = input.iter().enumerate().filter(|(_, &byte)| byte != 0);
-    let bytes: Vec<String> = bytes
-        .take(64)
-        .map(|(place, byte)| format!("{place}: {byte}"))
-        .collect();
-    format!("input of {} bytes, {}", input.len(), bytes.join(", "))
 }
 
 impl Call {

@@ -6,7 +6,7 @@ mod damage;
 mod round_trips;
 
 use hogvax::Refused;
-use reference::Refusal;
+use reference::{shown, Refusal};
 
 type Answer = Result<Vec<u8>, Refused>;
 
@@ -68,16 +68,6 @@ const fn before() -> [u8; LONG] {
 
 /// What stands in each place of an answer before the call.
 const UNTOUCHED: u64 = 0x0123_4567_89ab_cdef;
-
-/// The number of bytes and the first of them that are not zero, for a message.
-fn shown(input: &[u8]) -> String {
-    let bytes = input.iter().enumerate().filter(|(_, &byte)| byte != 0);
-    let bytes: Vec<String> = bytes
-        .take(64)
-        .map(|(place, byte)| format!("{place}: {byte}"))
-        .collect();
-    format!("input of {} bytes, {}", input.len(), bytes.join(", "))
-}
 
 impl Call {
     fn reference_answer(&self, input: &[u8]) -> Answer {

@@ -17,7 +17,7 @@ use Rattle.records.specs.declared.TreeName.{TreeName}
 use Rattle.records.specs.declared.Called.{Called}
 use Rattle.rules.specs.Types.{Int, Tree⁺}
 use Rattle.rules.specs.Scopes.{scope, inside}
-use Rattle.rules.specs.Scopes.{Scope as Known-there}
+use Rattle.rules.specs.Scopes.{Scope as ScopeThere}
 use Rattle.pass_one.specs.Walk.{expected, scopeOf, Small, Fits, FitsParts}
 use Rattle.pass_one.specs.declared.Scope.{Scope}
 use Rattle.pass_one.proofs.Arms.{excluded}
@@ -119,7 +119,7 @@ less h lg ln lw = record {
 }
 
 -- what fits the parts of a record fits each of them
-pub inside-fits : (kind : Kind) (i k end : ℕ) (sc : Known-there) → FitsParts i k end sc → Fits k end (inside kind i sc)
+pub inside-fits : (kind : Kind) (i k end : ℕ) (sc : ScopeThere) → FitsParts i k end sc → Fits k end (inside kind i sc)
 unfolding inside
 inside-fits (aConst v) i k end (scope g n w τ) h = less h (omega arith) (omega arith) (omega arith)
 inside-fits (aVar v) i k end (scope g n w τ) h = less h (omega arith) (omega arith) (omega arith)

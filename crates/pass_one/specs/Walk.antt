@@ -15,7 +15,7 @@ use Rattle.records.specs.Read.{meant}
 use Rattle.records.specs.declared.Record.{Record}
 use Rattle.rules.specs.Types.{Ty, Int, Tree⁺}
 use Rattle.rules.specs.Scopes.{scope, startOf, entry, entered}
-use Rattle.rules.specs.Scopes.{Scope as Known-there}
+use Rattle.rules.specs.Scopes.{Scope as ScopeThere}
 use Rattle.rules.specs.PassOne.{typed, roomy, bareNumber, atEntry, passOver, passOne}
 use Rattle.rules.proofs.Parts.{Known, Holds, Row, passParts}
 use Rattle.pass_one.specs.declared.Scope.{Scope}
@@ -27,7 +27,7 @@ abbrev pub expected : Bool → Ty
 expected true = Tree⁺
 expected false = Int
 
-abbrev pub scopeOf : Scope → Known-there
+abbrev pub scopeOf : Scope → ScopeThere
 scopeOf c = scope (c .numbers) (c .trees) (c .words) (expected (c .tree))
 
 -- The record come to, or the refusal's number and its record.
@@ -36,7 +36,7 @@ told (To k) = done k
 told (Refused why place) = refusal (number why) place
 
 -- Counts that can grow on entering part i of a record.
-abbrev pub RoomFor : ℕ → Known-there → Type 0
+abbrev pub RoomFor : ℕ → ScopeThere → Type 0
 RoomFor i (scope g n w τ) = (g < 200000) × ((n < 300000) × (w + i < 200000))
 
 -- Counts that grow with each record entered, by two at most, stay small up to the end.
@@ -48,11 +48,11 @@ pub record Small (k end g n w : ℕ) : Type 0 where
   pub words : w + (end - k) ≤ 200000
 
 -- On entering record k.
-abbrev pub Fits : ℕ → ℕ → Known-there → Type 0
+abbrev pub Fits : ℕ → ℕ → ScopeThere → Type 0
 Fits k end (scope g n w τ) = Small k end g n w
 
 -- On entering part i of a record at record k.
-abbrev pub FitsParts : ℕ → ℕ → ℕ → Known-there → Type 0
+abbrev pub FitsParts : ℕ → ℕ → ℕ → ScopeThere → Type 0
 FitsParts i k end (scope g n w τ) = Small k end (suc g) (suc (suc n)) (suc (w + i))
 
 -- Tests of a node that was read, by the signatures of the function records.

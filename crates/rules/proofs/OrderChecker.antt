@@ -4,15 +4,20 @@ use mathlib.Core.List.{List, [], _∷_, append-nil}
 use mathlib.Core.Path.{_≡_, refl, ap, _∙_}
 use native.Mathlib.Omega.{arith}
 use lib.Dec.{lit<}
+use Rattle.formats.specs.Numbers.{Bytes}
 use Rattle.formats.specs.Results.{done}
 use Rattle.formats.specs.Programs.{size, Signature, Function, Program, signatures, mostParameters, LawfulFunction, LawfulFunctions, Lawful}
+use Rattle.formats.specs.Rows.{readProgram}
+use Rattle.formats.specs.Blocks.{flatIn, programIn}
 use Rattle.formats.proofs.Results.{done-not, then-done, then-inv}
+use Rattle.formats.proofs.Files.{flat-in-bytes}
+use Rattle.formats.proofs.ProgramFiles.{program-files}
 use Rattle.rules.specs.Types.{resultType}
 use Rattle.rules.specs.Typing.{TypedFunction}
 use Rattle.rules.specs.Scopes.{startOf, entered, enteredAll}
 use Rattle.rules.specs.PassOne.{mostWords, passOver, passOne}
-use Rattle.rules.specs.PassTwo.{walk, noneLeft, walkAll, passTwo, order}
-use Rattle.rules.specs.OrderChecker.{firstNode, AdmittedFunction, AdmittedFrom, Admitted, Split, OrderChecker}
+use Rattle.rules.specs.PassTwo.{walk, noneLeft, walkAll, passTwo, order, checkRecords, checkFile}
+use Rattle.rules.specs.OrderChecker.{firstNode, AdmittedFunction, AdmittedFrom, Admitted, AdmittedRecords, AdmittedFile, Split, OrderChecker}
 use Rattle.rules.proofs.Splits.{splits, checks-types, no-longer, one-listing}
 use Rattle.rules.proofs.Entries.{in-prefix-order, one-by-one, part-types}
 use Rattle.rules.proofs.PassOne.{Passes, pass-one, pass-nothing, pass-left, pass-right, pass-both}
@@ -104,10 +109,37 @@ passed program a =
     then-done (λ u. passTwo program) (passes-all (signatures program) (firstNode program) (program .functions) a)
     ∙ walks-all (signatures program) (firstNode program) (program .functions) a
 
+-- ---- records and files
+
+records-admitted : (r : List ℕ) → Bytes r → checkRecords r ≡ done tt → AdmittedRecords r
+unfolding checkRecords
+records-admitted r bs e =
+    let t = then-inv (readProgram r) order tt e in
+    record { program = t .value; read = t .first; admitted = admitted (t .value) (program-files .flattens r (t .value) bs (t .first) .lawful) (t .second) }
+
+records-passed : (r : List ℕ) → AdmittedRecords r → checkRecords r ≡ done tt
+unfolding checkRecords
+records-passed r a = then-done order (a .read) ∙ passed (a .program) (a .admitted)
+
+file-admitted : (s : List ℕ) → Bytes s → checkFile s ≡ done tt → AdmittedFile s
+unfolding checkFile programIn
+file-admitted s bs e =
+    let t = then-inv (flatIn s) checkRecords tt e in
+    let a = records-admitted (t .value) (flat-in-bytes s (t .value) bs (t .first)) (t .second) in
+    record { program = a .program; holds = then-done readProgram (t .first) ∙ a .read; admitted = a .admitted }
+
+file-passed : (s : List ℕ) → AdmittedFile s → checkFile s ≡ done tt
+unfolding checkFile programIn
+file-passed s a =
+    let t = then-inv (flatIn s) readProgram (a .program) (a .holds) in
+    then-done checkRecords (t .first) ∙ records-passed (t .value) (record { program = a .program; read = t .second; admitted = a .admitted })
+
 pub order-checker : OrderChecker
 order-checker = record {
   splits = splits;
   passes = λ program l. (admitted program l, passed program);
+  records = λ r bs. (records-admitted r bs, records-passed r);
+  files = λ s bs. (file-admitted s bs, file-passed s);
   no-longer = no-longer;
   one-listing = one-listing;
   part-types = part-types;

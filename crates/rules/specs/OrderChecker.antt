@@ -6,16 +6,19 @@ use mathlib.Core.List.{List, [], _∷_, _++_, map}
 use mathlib.Core.Logic.{_↔_}
 use mathlib.Core.Path.{_≡_}
 use lib.ListN.{length}
+use Rattle.formats.specs.Numbers.{Bytes}
 use Rattle.formats.specs.Refusals.{outOfOrder, tooManyPending}
 use Rattle.formats.specs.Results.{done, refusal}
 use Rattle.formats.specs.Records.{Kind, partsOf}
 use Rattle.formats.specs.Programs.{Expr, size, Every, Signature, signatureOf, Function, Program, signatures, nodes, Lawful}
+use Rattle.formats.specs.Rows.{readProgram}
+use Rattle.formats.specs.Blocks.{programIn}
 use Rattle.rules.specs.Types.{Ty, resultType, functionType}
 use Rattle.rules.specs.Typing.{Types, TypedFunction}
 use Rattle.rules.specs.Leftover.{Checks, lines, FewAtCase, NoLonger, mostPending}
 use Rattle.rules.specs.Scopes.{Scope, inside, expectedIn, PartTyped, Entry, entry, enteredAll}
 use Rattle.rules.specs.PassOne.{mostWords, wordsOf, passOne, FirstFails}
-use Rattle.rules.specs.PassTwo.{passTwo, order}
+use Rattle.rules.specs.PassTwo.{passTwo, order, checkRecords, checkFile}
 use Rattle.rules.specs.FirstFault.{FirstFault}
 use Rattle.rules.specs.Printed.{function, fix, Judges, functionTerm, JudgedFunction}
 
@@ -45,6 +48,17 @@ AdmittedFrom gs r (f ∷ fs) = AdmittedFunction gs r f × AdmittedFrom gs (r + s
 abbrev pub Admitted : Program → Type 0
 Admitted program = AdmittedFrom (signatures program) (firstNode program) (program .functions)
 
+-- Flat records, and a file, of an admitted program.
+pub record AdmittedRecords (r : List ℕ) : Type 0 where
+  pub program : Program
+  pub read : readProgram r ≡ done program
+  pub admitted : Admitted program
+
+pub record AdmittedFile (s : List ℕ) : Type 0 where
+  pub program : Program
+  pub holds : programIn s ≡ done program
+  pub admitted : Admitted program
+
 -- An environment Δ splits as Δ₁, Δ′, and e is typed on Δ₁ by Figure 6.
 pub record Split (gs : List Signature) (g n : ℕ) (Δ : List ℕ) (e : Expr) (τ : Ty) (Δ′ : List ℕ) : Type 0 where
   pub used : List ℕ
@@ -67,6 +81,10 @@ pub record OrderChecker : Type 0 where
   pub splits : (gs : List Signature) (g n r : ℕ) (Δ : List ℕ) (e : Expr) (τ : Ty) (Δ′ : List ℕ) → Checks gs g n r Δ e τ Δ′ ↔ Split gs g n Δ e τ Δ′
   -- A program passes both passes exactly when every function body has a derivation by Figure 6 and stays within the limits.
   pub passes : (program : Program) → Lawful program → (order program ≡ done tt) ↔ Admitted program
+  -- So it is of records and of files: one passes exactly where it holds a program that the rules admit. (What they hold is always within the limits
+  -- of "Program file".)
+  pub records : (r : List ℕ) → Bytes r → (checkRecords r ≡ done tt) ↔ AdmittedRecords r
+  pub files : (s : List ℕ) → Bytes s → (checkFile s ≡ done tt) ↔ AdmittedFile s
   -- The limit of 16 pending, said otherwise: no list of the derivation is longer than 16.
   pub no-longer :
       (gs : List Signature) (g n r : ℕ) (Δ : List ℕ) (e : Expr) (τ : Ty) (Δ′ : List ℕ) (d : Checks gs g n r Δ e τ Δ′)

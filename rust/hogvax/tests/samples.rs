@@ -3,6 +3,7 @@
 use std::fs;
 use std::path::{Path, PathBuf};
 
+use hogvax::Refused;
 use reference::{Expr, Function, Program};
 
 /// A folder or file of the samples.
@@ -91,12 +92,18 @@ fn prune() -> Vec<Function> {
     ]
 }
 
-fn programs() -> [(&'static str, Program); 5] {
+fn swap() -> Vec<Function> {
+    let node = Expr::node(call(0, 2), call(0, 1));
+    vec![tree_valued(0, Expr::case(0, Expr::leaf(var(0)), node))]
+}
+
+fn programs() -> [(&'static str, Program); 6] {
     [
         ("depth", Program::new(depth())),
         ("grow", Program::new(grow())),
         ("prune", Program::new(prune())),
         ("sum", Program::new(sum())),
+        ("swap", Program::new(swap())),
         ("tips", Program::new(tips())),
     ]
 }
@@ -125,14 +132,26 @@ fn records_and_files_are_the_programs() {
     }
 }
 
+/// What the order checker says of a program: all but one pass.
+fn verdict(name: &str) -> Result<(), Refused> {
+    match name {
+        "swap" => Err(Refused {
+            number: 11,
+            place: 6,
+        }),
+        _ => Ok(()),
+    }
+}
+
 #[test]
-fn programs_pass_the_order_checker() {
+fn the_order_checker_says_what_the_readme_says() {
     for (name, program) in programs() {
         let records = bytes(&format!("programs/{name}.records"));
         let file = bytes(&format!("programs/{name}.program"));
-        assert_eq!(hogvax::check_records(&records), Ok(()), "{name}");
-        assert_eq!(hogvax::check(&file), Ok(()), "{name}");
-        assert_eq!(reference::check_program(&program), Ok(()), "{name}");
+        assert_eq!(hogvax::check_records(&records), verdict(name), "{name}");
+        assert_eq!(hogvax::check(&file), verdict(name), "{name}");
+        let passes = reference::check_program(&program).is_ok();
+        assert_eq!(passes, verdict(name).is_ok(), "{name}");
     }
 }
 

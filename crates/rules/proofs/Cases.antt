@@ -3,15 +3,18 @@ use Prim.Native.Nat.{ℕ, zero, suc}
 use mathlib.Core.List.{List, [], _∷_, map}
 use mathlib.Core.Path.{_≡_, refl}
 use Rattle.formats.specs.Results.{done, refusal}
+use lib.Dec.{lit<, lit≤}
 use Rattle.formats.specs.Records.{nth}
-use Rattle.formats.specs.Programs.{Expr, const, var, add, ifZero, letIn, leafOf, nodeOf, caseOf, call, noArgs, arg, prefix, prefixes, size, numberValued, treeValued, Signature, signatureOf, Function, Program}
+use Rattle.formats.specs.Programs.{Expr, const, var, add, ifZero, letIn, leafOf, nodeOf, caseOf, call, noArgs, arg, prefix, prefixes, size, numberValued, treeValued, Signature, signatureOf, Function, Program, signatures}
+use Rattle.formats.specs.Programs.{Lawful, arityOf, countArgs, mostParameters, total}
 use Rattle.formats.proofs.ProgramCases.{grow, grow-lawful}
 use Rattle.rules.specs.Types.{Int, resultType, arrows, functionType, isInt, isTree, fits}
 use Rattle.rules.specs.Typing.{TypesName, Types, to-tree}
 use Rattle.rules.specs.Scopes.{startOf, inside, entered, enteredArgs, enteredAll}
 use Rattle.rules.specs.PassOne.{named, typed, bareNumber, wordsTested, roomy, atEntry, passOver, passOne, valueWords, wordsOf, wordsOfArgs}
 use Rattle.rules.specs.PassTwo.{takeHead, sameNames, joined, walk, walkArgs, noneLeft, walkAll, passTwo, order}
-use Rattle.rules.specs.OrderChecker.{Admitted}
+use Rattle.rules.specs.FirstFault.{FirstFault}
+use Rattle.rules.specs.OrderChecker.{Admitted, firstNode}
 use Rattle.rules.proofs.OrderChecker.{order-checker}
 
 -- ---- programs
@@ -147,7 +150,7 @@ pass-one : map order (
 unfolding order passOne passOver atEntry roomy wordsTested bareNumber typed named enteredAll entered enteredArgs inside startOf passTwo walkAll noneLeft walk walkArgs joined sameNames takeHead resultType isInt isTree fits size prefix prefixes nth signatureOf numbered treed programOf on lets
 pass-one = refl
 
--- ---- a witness
+-- ---- witnesses
 
 -- Grow is within the limits and passes: what is proved of such programs is not empty.
 grow-passes : order grow ≡ done tt
@@ -156,6 +159,34 @@ grow-passes = refl
 
 grow-admitted : Admitted grow
 grow-admitted = order-checker .passes grow grow-lawful .0 grow-passes
+
+-- Its parts exchanged, it is within the limits and passes pass one; the first fault is the first Call, 11 at record 6.
+swap : Program
+swap = programOf (treed (caseOf 0 (leafOf (var 0)) (nodeOf (on 0 2) (on 0 1))) ∷ [])
+
+swap-lawful : Lawful swap
+unfolding swap programOf treed on total signatureOf size prefix prefixes arityOf nth mostParameters countArgs
+swap-lawful = record {
+  edition = refl;
+  some-function = lit≤ tt;
+  few-functions = lit≤ tt;
+  few-nodes = lit≤ tt;
+  functions = (
+    record {
+      few-parameters = lit≤ tt;
+      in-range = (lit< tt, (tt, (lit< tt, (tt, ((lit< tt, lit< tt), ((lit< tt, lit< tt), tt))))));
+      applied = (tt, ((refl, tt), (refl, tt)));
+    },
+    tt,
+  );
+}
+
+swap-verdicts : (passOne swap ≡ done tt) × (passTwo swap ≡ refusal 11 6)
+unfolding passOne passOver atEntry roomy wordsTested bareNumber typed named enteredAll entered enteredArgs inside startOf passTwo walkAll noneLeft walk walkArgs joined sameNames takeHead resultType isInt isTree fits size prefix prefixes nth signatureOf swap programOf treed on
+swap-verdicts = (refl, refl)
+
+swap-fault : FirstFault (signatures swap) (firstNode swap) (swap .functions) 11 6
+swap-fault = order-checker .pass-two swap 11 6 swap-lawful (swap-verdicts .0) .0 (swap-verdicts .1)
 
 -- ---- words
 

@@ -1,5 +1,5 @@
 -- What the answers of pass two's functions say of the walks that they tell, and where an expression's parts stand.
-use Prim.Native.Nat.{ℕ, suc, _+_, _-_}
+use Prim.Native.Nat.{ℕ, suc, _+_}
 use mathlib.Core.List.{List, _∷_}
 use mathlib.Core.Path.{_≡_, refl, sym, ap, _∙_}
 use native.Mathlib.Nat.{le-trans}
@@ -14,8 +14,10 @@ use Rattle.refusal.specs.declared.Verdict.the-variants.{Passed, Refused}
 use Rattle.rules.specs.PassTwo.{joined}
 use Rattle.rules.proofs.Walks.{parts-held, row-upto}
 use Rattle.rules.proofs.Lists.{row-front, row-others}
+use Rattle.pending.specs.List.{listOf}
+use Rattle.pending.specs.declared.Pending.{Pending}
 use Rattle.pass_two.specs.declared.Checked.{Checked}
-use Rattle.pass_two.specs.Walk.{listOf, Lent, Stand, stand, Tells, Here, HereRow, Joined, Went}
+use Rattle.pass_two.specs.Walk.{Stand, stand, Tells, Here, HereRow, Joined, Went}
 
 -- ---- what an answer says of a walk
 
@@ -55,6 +57,14 @@ pub stays : {c : Checked} {m : ℕ} {w : Result (List ℕ)} {why : Refusal} {pla
     → Tells c m w → c .verdict ≡ Refused why place → Tells c i (andThen w f)
 stays i f told refused = record { is = (rw refused) ∙ sym (ap (onValue (stand i)) (then-refused f (stops told refused))) }
 
+-- an answer made of what the walk gives
+pub refuses : {p : Pending} {i m : ℕ} {w : Result (List ℕ)} {why : Refusal} {place : ℕ} → w ≡ refusal (number why) place
+    → Tells (record { verdict = Refused why place; pending = p; next = i }) m w
+refuses {m = m} e = record { is = sym (ap (onValue (stand m)) e) }
+
+pub passes : {p : Pending} {i m : ℕ} {w : Result (List ℕ)} → w ≡ done (listOf p) → i ≡ m → Tells (record { verdict = Passed; pending = p; next = i }) m w
+passes {p} {m = m} e place = record { is = ap (λ k. done (stand k (listOf p))) place ∙ sym (ap (onValue (stand m)) e) }
+
 -- a test may come before what follows
 pub tested : {A B : Type 0} (w : Result A) (test : A → Result (Unit {0})) (f : A → Result B)
     → andThen w (λ x. andThen (test x) (λ u. f x)) ≡ andThen (andThen w (λ x. andThen (test x) (λ u. done x))) f
@@ -62,8 +72,8 @@ tested (done x) test f = byResult (test x) (λ u e. rw e) (λ number place e. rw
 tested (refusal number place) test f = refl
 
 -- a refusal did not go on
-pub stopped : (k last : ℕ) {c : Checked} {why : Refusal} {place : ℕ} → Lent (c .pending) → c .verdict ≡ Refused why place → Went k last c
-stopped k last lent refused = record { on = λ passed. never refused passed; lent = lent }
+pub stopped : (k last : ℕ) {c : Checked} {why : Refusal} {place : ℕ} → c .verdict ≡ Refused why place → Went k last c
+stopped k last refused = record { on = λ passed. never refused passed }
 
 -- both branches are through
 pub both-joined : {k i m : ℕ} {u w : Result (List ℕ)} {one other r : Checked} → Tells one i u → one .verdict ≡ Passed → Tells other m w → other .verdict ≡ Passed

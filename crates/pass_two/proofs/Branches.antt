@@ -1,27 +1,44 @@
--- IfZero and Case: a law for each way out of their functions.
-use Prim.Native.Nat.{ℕ, suc, _+_, _-_, _≤_, _<_}
+-- IfZero, Case, and where their branches join: a law for each way out of their functions.
+use Prim.Native.Nat.{ℕ, suc, _+_, _<_}
+use mathlib.Core.Bool.{Bool, true, false, not}
 use mathlib.Core.List.{List, _∷_}
 use mathlib.Core.Path.{_≡_, refl, sym, ap, _∙_}
 use native.Mathlib.Numerals.{add-one, add-two}
 use native.Mathlib.Omega.{arith}
-use borrow.Author.Tests.{lt-ltb, le-ltb}
-use lib.Dec.{ltb}
+use borrow.Author.Tests.{leb-true, leb-false, lt-ltb, le-ltb}
+use lib.Dec.{leb, ltb}
 use lib.ListN.{length}
 use Rattle.formats.specs.Refusals.{tooManyPending}
-use Rattle.formats.specs.Results.{andThen, onValue}
+use Rattle.formats.specs.Results.{done, onValue}
 use Rattle.formats.specs.Programs.{Expr, caseOf, ifZero, size, partsAt}
+use Rattle.formats.proofs.Results.{then-done, then-refused}
 use Rattle.refusal.specs.declared.Refusal.{Refusal}
-use Rattle.refusal.specs.declared.Refusal.the-variants.{TooManyPending}
+use Rattle.refusal.specs.declared.Refusal.the-variants.{OutOfOrder, TooManyPending}
 use Rattle.refusal.specs.declared.Verdict.the-variants.{Passed, Refused}
 use Rattle.rules.specs.Leftover.{mostPending}
 use Rattle.rules.specs.PassOne.{holdsAt}
-use Rattle.rules.specs.PassTwo.{takeHead, joined, walk}
+use Rattle.rules.specs.PassTwo.{sameNames, joined, walk}
 use Rattle.rules.proofs.Lists.{row-last}
-use Rattle.pass_two.specs.declared.Pending.{Pending}
+use Rattle.pending.specs.List.{listOf, Took, putTwo}
+use Rattle.pending.specs.declared.Pending.{Pending}
+use Rattle.pending.specs.declared.Taken.{Taken}
+use Rattle.pending.proofs.Laws.{not-taken, is-taken, two-fit}
 use Rattle.pass_two.specs.declared.Checked.{Checked}
-use Rattle.pass_two.specs.Walk.{listOf, Lent, stand, Tells, Here, Took, takeForCase, TookForCase, Put, Joined, Ordered, OrderedCase, OrderedIf}
-use Rattle.pass_two.proofs.Heads.{length-from}
-use Rattle.pass_two.proofs.Answers.{never, came, follows, stays, tested, stopped, both-joined, parts-here, first-here, rest-here}
+use Rattle.pass_two.specs.Walk.{stand, Tells, Here, Joined, Ordered, OrderedCase, OrderedIf}
+use Rattle.pass_two.proofs.Answers.{came, follows, stays, refuses, stopped, both-joined, parts-here, first-here, rest-here}
+
+-- ---- `joined`
+
+module _ (one : Pending) (other : Checked) (k : ℕ) (same : Bool)
+    (told : same ≡ sameNames (listOf one) (listOf (other .pending)))
+  where
+    pub join-same : same ≡ true → Joined one other k other
+    join-same h = record { tells = λ passed. record { is = rw (passed, sym told ∙ h) }; on = refl }
+
+    pub join-other : same ≡ false → Joined one other k (record { verdict = Refused OutOfOrder k; pending = other .pending; next = other .next })
+    join-other h = record { tells = λ passed. record { is = rw (sym told ∙ h) }; on = refl }
+
+pub ruleset joins = (join-same, join-other)
 
 -- ---- `order_if`
 
@@ -33,7 +50,7 @@ module _ (s : List ℕ) (k last n : ℕ) (p : Pending) (test : Checked) (ot : Or
 
   pub if-test : (why : Refusal) (place : ℕ) → test .verdict ≡ Refused why place → OrderedIf s k last n p test
   unfolding walk
-  if-test why place refused = record { went = stopped k last (ot .went .lent) refused; tells = λ t x y h. stays _ _ (if-told h) refused }
+  if-test why place refused = record { went = stopped k last refused; tells = λ t x y h. stays _ _ (if-told h) refused }
 
   module _ (passed : test .verdict ≡ Passed) (zero : Checked) (oz : Ordered s (test .next) last n (test .pending) zero) where
     zero-told : {t x y : Expr} → Here s last k (ifZero t x y) → Tells zero (suc k + size t + size x) (walk n (suc k + size t) (listOf (test .pending)) x)
@@ -45,7 +62,7 @@ module _ (s : List ℕ) (k last n : ℕ) (p : Pending) (test : Checked) (ot : Or
     pub if-zero : (why : Refusal) (place : ℕ) → zero .verdict ≡ Refused why place → OrderedIf s k last n p zero
     unfolding walk joined
     if-zero why place refused = record {
-      went = stopped k last (oz .went .lent) refused;
+      went = stopped k last refused;
       tells = λ t x y h. follows _ (if-told h) passed (stays _ _ (zero-told h) refused);
     }
 
@@ -61,7 +78,7 @@ module _ (s : List ℕ) (k last n : ℕ) (p : Pending) (test : Checked) (ot : Or
       pub if-other : (why : Refusal) (place : ℕ) → other .verdict ≡ Refused why place → OrderedIf s k last n p other
       unfolding walk joined
       if-other why place refused = record {
-        went = stopped k last (oo .went .lent) refused;
+        went = stopped k last refused;
         tells = λ t x y h. follows _ (if-told h) passed (follows _ (zero-told h) zero-passed (stays _ _ (other-told h) refused));
       }
 
@@ -74,88 +91,78 @@ module _ (s : List ℕ) (k last n : ℕ) (p : Pending) (test : Checked) (ot : Or
               let second = oz .went .on zero-passed in
               let third = oo .went .on other-passed in
               omega (arith, j .on);
-          lent = j .lent;
         };
         tells = λ t x y h. follows _ (if-told h) passed (both-joined (zero-told h) zero-passed (other-told h) other-passed j);
       }
 
 pub ruleset ifs = (if-test, if-zero, if-other, if-joined)
 
--- ---- `take_for_case` and `order_case`
+-- ---- `order_case`
 
-module _ (p : Pending) (a k : ℕ) (taken : Checked) (took : Took p a k k taken) where
-  pub take-stops : (why : Refusal) (place : ℕ) → taken .verdict ≡ Refused why place → TookForCase p a k taken
-  take-stops why place refused = record { tells = stays _ _ (took .tells) refused; lent = took .lent; room = λ passed. never refused passed }
-
-  module _ (passed : taken .verdict ≡ Passed) where
-    pub take-full : Lent p → mostPending ≤ p .len → TookForCase p a k (record { verdict = Refused TooManyPending k; pending = p; next = k })
-    take-full lent full = record {
-      tells = follows _ (took .tells) passed (record { is = rw (length-from (p .names) (p .len), le-ltb _ _ full) });
-      lent = lent;
-      room = λ u. never refl u;
-    }
-
-    pub take-fits : p .len < mostPending → TookForCase p a k taken
-    take-fits fits = record {
-      tells = follows _ (took .tells) passed (record { is = rw (length-from (p .names) (p .len), lt-ltb _ _ fits, passed, came (took .tells) passed .place) });
-      lent = took .lent;
-      room = λ u. let one-less = took .shorter passed in omega arith;
-    }
-
-pub ruleset takes = (take-stops, take-full, take-fits)
-
-module _ (s : List ℕ) (a k last n : ℕ) (p : Pending) (taken : Checked) (took : TookForCase p a k taken) where
-  -- the head is taken; then both parts follow
-  begun : {r : Checked} {m : ℕ} (x y : Expr)
-      → Tells r m (andThen (takeForCase a k (listOf p)) (λ rest. joined k (walk n (suc k) rest x) (walk (suc (suc n)) (suc k + size x) (n ∷ (suc n ∷ rest)) y)))
-      → Tells r m (walk n k (listOf p) (caseOf a x y))
+module _ (s : List ℕ) (a k last n : ℕ) (p : Pending) (taken : Taken) (took : Took p a taken) where
+  pub case-other : not (taken .head) ≡ true → OrderedCase s a k last n p (record { verdict = Refused OutOfOrder k; pending = p; next = k })
   unfolding walk
-  begun {m = m} x y told = record { is = told .is ∙ sym (ap (onValue (stand m)) (tested (takeHead a k (listOf p)) (λ rest. holdsAt (ltb (length (listOf p)) mostPending) tooManyPending k) _)) }
+  case-other other = record { went = stopped k last refl; tells = λ x y h. refuses (then-refused _ (not-taken p a k taken took other)) }
 
-  pub case-head : (why : Refusal) (place : ℕ) → taken .verdict ≡ Refused why place → OrderedCase s a k last n p taken
-  case-head why place refused = record { went = stopped k last (took .lent) refused; tells = λ x y h. begun x y (stays _ _ (took .tells) refused) }
-
-  module _ (passed : taken .verdict ≡ Passed) (leaf : Checked) (ol : Ordered s (k + 1) last n (taken .pending) leaf) where
-    leaf-told : {x y : Expr} → Here s last k (caseOf a x y) → Tells leaf (suc k + size x) (walk n (suc k) (listOf (taken .pending)) x)
-    unfolding partsAt
-    leaf-told {x} h = let o : Ordered s (suc k) last n (taken .pending) leaf = rw add-one at ol in o .tells x (first-here (parts-here h))
-
-    pub case-leaf : (why : Refusal) (place : ℕ) → leaf .verdict ≡ Refused why place → OrderedCase s a k last n p leaf
-    unfolding joined
-    case-leaf why place refused = record {
-      went = stopped k last (ol .went .lent) refused;
-      tells = λ x y h. begun x y (follows _ (took .tells) passed (stays _ _ (leaf-told h) refused));
+  module _ (head : not (taken .head) ≡ false) (full : Bool) (told : full ≡ leb mostPending (length (listOf p))) where
+    pub case-full : full ≡ true → OrderedCase s a k last n p (record { verdict = Refused TooManyPending k; pending = p; next = k })
+    unfolding walk
+    case-full is = record {
+      went = stopped k last refl;
+      tells = λ x y h.
+          let no-room = le-ltb (length (listOf p)) mostPending (leb-true _ _ (sym told ∙ is)) in
+          refuses (then-done _ (is-taken p a k taken took head) ∙ rw no-room);
     }
 
-    module _ (leaf-passed : leaf .verdict ≡ Passed) (inner : Pending) (put : Put (taken .pending) n (n + 1) inner) (node : Checked)
-        (on : Ordered s (leaf .next) last (n + 2) inner node)
-      where
-        node-told : {x y : Expr} → Here s last k (caseOf a x y)
-            → Tells node (k + size (caseOf a x y)) (walk (suc (suc n)) (suc k + size x) (n ∷ (suc n ∷ listOf (taken .pending))) y)
-        unfolding partsAt
-        node-told {x} {y} h =
-            let o : Ordered s (suc k + size x) last (suc (suc n)) inner node = rw (came (leaf-told h) leaf-passed .place, add-two n) at on in
-            let here = rest-here (parts-here h) in
-            let trees : listOf inner ≡ n ∷ (suc n ∷ listOf (taken .pending)) = rw add-one at (put .is) in
-            rw (row-last (here .row), trees) at (o .tells y (first-here here))
+    module _ (fits : full ≡ false) (leaf : Checked) (ol : Ordered s (k + 1) last n (taken .pending) leaf) where
+      room : length (listOf p) < mostPending
+      room = leb-false mostPending (length (listOf p)) (sym told ∙ fits)
 
-        pub case-node : (why : Refusal) (place : ℕ) → node .verdict ≡ Refused why place → OrderedCase s a k last n p node
-        unfolding joined
-        case-node why place refused = record {
-          went = stopped k last (on .went .lent) refused;
-          tells = λ x y h. begun x y (follows _ (took .tells) passed (follows _ (leaf-told h) leaf-passed (stays _ _ (node-told h) refused)));
-        }
+      -- the head is taken; then both parts follow
+      begun : {r : Checked} {m : ℕ} (x y : Expr)
+          → Tells r m (joined k (walk n (suc k) (listOf (taken .pending)) x) (walk (suc (suc n)) (suc k + size x) (n ∷ (suc n ∷ listOf (taken .pending))) y))
+          → Tells r m (walk n k (listOf p) (caseOf a x y))
+      unfolding walk
+      begun {m = m} x y then =
+          let fits : holdsAt (ltb (length (listOf p)) mostPending) tooManyPending k ≡ done tt = rw (lt-ltb _ _ room) in
+          record { is = then .is ∙ sym (ap (onValue (stand m)) (then-done _ (is-taken p a k taken took head) ∙ then-done _ fits)) }
 
-        pub case-joined : (r : Checked) → node .verdict ≡ Passed → Joined (leaf .pending) node k r → OrderedCase s a k last n p r
-        case-joined r node-passed j = record {
-          went = record {
-            on = λ u.
-                let first = ol .went .on leaf-passed in
-                let second = on .went .on node-passed in
-                omega (arith, j .on);
-            lent = j .lent;
-          };
-          tells = λ x y h. begun x y (follows _ (took .tells) passed (both-joined (leaf-told h) leaf-passed (node-told h) node-passed j));
-        }
+      leaf-told : {x y : Expr} → Here s last k (caseOf a x y) → Tells leaf (suc k + size x) (walk n (suc k) (listOf (taken .pending)) x)
+      unfolding partsAt
+      leaf-told {x} h = let o : Ordered s (suc k) last n (taken .pending) leaf = rw add-one at ol in o .tells x (first-here (parts-here h))
 
-pub ruleset cases = (case-head, case-leaf, case-node, case-joined)
+      pub case-leaf : (why : Refusal) (place : ℕ) → leaf .verdict ≡ Refused why place → OrderedCase s a k last n p leaf
+      unfolding joined
+      case-leaf why place refused = record { went = stopped k last refused; tells = λ x y h. begun x y (stays _ _ (leaf-told h) refused) }
+
+      module _ (leaf-passed : leaf .verdict ≡ Passed) (inner : Pending) (put : listOf inner ≡ putTwo n (n + 1) (listOf (taken .pending))) (node : Checked)
+          (on : Ordered s (leaf .next) last (n + 2) inner node)
+        where
+          node-told : {x y : Expr} → Here s last k (caseOf a x y)
+              → Tells node (k + size (caseOf a x y)) (walk (suc (suc n)) (suc k + size x) (n ∷ (suc n ∷ listOf (taken .pending))) y)
+          unfolding partsAt
+          node-told {x} {y} h =
+              let o : Ordered s (suc k + size x) last (suc (suc n)) inner node = rw (came (leaf-told h) leaf-passed .place, add-two n) at on in
+              let here = rest-here (parts-here h) in
+              let trees : listOf inner ≡ n ∷ (suc n ∷ listOf (taken .pending)) = rw add-one at (put ∙ two-fit p a k taken took n (n + 1) head room) in
+              rw (row-last (here .row), trees) at (o .tells y (first-here here))
+
+          pub case-node : (why : Refusal) (place : ℕ) → node .verdict ≡ Refused why place → OrderedCase s a k last n p node
+          unfolding joined
+          case-node why place refused = record {
+            went = stopped k last refused;
+            tells = λ x y h. begun x y (follows _ (leaf-told h) leaf-passed (stays _ _ (node-told h) refused));
+          }
+
+          pub case-joined : (r : Checked) → node .verdict ≡ Passed → Joined (leaf .pending) node k r → OrderedCase s a k last n p r
+          case-joined r node-passed j = record {
+            went = record {
+              on = λ u.
+                  let first = ol .went .on leaf-passed in
+                  let second = on .went .on node-passed in
+                  omega (arith, j .on);
+            };
+            tells = λ x y h. begun x y (both-joined (leaf-told h) leaf-passed (node-told h) node-passed j);
+          }
+
+pub ruleset cases = (case-other, case-full, case-leaf, case-node, case-joined)

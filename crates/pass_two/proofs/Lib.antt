@@ -1,5 +1,4 @@
 -- Laws that the proofs of pass two's functions cite.
-pub mod Heads
 pub mod Answers
 pub mod Branches
 pub mod Walk

@@ -1,5 +1,6 @@
 -- Expressions, lists of them, and functions: a law for each way out of the functions that walk them, and what their calls ask.
 use Prim.Native.Nat.{ℕ, _+_, _-_, _*_, _≤_, _<_}
+use mathlib.Core.Bool.{true, false, not}
 use mathlib.Core.List.{List, [], _∷_}
 use mathlib.Core.Logic.{_≢_}
 use mathlib.Core.Path.{_≡_, refl, sym, ap, subst, _∙_}
@@ -34,11 +35,13 @@ use Rattle.rules.proofs.Parts.{Known, headOf, Row, walkParts}
 use Rattle.rules.proofs.Parts.{end as no-part, next as a-part}
 use Rattle.rules.proofs.Walks.{node-held, parts-counted}
 use Rattle.rules.proofs.Lists.{walk-call, Plain, walk-parts, Shaped, shaped, plain, an-if, a-case, a-call}
-use Rattle.pass_two.specs.declared.Pending.{Pending}
+use Rattle.pending.specs.List.{fromLast, listOf, Took}
+use Rattle.pending.specs.declared.Pending.{Pending}
+use Rattle.pending.specs.declared.Taken.{Taken}
+use Rattle.pending.proofs.Laws.{counted-list, by-head, not-taken, is-taken}
 use Rattle.pass_two.specs.declared.Checked.{Checked}
-use Rattle.pass_two.specs.Walk.{fromLast, listOf, Alone, Lent, Room, Small, Tells, Here, HereRow, Took, TookForCase, Went, Ordered, OrderedCall, OrderedCase, OrderedIf, OrderedList, OrderedFunction}
-use Rattle.pass_two.proofs.Heads.{by-head}
-use Rattle.pass_two.proofs.Answers.{never, came, follows, stays, stopped, parts-here, first-here, rest-here}
+use Rattle.pass_two.specs.Walk.{Small, Tells, Here, HereRow, Went, Ordered, OrderedCall, OrderedCase, OrderedIf, OrderedList, OrderedFunction}
+use Rattle.pass_two.proofs.Answers.{never, came, follows, stays, refuses, passes, stopped, parts-here, first-here, rest-here}
 
 -- ---- `order_list`
 
@@ -55,9 +58,9 @@ split {s} {last} {k} h = by (h .row) (h .known) (h .fits)
     by (a-part e more) known fits = some (record { signed = _; known = known; row = a-part e more; fits = fits })
 
 module _ (s : List ℕ) (i count k last n : ℕ) (p : Pending) where
-  pub list-done : Small k last n → Lent p → count ≤ i → OrderedList s i count k last n p (record { verdict = Passed; pending = p; next = k })
+  pub list-done : Small k last n → count ≤ i → OrderedList s i count k last n p (record { verdict = Passed; pending = p; next = k })
   unfolding walkParts
-  list-done small lent over = record { on = λ u. (le-refl k, small .before-end); lent = lent; tells = λ ps m h e. told (split h) e }
+  list-done small over = record { on = λ u. (le-refl k, small .before-end); tells = λ ps m h e. told (split h) e }
     where
       told : {ps : List Placed} {m : ℕ} → Split s last k ps m → i + length ps ≡ count
           → Tells (record { verdict = Passed; pending = p; next = k }) m (walkParts n (listOf p) ps)
@@ -67,7 +70,7 @@ module _ (s : List ℕ) (i count k last n : ℕ) (p : Pending) where
   module _ (first : Checked) (of : Ordered s k last n p first) (more : i < count) where
     pub list-stops : (why : Refusal) (place : ℕ) → first .verdict ≡ Refused why place → OrderedList s i count k last n p first
     unfolding walkParts
-    list-stops why place refused = record { on = λ passed. never refused passed; lent = of .went .lent; tells = λ ps m h e. told (split h) e }
+    list-stops why place refused = record { on = λ passed. never refused passed; tells = λ ps m h e. told (split h) e }
       where
         told : {ps : List Placed} {m : ℕ} → Split s last k ps m → i + length ps ≡ count → Tells first m (walkParts n (listOf p) ps)
         told none e = absurd (omega arith)
@@ -80,7 +83,6 @@ module _ (s : List ℕ) (i count k last n : ℕ) (p : Pending) where
           let before = of .went .on passed in
           let behind = o .on u in
           omega arith;
-      lent = o .lent;
       tells = λ ps m h e. told (split h) e;
     }
       where
@@ -100,23 +102,27 @@ module _ (s : List ℕ) (a count k last n : ℕ) (p : Pending) (after : Checked)
   args-told h e = oa .tells _ _ h (omega arith)
 
   pub call-stops : (why : Refusal) (place : ℕ) → after .verdict ≡ Refused why place → OrderedCall s a count k last n p after
-  call-stops why place refused = record { went = stopped k last (oa .lent) refused; tells = λ ps m h e. stays _ _ (args-told h e) refused }
+  call-stops why place refused = record { went = stopped k last refused; tells = λ ps m h e. stays _ _ (args-told h e) refused }
 
-  pub call-takes : (r : Checked) → after .verdict ≡ Passed → Took (after .pending) a k (after .next) r → OrderedCall s a count k last n p r
-  call-takes r passed took = record {
-    went = record {
-      on = λ u. let on = oa .on passed in omega (arith, took .on);
-      lent = took .lent;
-    };
-    tells = λ ps m h e. follows _ (args-told h e) passed (rw (came (args-told h e) passed .place) at (took .tells));
-  }
+  module _ (passed : after .verdict ≡ Passed) (taken : Taken) (took : Took (after .pending) a taken) where
+    pub call-other : not (taken .head) ≡ true → OrderedCall s a count k last n p (record { verdict = Refused OutOfOrder k; pending = p; next = k })
+    call-other other = record {
+      went = stopped k last refl;
+      tells = λ ps m h e. follows _ (args-told h e) passed (refuses (not-taken _ a k taken took other));
+    }
 
-pub ruleset calls = (call-stops, call-takes)
+    pub call-takes : not (taken .head) ≡ false → OrderedCall s a count k last n p (record { verdict = Passed; pending = taken .pending; next = after .next })
+    call-takes head = record {
+      went = record { on = λ u. let on = oa .on passed in omega arith };
+      tells = λ ps m h e. follows _ (args-told h e) passed (passes (is-taken _ a k taken took head) (came (args-told h e) passed .place));
+    }
+
+pub ruleset calls = (call-stops, call-other, call-takes)
 
 -- ---- `order_at`
 
-pub at-end : (s : List ℕ) (k last n : ℕ) (p : Pending) → Lent p → last ≤ k → Ordered s k last n p (record { verdict = Refused PrefixForm k; pending = p; next = k })
-at-end s k last n p lent over = record { went = stopped k last lent refl; tells = λ e h. absurd (omega (arith, some-record e, h .fits)) }
+pub at-end : (s : List ℕ) (k last n : ℕ) (p : Pending) → last ≤ k → Ordered s k last n p (record { verdict = Refused PrefixForm k; pending = p; next = k })
+at-end s k last n p over = record { went = stopped k last refl; tells = λ e h. absurd (omega (arith, some-record e, h .fits)) }
 
 -- the arms that take parts alone are those of six kinds
 abbrev plainTags : List ℕ
@@ -138,8 +144,8 @@ module _ (s : List ℕ) (k last n : ℕ) (p : Pending) (read : RecordRead) (told
   own-read : {e : Expr} → Here s last k e → described read ≡ done (shapeOf (headOf e))
   own-read {e} h = told ∙ ap (onValue shapeOf) (node-held s (h .signed) k e (h .holds))
 
-  pub at-refused : (why : Refusal) (place : ℕ) → Lent p → read ≡ NotRead why place → Ordered s k last n p (record { verdict = Refused why place; pending = p; next = k })
-  at-refused why place lent is = record { went = stopped k last lent refl; tells = λ e h. done-not (own-read h) (ap described is) }
+  pub at-refused : (why : Refusal) (place : ℕ) → read ≡ NotRead why place → Ordered s k last n p (record { verdict = Refused why place; pending = p; next = k })
+  at-refused why place is = record { went = stopped k last refl; tells = λ e h. done-not (own-read h) (ap described is) }
 
   module _ (node : Record) (parts : Parts) (is : read ≡ Read node parts) where
     own-shape : {e : Expr} → Here s last k e → shapeOf (headOf e) ≡ record { kind = meant node; parts = listed parts }
@@ -181,7 +187,7 @@ module _ (s : List ℕ) (k last n : ℕ) (p : Pending) (read : RecordRead) (told
 
       pub at-parts : (r : Checked) → OneOf plainTags (tagOf TheRecord.the-type node) → OrderedList s 0 count (k + 1) last n p r → Ordered s k last n p r
       at-parts r tag o = record {
-        went = record { on = λ u. let on = o .on u in omega arith; lent = o .lent };
+        went = record { on = λ u. let on = o .on u in omega arith };
         tells = λ e h.
             let kind : headOf e ≡ meant node = ap (λ (x : Shape). x .kind) (own-shape h) in
             let counts = count-parts e h in
@@ -192,10 +198,10 @@ pub ruleset ats = (at-end, at-refused, at-if, at-case, at-call, at-parts)
 
 -- ---- `order_function`
 
-module _ (s : List ℕ) (k last : ℕ) (start : Pending) (alone : Alone start) (body : Checked) (o : Ordered s k last 1 start body) where
+module _ (s : List ℕ) (k last : ℕ) (start : Pending) (alone : listOf start ≡ 0 ∷ []) (body : Checked) (o : Ordered s k last 1 start body) where
   -- the body's walk, from its parameter alone
   body-told : {e : Expr} → Here s last k e → Tells body (k + size e) (walk 1 k (0 ∷ []) e)
-  body-told {e} h = rw (alone .is) at (o .tells e h)
+  body-told {e} h = rw alone at (o .tells e h)
 
   pub function-stops : (why : Refusal) (place : ℕ) → body .verdict ≡ Refused why place → OrderedFunction s k last body
   function-stops why place refused = record { went = o .went; tells = λ e h. stays _ _ (body-told h) refused }
@@ -204,23 +210,20 @@ module _ (s : List ℕ) (k last : ℕ) (start : Pending) (alone : Alone start) (
     pub function-left : body .pending .len ≢ 0 → OrderedFunction s k last (record { verdict = Refused OutOfOrder k; pending = body .pending; next = k })
     unfolding noneLeft
     function-left left = record {
-      went = stopped k last (o .went .lent) refl;
-      tells = λ e h. follows _ (body-told h) passed (record { is = rw (by-head (body .pending) left) });
+      went = stopped k last refl;
+      tells = λ e h. follows _ (body-told h) passed (record { is = rw (by-head (body .pending) _ refl (λ none. left (omega arith))) });
     }
 
     pub function-none : body .pending .len ≡ 0 → OrderedFunction s k last body
     unfolding noneLeft fromLast
     function-none empty = record {
       went = o .went;
-      tells = λ e h. follows _ (body-told h) passed (record { is = rw (passed, came (body-told h) passed .place, empty) });
+      tells = λ e h. follows _ (body-told h) passed (record { is = rw (passed, came (body-told h) passed .place, counted-list (body .pending) 0 (omega arith)) });
     }
 
 pub ruleset functions = (function-stops, function-left, function-none)
 
--- ---- what the calls ask: names stay few, there is room for two more, and the records left fall
-
-pub case-room : (p : Pending) (a k : ℕ) (taken : Checked) → TookForCase p a k taken → taken .verdict ≡ Passed → Room (taken .pending)
-case-room p a k taken took passed = took .room passed
+-- ---- what the calls ask: names stay few, and the records left fall
 
 module _ (k last : ℕ) (c : Checked) (went : Went k last c) (passed : c .verdict ≡ Passed) where
   pub few-on : (n : ℕ) → Small k last n → Small (c .next) last n
@@ -239,4 +242,4 @@ module _ (t k last : ℕ) (is : 3 * (last - k) ≡ t) (c : Checked) (went : Went
   pub fall-third : (d : Checked) → Went (c .next) last d → d .verdict ≡ Passed → 3 * (last - d .next) + 1 < t
   fall-third d went′ passed′ = let on = went .on passed in let on′ = went′ .on passed′ in omega arith
 
-pub ruleset asked = (case-room, few-on, few-inside, fall-list, fall-second, fall-third, needs)
+pub ruleset asked = (few-on, few-inside, fall-list, fall-second, fall-third, needs)

@@ -1,39 +1,20 @@
 -- What the functions of pass two answer, over flat records s.
-use Prim.Native.Nat.{ℕ, zero, suc, _+_, _-_, _*_, _≤_, _<_}
+use Prim.Native.Nat.{ℕ, _+_, _-_, _*_, _≤_, _<_}
 use mathlib.Core.List.{List, [], _∷_}
 use mathlib.Core.Path.{_≡_}
-use lib.Dec.{ltb}
-use lib.ListN.{length, getD}
-use Rattle.formats.specs.Refusals.{outOfOrder, tooManyPending}
+use lib.ListN.{length}
+use Rattle.formats.specs.Refusals.{outOfOrder}
 use Rattle.formats.specs.Results.{Result, done, andThen, onValue, check}
 use Rattle.formats.specs.Programs.{Expr, caseOf, ifZero, size, Placed, Signature, Program}
 use Rattle.formats.specs.Rows.{readProgram}
 use Rattle.refusal.specs.Said.{said}
 use Rattle.refusal.specs.declared.Verdict.{Verdict}
 use Rattle.refusal.specs.declared.Verdict.the-variants.{Passed}
-use Rattle.rules.specs.Leftover.{mostPending}
-use Rattle.rules.specs.PassOne.{holdsAt}
 use Rattle.rules.specs.PassTwo.{takeHead, sameNames, walk, noneLeft, passTwo}
 use Rattle.rules.proofs.Parts.{Known, Holds, Row, walkParts}
-use Rattle.pass_two.specs.declared.Pending.{Pending}
+use Rattle.pending.specs.List.{listOf}
+use Rattle.pending.specs.declared.Pending.{Pending}
 use Rattle.pass_two.specs.declared.Checked.{Checked}
-
--- So many names of an array, the last of them first.
-unfoldable pub fromLast : List ℕ → ℕ → List ℕ
-fromLast names zero = []
-fromLast names (suc l) = getD names l 0 ∷ fromLast names l
-
--- 01: "The pending trees are a list of at most 16 numbers". The list, its head first.
-abbrev pub listOf : Pending → List ℕ
-listOf p = fromLast (p .names) (p .len)
-
--- The list's length is that of names that are there.
-abbrev pub Lent : Pending → Type 0
-Lent p = p .len ≤ mostPending
-
--- Two more fit.
-abbrev pub Room : Pending → Type 0
-Room p = p .len + 2 ≤ mostPending
 
 -- Names bound stay small up to the end.
 pub record Small (k end n : ℕ) : Type 0 where
@@ -57,43 +38,15 @@ found c = onValue (λ u. stand (c .next) (listOf (c .pending))) (said (c .verdic
 pub record Tells (c : Checked) (m : ℕ) (w : Result (List ℕ)) : Type 0 where
   pub is : found c ≡ onValue (stand m) w
 
--- 01: "at first the parameter alone".
-pub record Alone (r : Pending) : Type 0 where
-  pub is : listOf r ≡ 0 ∷ []
-  pub lent : Lent r
-
--- 01: "11 not the head". What is left when tree a is taken.
-pub record Took (p : Pending) (a k next : ℕ) (r : Checked) : Type 0 where
-  pub tells : Tells r next (takeHead a k (listOf p))
-  pub lent : Lent (r .pending)
-  pub shorter : r .verdict ≡ Passed → suc (r .pending .len) ≡ p .len
-  pub on : r .next ≡ next
-
--- 01: "Case takes the head". "12 Case with 16 pending".
-abbrev pub takeForCase : ℕ → ℕ → List ℕ → Result (List ℕ)
-takeForCase a k Δ = andThen (takeHead a k Δ) (λ rest. andThen (holdsAt (ltb (length Δ) mostPending) tooManyPending k) (λ u. done rest))
-
-pub record TookForCase (p : Pending) (a k : ℕ) (r : Checked) : Type 0 where
-  pub tells : Tells r k (takeForCase a k (listOf p))
-  pub lent : Lent (r .pending)
-  pub room : r .verdict ≡ Passed → Room (r .pending)
-
--- 01: "puts its two names in front in the node part".
-pub record Put (p : Pending) (left right : ℕ) (r : Pending) : Type 0 where
-  pub is : listOf r ≡ left ∷ (right ∷ listOf p)
-  pub lent : Lent r
-
 -- 01: "Both branches of Case or IfZero must end with equal lists, compared once both are through".
 pub record Joined (one : Pending) (other : Checked) (k : ℕ) (r : Checked) : Type 0 where
   pub tells : other .verdict ≡ Passed
       → Tells r (other .next) (check (sameNames (listOf one) (listOf (other .pending))) outOfOrder k (listOf (other .pending)))
-  pub lent : Lent (r .pending)
   pub on : r .next ≡ other .next
 
 -- How far a walk went on: behind record k, and not past the end.
 pub record Went (k end : ℕ) (r : Checked) : Type 0 where
   pub on : r .verdict ≡ Passed → (k < r .next) × (r .next ≤ end)
-  pub lent : Lent (r .pending)
 
 -- Expression e of a program stands at record k, and ends by the end.
 pub record Here (s : List ℕ) (end k : ℕ) (e : Expr) : Type 0 where
@@ -131,7 +84,6 @@ pub record OrderedIf (s : List ℕ) (k end n : ℕ) (p : Pending) (r : Checked) 
 -- Parts from number i on, so many in all, the next of them at record k.
 pub record OrderedList (s : List ℕ) (i count k end n : ℕ) (p : Pending) (r : Checked) : Type 0 where
   pub on : r .verdict ≡ Passed → (k ≤ r .next) × (r .next ≤ end)
-  pub lent : Lent (r .pending)
   pub tells : (ps : List Placed) (m : ℕ) → HereRow s end k ps m → i + length ps ≡ count → Tells r m (walkParts n (listOf p) ps)
 
 -- 01: "a function ends with none". The function whose body is at record k.

@@ -1,4 +1,5 @@
 // Document 01's pass two, over flat records, 8 bytes each: the order in which a program visits its trees.
+use pending::Pending;
 use records::Record;
 use records::RecordRead;
 use refusal::Refusal;
@@ -8,17 +9,8 @@ ghost use mathlib.Core.Path.{_≡_};
 ghost use Rattle.formats.specs.Results.{done, verdict};
 ghost use Rattle.formats.specs.Rows.{readProgram};
 ghost use Rattle.refusal.specs.Said.{said};
-ghost use Rattle.rules.specs.PassTwo.{sameNames, checkRecords};
-ghost use Rattle.pass_two.specs.Walk.{listOf, Lent, Room, Small, Alone, Took, TookForCase, Put, Joined, Ordered, OrderedCall, OrderedCase, OrderedIf, OrderedList, OrderedFunction, PassSays};
-
-// The most trees pending.
-const MOST_PENDING: usize = 16;
-
-// The pending trees: the names of so many, the head last.
-struct Pending {
-    names: [u16; MOST_PENDING],
-    len: usize,
-}
+ghost use Rattle.rules.specs.PassTwo.{checkRecords};
+ghost use Rattle.pass_two.specs.Walk.{Small, Joined, Ordered, OrderedCall, OrderedCase, OrderedIf, OrderedList, OrderedFunction, PassSays};
 
 // What a check says, with the trees then pending and the record behind what was checked.
 struct Checked {
@@ -27,110 +19,12 @@ struct Checked {
     next: usize,
 }
 
-// The pending trees at first: a function's parameter alone, tree 0.
-fn parameter_alone() -> Pending
-    ensures { λ r. ⌜ Alone r ⌝ }
-{
-    Pending {
-        names: [0u16; MOST_PENDING],
-        len: 1,
-    }
-}
-
-// The pending trees without tree `a`, which must be their head: else 11 at record k.
-fn take_head(pending: Pending, a: u8, k: usize, next: usize) -> Checked
-    requires { ⌜ Lent pending ⌝ }
-    ensures { λ r. ⌜ Took pending a k next r ⌝ }
-{
-    let len = pending.len;
-    let names = pending.names;
-    if len == 0 {
-        return Checked {
-            verdict: Verdict::Refused(Refusal::OutOfOrder, k),
-            pending: pending,
-            next: next,
-        };
-    }
-    if names[len - 1] != (a as u16) {
-        return Checked {
-            verdict: Verdict::Refused(Refusal::OutOfOrder, k),
-            pending: pending,
-            next: next,
-        };
-    }
-    Checked {
-        verdict: Verdict::Passed,
-        pending: Pending {
-            names: names,
-            len: len - 1,
-        },
-        next: next,
-    }
-}
-
-// A Case at record k takes tree `a`, where there is room for its two names: else 12.
-fn take_for_case(pending: Pending, a: u8, k: usize) -> Checked
-    requires { ⌜ Lent pending ⌝ }
-    ensures { λ r. ⌜ TookForCase pending a k r ⌝ }
-{
-    let taken = take_head(pending, a, k, k);
-    let said = taken.verdict;
-    if let Verdict::Refused(why, place) = said {
-        return taken;
-    }
-    if MOST_PENDING <= pending.len {
-        return Checked {
-            verdict: Verdict::Refused(Refusal::TooManyPending, k),
-            pending: pending,
-            next: k,
-        };
-    }
-    taken
-}
-
-// The pending trees with two more in front: the left tree's name, then the right one's.
-fn put_two(pending: Pending, left: u16, right: u16) -> Pending
-    requires { ⌜ Room pending ⌝ }
-    ensures { λ r. ⌜ Put pending left right r ⌝ }
-{
-    let len = pending.len;
-    let mut names = pending.names;
-    names[len] = right;
-    names[len + 1] = left;
-    Pending {
-        names: names,
-        len: len + 2,
-    }
-}
-
-// Whether the same trees are pending.
-fn is_same(one: Pending, other: Pending) -> bool
-    requires { ⌜ Lent one × Lent other ⌝ }
-    ensures { λ r. ⌜ r ≡ sameNames (listOf one) (listOf other) ⌝ }
-{
-    let len = one.len;
-    if len != other.len {
-        return false;
-    }
-    let these = one.names;
-    let those = other.names;
-    let mut i = 0;
-    while i < len {
-        if these[i] != those[i] {
-            return false;
-        }
-        i = i + 1;
-    }
-    true
-}
-
 // Both branches of the Case or IfZero at record k are through: they must have left the same trees.
 fn joined(one: Pending, other: Checked, k: usize) -> Checked
-    requires { ⌜ Lent one × Lent (other .pending) ⌝ }
     ensures { λ r. ⌜ Joined one other k r ⌝ }
 {
     let after = other.pending;
-    if is_same(one, after) {
+    if pending::is_same(one, after) {
         return other;
     }
     Checked {
@@ -142,7 +36,7 @@ fn joined(one: Pending, other: Checked, k: usize) -> Checked
 
 // Pass two over the expression at record k, where so many tree names are bound. The records left up to the end fall at each call.
 fn order_at(flat: &[u8], k: usize, end: usize, trees: u16, pending: Pending) -> Checked
-    requires { ⌜ Small k end trees × Lent pending ⌝ }
+    requires { ⌜ Small k end trees ⌝ }
     ensures { λ r. ⌜ Ordered (now (flat .entry)) k end trees pending r ⌝ }
 {
     if end <= k {
@@ -181,7 +75,7 @@ fn order_call(
     trees: u16,
     pending: Pending,
 ) -> Checked
-    requires { ⌜ Small (k + 1) end trees × Lent pending ⌝ }
+    requires { ⌜ Small (k + 1) end trees ⌝ }
     ensures { λ r. ⌜ OrderedCall (now (flat .entry)) a count k end trees pending r ⌝ }
 {
     let after = order_list(flat, 0, count, k + 1, end, trees, pending);
@@ -189,7 +83,20 @@ fn order_call(
     if let Verdict::Refused(why, place) = said {
         return after;
     }
-    take_head(after.pending, a, k, after.next)
+    let taken = pending::take_head(after.pending, a);
+    if !taken.head {
+        return Checked {
+            verdict: Verdict::Refused(Refusal::OutOfOrder, k),
+            pending: pending,
+            next: k,
+        };
+    }
+    let rest = taken.pending;
+    Checked {
+        verdict: Verdict::Passed,
+        pending: rest,
+        next: after.next,
+    }
 }
 
 // Pass two over a list of arguments, or of parts, from number i on, the next of them at record k: one after the other.
@@ -202,7 +109,7 @@ fn order_list(
     trees: u16,
     pending: Pending,
 ) -> Checked
-    requires { ⌜ Small k end trees × Lent pending ⌝ }
+    requires { ⌜ Small k end trees ⌝ }
     ensures { λ r. ⌜ OrderedList (now (flat .entry)) i count k end trees pending r ⌝ }
 {
     if count <= i {
@@ -222,20 +129,30 @@ fn order_list(
 
 // A Case takes the head. Its leaf part begins with the others; its node part with its two names in front of them.
 fn order_case(flat: &[u8], a: u8, k: usize, end: usize, trees: u16, pending: Pending) -> Checked
-    requires { ⌜ Small (k + 1) end trees × Lent pending ⌝ }
+    requires { ⌜ Small (k + 1) end trees ⌝ }
     ensures { λ r. ⌜ OrderedCase (now (flat .entry)) a k end trees pending r ⌝ }
 {
-    let taken = take_for_case(pending, a, k);
-    let head_said = taken.verdict;
-    if let Verdict::Refused(why, place) = head_said {
-        return taken;
+    let taken = pending::take_head(pending, a);
+    if !taken.head {
+        return Checked {
+            verdict: Verdict::Refused(Refusal::OutOfOrder, k),
+            pending: pending,
+            next: k,
+        };
+    }
+    if pending::is_full(pending) {
+        return Checked {
+            verdict: Verdict::Refused(Refusal::TooManyPending, k),
+            pending: pending,
+            next: k,
+        };
     }
     let leaf = order_at(flat, k + 1, end, trees, taken.pending);
     let leaf_said = leaf.verdict;
     if let Verdict::Refused(why, place) = leaf_said {
         return leaf;
     }
-    let inner = put_two(taken.pending, trees, trees + 1);
+    let inner = pending::put_two(taken.pending, trees, trees + 1);
     let node = order_at(flat, leaf.next, end, trees + 2, inner);
     let node_said = node.verdict;
     if let Verdict::Refused(why, place) = node_said {
@@ -246,7 +163,7 @@ fn order_case(flat: &[u8], a: u8, k: usize, end: usize, trees: u16, pending: Pen
 
 // IfZero's parts both begin with the trees that its test left.
 fn order_if(flat: &[u8], k: usize, end: usize, trees: u16, pending: Pending) -> Checked
-    requires { ⌜ Small (k + 1) end trees × Lent pending ⌝ }
+    requires { ⌜ Small (k + 1) end trees ⌝ }
     ensures { λ r. ⌜ OrderedIf (now (flat .entry)) k end trees pending r ⌝ }
 {
     let test = order_at(flat, k + 1, end, trees, pending);
@@ -272,7 +189,7 @@ fn order_function(flat: &[u8], k: usize, end: usize) -> Checked
     requires { ⌜ Small k end 1 ⌝ }
     ensures { λ r. ⌜ OrderedFunction (now (flat .entry)) k end r ⌝ }
 {
-    let body = order_at(flat, k, end, 1, parameter_alone());
+    let body = order_at(flat, k, end, 1, pending::parameter_alone());
     let said = body.verdict;
     if let Verdict::Refused(why, place) = said {
         return body;

@@ -1,6 +1,6 @@
 -- The proof of the cycle of calls {order_at, order_call, order_case, order_if, order_list}. The measure is the records left, three times, so that
 -- at the same record a list is above its first expression, and an expression above the Call, Case or IfZero that it is. Each way out is a law of
--- proofs/Branches or proofs/Walk.
+-- proofs/Branches or proofs/Walk; the last of `order_case` is told where the tests of the head and of the room lie, far back.
 use Prim.Native.Nat.{ℕ, _+_, _-_, _*_, _<_}
 use borrow.Author.Needs.{needs}
 use borrow.Fn.Kinds.{In}
@@ -24,9 +24,9 @@ use Rattle.pass_two.proofs.order_list.Kinds as order-list-kinds
 use Rattle.pass_two.proofs.+order_at+order_call+order_case+order_if+order_list.Lts-order_list as order-list-lts
 use Rattle.nodes.proofs.part_count.Reads as part-count-reads
 use Rattle.pass_two.proofs.joined.Reads as joined-reads
-use Rattle.pass_two.proofs.put_two.Reads as put-two-reads
-use Rattle.pass_two.proofs.take_for_case.Reads as take-for-case-reads
-use Rattle.pass_two.proofs.take_head.Reads as take-head-reads
+use Rattle.pending.proofs.is_full.Reads as is-full-reads
+use Rattle.pending.proofs.put_two.Reads as put-two-reads
+use Rattle.pending.proofs.take_head.Reads as take-head-reads
 use Rattle.records.proofs.record_at.Reads as record-at-reads
 use Rattle.pass_two.proofs.+order_at+order_call+order_case+order_if+order_list.{statement}
 use Rattle.pass_two.proofs.+order_at+order_call+order_case+order_if+order_list.Tie.{close}
@@ -116,10 +116,14 @@ pub +order-at+order-call+order-case+order-if+order-list-spec : {M : Type 1} → 
     (order-call-at t)
     order-call.Post
     (λ c. search needs) (λ c κs. search asked) (λ c. search needs) (λ c. search calls)
-    (λ c. search needs) (λ c κs. search asked) (λ c. search calls))
+    (λ c. search needs) (λ c κs. search needs)
+    (λ c. search calls)
+    (λ c. search calls))
     (λ t. order-case-lts.spec (
-      take-for-case-reads.Asked,
-      take-for-case-reads.Learnt,
+      take-head-reads.Asked,
+      take-head-reads.Learnt,
+      is-full-reads.Asked,
+      is-full-reads.Learnt,
       order-at-below t,
       order-at.Post,
       put-two-reads.Asked,
@@ -129,11 +133,13 @@ pub +order-at+order-call+order-case+order-if+order-list-spec : {M : Type 1} → 
     )
     (order-case-at t)
     order-case.Post
-    (λ c κs. search asked) (λ c. search needs) (λ c. search cases)
-    (λ c. search needs) (λ c. search needs) (λ c κs. search asked) (λ c. search needs) (λ c. search cases)
-    (λ c. search needs) (λ c. search needs) (λ c κs. search asked) (λ c. search needs) (λ c κs. search asked) (λ c. search needs)
+    (λ c κs. search needs) (λ c. search cases)
+    (λ c κs. search needs) (λ c. search cases)
+    (λ c. search needs) (λ c κs. search asked) (λ c. search needs) (λ c. search cases)
+    (λ c. search needs) (λ c. search needs) (λ c κs. search needs) (λ c. search needs) (λ c κs. search asked) (λ c. search needs)
     (λ c. search cases)
-    (λ c. search needs) (λ c κs. search asked) (λ c. search cases))
+    (λ c. search needs) (λ c κs. search needs)
+    (λ c. let tests = c .before .before .before .before .before .before .before .before in search cases))
     (λ t. order-if-lts.spec
     (order-at-below t, order-at.Post, joined-reads.Asked, joined-reads.Learnt)
     (order-if-at t)

@@ -1,6 +1,6 @@
 -- `pass_two::joined` meets its contract: the same trees are pending, or not.
 use borrow.Author.Needs.{needs}
-use Rattle.pass_two.proofs.Heads.{joins}
+use Rattle.pass_two.proofs.Branches.{joins}
 use Rattle.pass_two.proofs.joined.Statement.{statement}
 use Rattle.pass_two.proofs.joined.Tie as tie
 

@@ -1,9 +1,9 @@
--- `pass_two::is_same` meets its contract: the names below i are the same, and i grows up to the length.
+-- `pending::is_same` meets its contract: the names below i are the same, and i grows up to the length.
 use Prim.Native.Nat.{_-_}
 use borrow.Author.Needs.{needs}
-use Rattle.pass_two.proofs.Heads.{Alike, compared}
-use Rattle.pass_two.proofs.is_same.Statement.{statement}
-use Rattle.pass_two.proofs.is_same.Tie as tie
+use Rattle.pending.proofs.Laws.{Alike, compared}
+use Rattle.pending.proofs.is_same.Statement.{statement}
+use Rattle.pending.proofs.is_same.Tie as tie
 
 abbrev Inv-loop : tie.InvT-loop
 Inv-loop len these those i₀ i = Alike these those len i
@@ -17,6 +17,8 @@ is-same-spec =
     (tie.spec
     Inv-loop
     μ-loop
+    (λ c κs. search needs)
+    (λ c κs. search needs)
     (λ c. search compared)
     (λ c. search compared)
     (λ c. search needs)

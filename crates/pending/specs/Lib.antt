@@ -1,0 +1,2 @@
+-- What the functions on pending trees answer.
+pub mod List

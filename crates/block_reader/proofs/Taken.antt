@@ -2,13 +2,13 @@
 -- lack of it.
 use Prim.Native.Nat.{ℕ, _+_, _*_, _≤_}
 use mathlib.Core.List.{List, _++_}
-use mathlib.Core.Path.{_≡_, refl, sym, ap, _∙_}
+use mathlib.Core.Path.{_≡_, sym, ap, _∙_}
 use native.Mathlib.Omega.{arith}
 use lib.ListN.{length, take, drop, length-append}
 use lib.Seq.{take-at}
-use Rattle.formats.specs.Results.{Result, done, refusal, andThen, onValue}
+use Rattle.formats.specs.Results.{done, refusal, andThen}
 use Rattle.formats.specs.Blocks.{partBytes, mostBlocks, flatIn, flatInto, within, lent}
-use Rattle.formats.proofs.Results.{outcome, gave, stopped, Outcome, done-not, then-done, then-refused, value-inv}
+use Rattle.formats.proofs.Results.{outcome, gave, stopped, Outcome, then-done, then-refused, value-inv, value-refused}
 use Rattle.formats.proofs.Written.{written-fits}
 use Rattle.formats.proofs.Files.{flat-short, within-room}
 use Rattle.refusal.specs.declared.Refusal.{Refusal}
@@ -16,11 +16,6 @@ use Rattle.refusal.specs.Number.{number}
 use Rattle.refusal.specs.Put.{answered, Put}
 use Rattle.refusal.specs.declared.Filled.{Filled}
 use Rattle.refusal.specs.declared.Filled.the-variants.{Written, Refused}
-
--- a refusal of a changed value is the value's own
-value-refused : {A B : Type 0} (f : A → B) (r : Result A) (n place : ℕ) → onValue f r ≡ refusal n place → r ≡ refusal n place
-value-refused f (done x) n place e = done-not refl e
-value-refused f (refusal m q) n place e = cc
 
 -- space for the most blocks
 abbrev pub mostBytes : ℕ

@@ -59,6 +59,11 @@ pub value-inv : {A B : Type 0} (f : A → B) (r : Result A) (y : B) → onValue 
 value-inv f (done x) y e = record { value = x; first = refl; second = done-injective e }
 value-inv f (refusal number place) y e = done-not e refl
 
+-- where a changed value is refused, the value is
+pub value-refused : {A B : Type 0} (f : A → B) (r : Result A) (number place : ℕ) → onValue f r ≡ refusal number place → r ≡ refusal number place
+value-refused f (done x) number place e = done-not refl e
+value-refused f (refusal n q) number place e = cc
+
 -- a check that is done held, and its value is the one checked
 pub record Checked {A : Type 0} (test : Bool) (x y : A) : Type 0 where
   pub held : test ≡ true

@@ -6,7 +6,7 @@ use mathlib.Core.Path.{_≡_, refl, sym, ap, _∙_}
 use native.Mathlib.Omega.{arith}
 use borrow.Author.Tests.{ltb-true, ne-eqb, not-true, not-false}
 use lib.Dec.{ltb, eqb}
-use types.Run.{OneOf}
+use types.Run.{OneOf, miss}
 use denote.Enum.Declared.{tagOf}
 use Rattle.formats.specs.Refusals.{wrongType, notBound, tooManyWords}
 use Rattle.formats.specs.Results.{Result, andThen}
@@ -31,7 +31,6 @@ use Rattle.rules.proofs.Parts.{Known}
 use Rattle.rules.proofs.Walks.{Signed, signature-of}
 use Rattle.pass_one.specs.Walk.{expected, scopeOf, Typed, Bare, Roomy, Tested}
 use Rattle.pass_one.specs.declared.Scope.{Scope}
-use Rattle.pass_one.proofs.Arms.{excluded}
 
 -- ---- `is_named`
 
@@ -54,14 +53,14 @@ nameless = 0 ∷ 2 ∷ 3 ∷ 4 ∷ 5 ∷ 6 ∷ []
 pub named-other : (c : Scope) (node : Record) → OneOf nameless (tagOf the-type node) → true ≡ named (scopeOf c) (meant node)
 unfolding named
 named-other c (Const i) h = refl
-named-other c (Var v) h = absurd (excluded nameless 1 refl h)
+named-other c (Var v) h = absurd (miss nameless 1 tt h)
 named-other c Add h = refl
 named-other c IfZero h = refl
 named-other c Let h = refl
 named-other c Leaf h = refl
 named-other c Node h = refl
-named-other c (Case v) h = absurd (excluded nameless 7 refl h)
-named-other c (Call v) h = absurd (excluded nameless 8 refl h)
+named-other c (Case v) h = absurd (miss nameless 7 tt h)
+named-other c (Call v) h = absurd (miss nameless 8 tt h)
 
 pub ruleset names = (named-var, named-case, named-call, named-other)
 
@@ -142,15 +141,15 @@ as-parts = 3 ∷ 4 ∷ 7 ∷ []
 
 pub typed-other : (s : List ℕ) (c : Scope) (node : Record) → OneOf as-parts (tagOf the-type node) → Typed s c node true
 unfolding typed
-typed-other s c (Const i) h = absurd (excluded as-parts 0 refl h)
-typed-other s c (Var v) h = absurd (excluded as-parts 1 refl h)
-typed-other s c Add h = absurd (excluded as-parts 2 refl h)
+typed-other s c (Const i) h = absurd (miss as-parts 0 tt h)
+typed-other s c (Var v) h = absurd (miss as-parts 1 tt h)
+typed-other s c Add h = absurd (miss as-parts 2 tt h)
 typed-other s c IfZero h = record { is = λ gs known low. refl }
 typed-other s c Let h = record { is = λ gs known low. refl }
-typed-other s c Leaf h = absurd (excluded as-parts 5 refl h)
-typed-other s c Node h = absurd (excluded as-parts 6 refl h)
+typed-other s c Leaf h = absurd (miss as-parts 5 tt h)
+typed-other s c Node h = absurd (miss as-parts 6 tt h)
 typed-other s c (Case v) h = record { is = λ gs known low. refl }
-typed-other s c (Call v) h = absurd (excluded as-parts 8 refl h)
+typed-other s c (Call v) h = absurd (miss as-parts 8 tt h)
 
 pub ruleset typings = (typed-const, typed-var, typed-add, typed-leaf, typed-node, typed-tree-call, typed-number-call, typed-other)
 
@@ -225,15 +224,15 @@ wordless = 2 ∷ 3 ∷ 4 ∷ 5 ∷ 6 ∷ []
 
 pub roomy-other : (s : List ℕ) (c : Scope) (node : Record) → OneOf wordless (tagOf the-type node) → Roomy s c node true
 unfolding wordsTested
-roomy-other s c (Const i) h = absurd (excluded wordless 0 refl h)
-roomy-other s c (Var v) h = absurd (excluded wordless 1 refl h)
+roomy-other s c (Const i) h = absurd (miss wordless 0 tt h)
+roomy-other s c (Var v) h = absurd (miss wordless 1 tt h)
 roomy-other s c Add h = untested s c Add (λ gs known low. refl)
 roomy-other s c IfZero h = untested s c IfZero (λ gs known low. refl)
 roomy-other s c Let h = untested s c Let (λ gs known low. refl)
 roomy-other s c Leaf h = untested s c Leaf (λ gs known low. refl)
 roomy-other s c Node h = untested s c Node (λ gs known low. refl)
-roomy-other s c (Case v) h = absurd (excluded wordless 7 refl h)
-roomy-other s c (Call v) h = absurd (excluded wordless 8 refl h)
+roomy-other s c (Case v) h = absurd (miss wordless 7 tt h)
+roomy-other s c (Call v) h = absurd (miss wordless 8 tt h)
 
 pub ruleset words = (roomy-const, roomy-var, roomy-case, roomy-bare-call, roomy-call, roomy-other)
 

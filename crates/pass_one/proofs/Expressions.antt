@@ -2,15 +2,15 @@
 use Prim.Native.Nat.{ℕ, suc, _+_, _-_, _*_, _≤_, _<_}
 use mathlib.Core.Bool.{true}
 use mathlib.Core.List.{List}
-use mathlib.Core.Path.{_≡_, refl, sym, ap, subst, _∙_}
+use mathlib.Core.Path.{_≡_, sym, ap, subst, _∙_}
 use native.Mathlib.Numerals.{add-one}
 use native.Mathlib.Omega.{arith}
 use lib.ListN.{length}
-use Rattle.formats.specs.Results.{Result, done, refusal, andThen, onValue}
+use Rattle.formats.specs.Results.{Result, done, andThen, onValue}
 use Rattle.formats.specs.Records.{below, partCount}
 use Rattle.formats.specs.Programs.{Expr, size, Placed, partsAt, Signature}
 use Rattle.formats.specs.Rows.{headerIn, arityIn, nodeIn}
-use Rattle.formats.proofs.Results.{done-injective, done-not, then-done, then-refused, value-inv}
+use Rattle.formats.proofs.Results.{done-injective, done-not, then-done, then-refused, value-inv, value-refused}
 use Rattle.formats.proofs.Records.{node-below}
 use Rattle.formats.proofs.Programs.{some-record}
 use Rattle.refusal.specs.Number.{number}
@@ -39,11 +39,6 @@ use Rattle.pass_one.proofs.PartScopes.{inside-fits}
 -- a refusal comes to no record
 stopped : {A : Type 0} (why : Refusal) (place next : ℕ) → _≡_ {A = Walked} (Refused why place) (To next) → A
 stopped why place next e = let z : _≡_ {A = ℕ} 0 1 = cc in absurd (omega arith)
-
--- where a changed value is refused, the value is
-pub refused-value : {A B : Type 0} (f : A → B) (r : Result A) (number place : ℕ) → onValue f r ≡ refusal number place → r ≡ refusal number place
-refused-value f (done x) number place e = done-not refl e
-refused-value f (refusal n p) number place e = cc
 
 -- ---- `enter`
 
@@ -136,7 +131,7 @@ module _ (s : List ℕ) (node : Record) (i count k end : ℕ) (c : Scope) where
       on = λ next e. stopped why place next e;
       is = λ gs ps m known row all within.
           let t = turn gs ps m known row all within in
-          sym (ap (onValue (λ u. m)) (t .split ∙ then-refused _ (refused-value (λ u. k + size (t .first .expr)) (t .over) (number why) place (sym (t .here) ∙ ap told case))));
+          sym (ap (onValue (λ u. m)) (t .split ∙ then-refused _ (value-refused (λ u. k + size (t .first .expr)) (t .over) (number why) place (sym (t .here) ∙ ap told case))));
     }
 
     pub parts-more : (next : ℕ) (r : Walked) → walked ≡ To next → EnteredParts s node (i + 1) count next end c r → EnteredParts s node i count k end c r

@@ -11,7 +11,7 @@ use Rattle.formats.specs.Results.{Result, done, refusal, andThen, onValue, verd
 use Rattle.formats.specs.Records.{recordAt}
 use Rattle.formats.specs.Programs.{size, Sort, numberValued, treeValued, sortNumber, Signature, total, Function, signatureOf, Program, signatures}
 use Rattle.formats.specs.Rows.{headerIn, sortIn, arityIn, readProgram}
-use Rattle.formats.proofs.Results.{then-done, then-refused, value-inv, passed-is, refused-is}
+use Rattle.formats.proofs.Results.{then-done, then-refused, value-inv, passed-is, refused-is, value-refused}
 use Rattle.formats.proofs.Rows.{function-read}
 use Rattle.refusal.specs.Number.{number}
 use Rattle.refusal.specs.Said.{said}
@@ -28,7 +28,6 @@ use Rattle.pass_one.specs.Walk.{expected, told, Entered, Starts, PassSay
 use Rattle.pass_one.specs.declared.Scope.{Scope}
 use Rattle.pass_one.specs.declared.Walked.{Walked}
 use Rattle.pass_one.specs.declared.Walked.the-variants.{To, Refused}
-use Rattle.pass_one.proofs.Expressions.{refused-value}
 
 -- ---- `start`
 
@@ -132,7 +131,7 @@ module _ (s : List ℕ) (functions end : ℕ) where
     walk-refused why place case = record {
       is = λ program e.
           let t = turn program (w .rest program e) in
-          sym (t .refused (number why) place (refused-value (λ u. k + size (t .here .body)) (t .over) (number why) place (sym (t .is-told) ∙ ap told case)));
+          sym (t .refused (number why) place (value-refused (λ u. k + size (t .here .body)) (t .over) (number why) place (sym (t .is-told) ∙ ap told case)));
     }
 
 pub walk-none : (s : List ℕ) (functions nodes : ℕ) → Bytes s → functions ≡ getD s 1 0 → nodes ≡ numberAt 2 s 2 → functions < 256 → nodes < 65536

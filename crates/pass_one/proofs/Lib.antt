@@ -1,5 +1,4 @@
 -- The laws that the functions' proofs cite.
-pub mod Arms
 pub mod Entries
 pub mod PartScopes
 pub mod Expressions

@@ -5,7 +5,7 @@ use mathlib.Core.Path.{_≡_, refl, sym, ap, ap₂, _∙_}
 use native.Mathlib.Nat.{add-zero}
 use native.Mathlib.Numerals.{add-one}
 use native.Mathlib.Omega.{arith}
-use types.Run.{OneOf}
+use types.Run.{OneOf, miss}
 use denote.Enum.Declared.{tagOf}
 use Rattle.formats.specs.Records.{Kind}
 use Rattle.formats.specs.Records.{Const as aConst, Var as aVar, Add as anAdd, IfZero as anIfZero, Let as aLet, Leaf as aLeaf, Node as aNode, Case as aCase, Call as aCall}
@@ -20,7 +20,6 @@ use Rattle.rules.specs.Scopes.{scope, inside}
 use Rattle.rules.specs.Scopes.{Scope as ScopeThere}
 use Rattle.pass_one.specs.Walk.{expected, scopeOf, Small, Fits, FitsParts}
 use Rattle.pass_one.specs.declared.Scope.{Scope}
-use Rattle.pass_one.proofs.Arms.{excluded}
 
 -- ---- `inside`
 
@@ -97,13 +96,13 @@ pub no-part : (c : Scope) (node : Record) (i : ℕ) → OneOf partless (tagOf th
 unfolding inside
 no-part c (Const v) i h = refl
 no-part c (Var v) i h = refl
-no-part c Add i h = absurd (excluded partless 2 refl h)
-no-part c IfZero i h = absurd (excluded partless 3 refl h)
-no-part c Let i h = absurd (excluded partless 4 refl h)
-no-part c Leaf i h = absurd (excluded partless 5 refl h)
-no-part c Node i h = absurd (excluded partless 6 refl h)
-no-part c (Case v) i h = absurd (excluded partless 7 refl h)
-no-part c (Call v) i h = absurd (excluded partless 8 refl h)
+no-part c Add i h = absurd (miss partless 2 tt h)
+no-part c IfZero i h = absurd (miss partless 3 tt h)
+no-part c Let i h = absurd (miss partless 4 tt h)
+no-part c Leaf i h = absurd (miss partless 5 tt h)
+no-part c Node i h = absurd (miss partless 6 tt h)
+no-part c (Case v) i h = absurd (miss partless 7 tt h)
+no-part c (Call v) i h = absurd (miss partless 8 tt h)
 
 pub ruleset part-scopes = (add-first, add-second, test-first, test-branch, let-first, let-body, leaf-part, node-part, case-leaf, case-node, call-part, no-part)
 

@@ -6,7 +6,7 @@ use native.Mathlib.Nat.{le-trans}
 use native.Mathlib.Omega.{arith}
 use Rattle.formats.specs.Results.{Result, done, refusal, andThen, onValue}
 use Rattle.formats.specs.Programs.{Expr, size, Placed, behind, partsAt}
-use Rattle.formats.proofs.Results.{byResult, done-injective, done-not, then-done, then-refused}
+use Rattle.formats.proofs.Results.{byResult, done-injective, done-not, then-done, then-refused, value-refused}
 use Rattle.refusal.specs.Number.{number}
 use Rattle.refusal.specs.declared.Refusal.{Refusal}
 use Rattle.refusal.specs.declared.Verdict.{Verdict}
@@ -46,11 +46,7 @@ follows {i = i} f told passed t = record { is = t .is ∙ sym (ap (onValue (stan
 
 -- it refused: so does the walk ..
 pub stops : {c : Checked} {m : ℕ} {w : Result (List ℕ)} {why : Refusal} {place : ℕ} → Tells c m w → c .verdict ≡ Refused why place → w ≡ refusal (number why) place
-stops {c} {m} {w} {why} {place} told refused =
-    let stop : onValue (stand m) w ≡ refusal (number why) place = sym (told .is) ∙ (rw refused) in
-    byResult w
-    (λ Δ e. done-not (ap (onValue (stand m)) e) stop)
-    (λ number′ place′ e. let same : _≡_ {A = Result Stand} (refusal number′ place′) (refusal (number why) place) = sym (ap (onValue (stand m)) e) ∙ stop in e ∙ cc)
+stops {m = m} {w = w} {why = why} {place = place} told refused = value-refused (stand m) w (number why) place (sym (told .is) ∙ (rw refused))
 
 -- .. and the whole, whatever follows
 pub stays : {c : Checked} {m : ℕ} {w : Result (List ℕ)} {why : Refusal} {place : ℕ} (i : ℕ) (f : List ℕ → Result (List ℕ))

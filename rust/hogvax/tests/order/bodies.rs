@@ -30,18 +30,11 @@ fn check_all(
     count
 }
 
-/// Const, Var 0 and 1, Add, IfZero, Let, Leaf, Node, Case 0 to 4, and Call 0
-/// on 0 to 4. In six records no more names can be bound: 1,150,048 programs.
+/// 1,150,048 programs.
 #[test]
 fn bodies_of_up_to_six_records() {
-    let alphabet = Alphabet {
-        numbers: 1,
-        cases: 4,
-        calls: 4,
-        calls_with_argument: None,
-        trees: true,
-    };
-    assert_eq!(check_all(&alphabet, 1..=6, &[false, true]), 1_150_048);
+    let count = check_all(&Alphabet::SIX_RECORDS, 1..=6, &[false, true]);
+    assert_eq!(count, 1_150_048);
 }
 
 /// With a second function, which takes a number: 124,595 programs.

@@ -21,6 +21,16 @@ pub struct Alphabet {
 const PARAMETERS: [u8; 2] = [0, 1];
 
 impl Alphabet {
+    /// Const, Var 0 and 1, Add, IfZero, Let, Leaf, Node, Case 0 to 4, and Call
+    /// 0 on 0 to 4: in six records no more names can be bound.
+    pub const SIX_RECORDS: Alphabet = Alphabet {
+        numbers: 1,
+        cases: 4,
+        calls: 4,
+        calls_with_argument: None,
+        trees: true,
+    };
+
     fn records(&self) -> Vec<Record> {
         let record = |kind, a, b| Record { kind, a, b, i: 0 };
         let kinds = [kind::CONST, kind::ADD, kind::IF_ZERO, kind::LET];

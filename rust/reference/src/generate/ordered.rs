@@ -112,15 +112,8 @@ fn signatures(random: &mut Random, functions: usize) -> Vec<Signature> {
 
 fn of_sizes(random: &mut Random, signatures: &[Signature], sizes: &[usize]) -> Program {
     let function = |(signature, &size): (&Signature, &usize)| {
-        let parameters = usize::from(signature.parameters);
-        let context = Context {
-            tree: signature.tree_valued,
-            numbers: parameters,
-            trees: 1,
-            words: parameters,
-        };
         let at = At {
-            context,
+            context: Context::of_body(signature.tree_valued, signature.parameters),
             behind: 0,
             size,
         };

@@ -19,6 +19,20 @@ pub struct Context {
     pub words: usize,
 }
 
+impl Context {
+    /// On entering a function's body: "Names count from 0 along the path:
+    /// parameters first". The number parameters are "the new frame's first
+    /// words"; the tree parameter is tree 0.
+    pub fn of_body(tree_valued: bool, parameters: u8) -> Context {
+        Context {
+            tree: tree_valued,
+            numbers: usize::from(parameters),
+            trees: 1,
+            words: usize::from(parameters),
+        }
+    }
+}
+
 /// The first fault of pass one, over all functions.
 pub fn check(program: &Program) -> Result<(), Found> {
     let functions = &program.functions;
@@ -34,17 +48,9 @@ pub fn check(program: &Program) -> Result<(), Found> {
     Ok(())
 }
 
-/// The expressions of a function in prefix order, with their contexts: "Names
-/// count from 0 along the path: parameters first". The number parameters are
-/// "the new frame's first words"; the tree parameter is tree 0.
+/// The expressions of a function in prefix order, with their contexts.
 pub fn contexts(function: &Function) -> Vec<(&Expr, Context)> {
-    let parameters = usize::from(function.parameters);
-    let first = Context {
-        tree: function.tree_valued,
-        numbers: parameters,
-        trees: 1,
-        words: parameters,
-    };
+    let first = Context::of_body(function.tree_valued, function.parameters);
     let mut entered = Vec::new();
     let mut pending = vec![(&function.body, first)];
     while let Some((expr, context)) = pending.pop() {

@@ -21,14 +21,7 @@ fn counts(alphabet: &Alphabet, longest: usize) -> (usize, usize) {
 
 #[test]
 fn every_body_of_up_to_five_records() {
-    let alphabet = Alphabet {
-        numbers: 1,
-        cases: 4,
-        calls: 4,
-        calls_with_argument: None,
-        trees: true,
-    };
-    assert_eq!(counts(&alphabet, 5), (146_512, 70));
+    assert_eq!(counts(&Alphabet::SIX_RECORDS, 5), (146_512, 70));
 }
 
 #[test]

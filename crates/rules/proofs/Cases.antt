@@ -1,9 +1,9 @@
 -- Closed cases of pass one and pass two, proved by computation. Each row of a table is a program and what becomes of it.
 use Prim.Native.Nat.{ℕ, zero, suc}
-use mathlib.Core.List.{List, [], _∷_, map}
+use mathlib.Core.List.{List, [], _∷_, _++_, map}
 use mathlib.Core.Path.{_≡_, refl}
-use Rattle.formats.specs.Results.{done, refusal}
 use lib.Dec.{lit<, lit≤}
+use Rattle.formats.specs.Results.{Result, done, refusal}
 use Rattle.formats.specs.Records.{nth}
 use Rattle.formats.specs.Programs.{Expr, const, var, add, ifZero, letIn, leafOf, nodeOf, caseOf, call, noArgs, arg, prefix, prefixes, size, numberValued, treeValued, Signature, signatureOf, Function, Program, signatures}
 use Rattle.formats.specs.Programs.{Lawful, arityOf, countArgs, mostParameters, total}
@@ -49,106 +49,111 @@ cases zero a = const 1
 cases (suc k) zero = caseOf zero (const 1) (cases k 1)
 cases (suc k) (suc a) = caseOf (suc a) (const 1) (cases k (suc (suc (suc a))))
 
--- ---- document 01's worked programs and traps. A single function's first node is record 2, two functions' record 3.
-
-worked : map order (
-    -- Grow
-    programOf (treed (caseOf 0 (leafOf (add (var 0) (const 1))) (nodeOf (on 0 1) (on 0 2))) ∷ [])
-    -- its parts swapped: the first Call is not on the head
-    ∷ programOf (treed (caseOf 0 (leafOf (var 0)) (nodeOf (on 0 2) (on 0 1))) ∷ [])
-    -- a branch that leaves a tree, where the other has none to leave
-    ∷ programOf (numbered (caseOf 0 (const 1) (on 0 1)) ∷ [])
-    -- Call 0 on 0
-    ∷ programOf (numbered (on 0 0) ∷ [])
-    -- Sum; document 000's Figure 5, right part first
-    ∷ programOf (numbered (caseOf 0 (var 0) (add (on 0 1) (on 0 2))) ∷ [])
-    ∷ programOf (numbered (caseOf 0 (var 0) (add (on 0 2) (on 0 1))) ∷ [])
-    -- a Call's tree is taken after its arguments: g on 1 as argument, then f on 2
-    ∷ programOf (numbered (caseOf 0 (var 0) (with-one 1 2 (on 0 1))) ∷ taking (with-one 1 0 (const 1)) ∷ [])
-    ∷ programOf (numbered (caseOf 0 (var 0) (with-one 1 1 (on 0 2))) ∷ taking (with-one 1 0 (const 1)) ∷ [])
-    -- a fault in the second branch is told before unequal lists
-    ∷ programOf (numbered (caseOf 0 (const 1) (add (on 0 1) (on 0 1))) ∷ [])
-    ∷ [])
-    ≡ done tt ∷ refusal 11 6 ∷ refusal 11 2 ∷ done tt ∷ done tt ∷ refusal 11 5 ∷ done tt ∷ refusal 11 6 ∷ refusal 11 6 ∷ []
-unfolding order passOne passOver atEntry roomy wordsTested bareNumber typed named enteredAll entered enteredArgs inside startOf passTwo walkAll noneLeft walk walkArgs joined sameNames takeHead resultType isInt isTree fits size prefix prefixes nth signatureOf numbered treed taking programOf on with-one
-worked = refl
-
--- ---- pass two, condition by condition
-
-pass-two : map order (
-    -- both parts of IfZero begin with what its test left
-    programOf (numbered (caseOf 0 (const 1) (ifZero (on 0 1) (on 0 2) (on 0 2))) ∷ [])
-    -- unequal lists at IfZero, whichever part leaves the tree
-    ∷ programOf (numbered (ifZero (const 1) (on 0 0) (const 1)) ∷ [])
-    ∷ programOf (numbered (ifZero (const 1) (const 1) (on 0 0)) ∷ [])
-    -- Let's body goes on with what its number left
-    ∷ programOf (numbered (caseOf 0 (const 1) (letIn (on 0 1) (on 0 2))) ∷ [])
-    -- a Case not on the head; with none pending
-    ∷ programOf (numbered (caseOf 0 (const 1) (caseOf 2 (const 1) (const 1))) ∷ [])
-    ∷ programOf (numbered (add (on 0 0) (caseOf 0 (const 1) (const 1))) ∷ [])
-    -- a tree left, in the second function
-    ∷ programOf (numbered (on 0 0) ∷ numbered (const 1) ∷ [])
-    -- fifteen Cases deep, 15 pending at the last, whose parts leave unequal lists; sixteen deep, 16 pending
-    ∷ programOf (numbered (cases 15 0) ∷ [])
-    ∷ programOf (numbered (cases 16 0) ∷ [])
-    ∷ [])
-    ≡ done tt ∷ refusal 11 2 ∷ refusal 11 2 ∷ done tt ∷ refusal 11 4 ∷ refusal 11 4 ∷ refusal 11 4 ∷ refusal 11 30 ∷ refusal 12 32 ∷ []
-unfolding order passOne passOver atEntry roomy wordsTested bareNumber typed named enteredAll entered enteredArgs inside startOf passTwo walkAll noneLeft walk walkArgs joined sameNames takeHead resultType isInt isTree fits size prefix prefixes nth signatureOf numbered programOf on cases
-pass-two = refl
-
--- ---- the limit of 16 pending is no matter of Figure 6
-
 -- Cases one inside the other, each on the left tree of the one around it, whose right tree waits.
 left-cases : ℕ → ℕ → ℕ → Expr
 left-cases zero n a = on 0 a
 left-cases (suc k) n a = caseOf a (const 1) (add (left-cases k (suc (suc n)) n) (on 0 (suc n)))
 
+-- A program's functions, and what the order checker says of it.
+record Row : Type 0 where
+  functions : List Function
+  verdict : Result (Unit {0})
+
+says : Result (Unit {0}) → List Function → Row
+says verdict functions = record { functions = functions; verdict = verdict }
+
+-- ---- document 01's worked programs and traps. A single function's first node is record 2, two functions' record 3.
+
+worked : List Row
+worked =
+    -- Grow
+    says (done tt) (treed (caseOf 0 (leafOf (add (var 0) (const 1))) (nodeOf (on 0 1) (on 0 2))) ∷ [])
+    -- its parts swapped: the first Call is not on the head
+    ∷ says (refusal 11 6) (treed (caseOf 0 (leafOf (var 0)) (nodeOf (on 0 2) (on 0 1))) ∷ [])
+    -- a branch that leaves a tree, where the other has none to leave
+    ∷ says (refusal 11 2) (numbered (caseOf 0 (const 1) (on 0 1)) ∷ [])
+    -- Call 0 on 0
+    ∷ says (done tt) (numbered (on 0 0) ∷ [])
+    -- Sum; document 000's Figure 5, right part first
+    ∷ says (done tt) (numbered (caseOf 0 (var 0) (add (on 0 1) (on 0 2))) ∷ [])
+    ∷ says (refusal 11 5) (numbered (caseOf 0 (var 0) (add (on 0 2) (on 0 1))) ∷ [])
+    -- a Call's tree is taken after its arguments: g on 1 as argument, then f on 2
+    ∷ says (done tt) (numbered (caseOf 0 (var 0) (with-one 1 2 (on 0 1))) ∷ taking (with-one 1 0 (const 1)) ∷ [])
+    ∷ says (refusal 11 6) (numbered (caseOf 0 (var 0) (with-one 1 1 (on 0 2))) ∷ taking (with-one 1 0 (const 1)) ∷ [])
+    -- a fault in the second branch is told before unequal lists
+    ∷ says (refusal 11 6) (numbered (caseOf 0 (const 1) (add (on 0 1) (on 0 1))) ∷ [])
+    ∷ []
+
+-- ---- pass two, condition by condition
+
+pass-two : List Row
+pass-two =
+    -- both parts of IfZero begin with what its test left
+    says (done tt) (numbered (caseOf 0 (const 1) (ifZero (on 0 1) (on 0 2) (on 0 2))) ∷ [])
+    -- unequal lists at IfZero, whichever part leaves the tree
+    ∷ says (refusal 11 2) (numbered (ifZero (const 1) (on 0 0) (const 1)) ∷ [])
+    ∷ says (refusal 11 2) (numbered (ifZero (const 1) (const 1) (on 0 0)) ∷ [])
+    -- Let's body goes on with what its number left
+    ∷ says (done tt) (numbered (caseOf 0 (const 1) (letIn (on 0 1) (on 0 2))) ∷ [])
+    -- a Case not on the head; with none pending
+    ∷ says (refusal 11 4) (numbered (caseOf 0 (const 1) (caseOf 2 (const 1) (const 1))) ∷ [])
+    ∷ says (refusal 11 4) (numbered (add (on 0 0) (caseOf 0 (const 1) (const 1))) ∷ [])
+    -- a tree left, in the second function
+    ∷ says (refusal 11 4) (numbered (on 0 0) ∷ numbered (const 1) ∷ [])
+    -- fifteen Cases deep, 15 pending at the last, whose parts leave unequal lists; sixteen deep, 16 pending
+    ∷ says (refusal 11 30) (numbered (cases 15 0) ∷ [])
+    ∷ says (refusal 12 32) (numbered (cases 16 0) ∷ [])
+    -- fifteen and sixteen deep, nothing else being wrong
+    ∷ says (done tt) (numbered (left-cases 15 1 0) ∷ [])
+    ∷ says (refusal 12 47) (numbered (left-cases 16 1 0) ∷ [])
+    ∷ []
+
+-- ---- pass one, condition by condition
+
+pass-one : List Row
+pass-one =
+    -- names: a number name, a tree name, and 9 before 8
+    says (refusal 9 2) (numbered (var 0) ∷ [])
+    ∷ says (refusal 9 2) (numbered (on 0 1) ∷ [])
+    ∷ says (refusal 9 2) (treed (var 0) ∷ [])
+    -- Let's first part does not see its name; a leaf's label is a number name, a node's trees are tree names
+    ∷ says (refusal 9 3) (numbered (letIn (var 0) (on 0 0)) ∷ [])
+    ∷ says (refusal 9 3) (numbered (caseOf 0 (on 0 1) (on 0 1)) ∷ [])
+    -- types: a number, a leaf, a Call
+    ∷ says (refusal 8 2) (treed (const 1) ∷ [])
+    ∷ says (refusal 8 2) (numbered (leafOf (const 1)) ∷ [])
+    ∷ says (refusal 8 3) (treed (on 1 0) ∷ numbered (on 1 0) ∷ [])
+    -- words: sixteen Lets around a Call that leaves none; a Const, a Case, a number-valued Call on the sixteenth
+    ∷ says (done tt) (treed (lets 16 (on 0 0)) ∷ [])
+    ∷ says (done tt) (numbered (lets 15 (on 0 0)) ∷ [])
+    ∷ says (refusal 10 34) (numbered (lets 16 (const 1)) ∷ [])
+    ∷ says (refusal 10 34) (treed (lets 16 (caseOf 0 (on 0 0) (on 0 0))) ∷ [])
+    ∷ says (refusal 10 34) (numbered (lets 16 (on 0 0)) ∷ [])
+    -- pass one of the last function comes before pass two of the first
+    ∷ says (refusal 9 4) (numbered (const 1) ∷ numbered (var 0) ∷ [])
+    ∷ []
+
+-- ---- what is said is what is found
+
+verdicts : map (λ row. order (programOf (row .functions))) (worked ++ (pass-two ++ pass-one)) ≡ map (λ row. row .verdict) (worked ++ (pass-two ++ pass-one))
+unfolding order passOne passOver atEntry roomy wordsTested bareNumber typed named enteredAll entered enteredArgs inside startOf passTwo walkAll noneLeft walk walkArgs joined sameNames takeHead resultType isInt isTree fits size prefix prefixes nth signatureOf numbered treed taking programOf on with-one lets cases left-cases says worked pass-two pass-one
+verdicts = refl
+
+-- ---- the limit of 16 pending is no matter of Figure 6
+
 one-number : List Signature
 one-number = record { sort = numberValued; parameters = 0; count = 1 } ∷ []
 
--- however deep, each is typed with its own tree alone ..
 call-typed : (g n a : ℕ) → Types one-number g n (a ∷ []) (on 0 a) Int
 unfolding on one-number nth functionType arrows resultType
 call-typed g n a = Types.T-App refl (to-tree TypesName.T-Var1)
 
+-- however deep, each is typed with its own tree alone, though `pass-two` has the sixteenth refused
 left-typed : (k g n a : ℕ) → Types one-number g n (a ∷ []) (left-cases k n a) Int
 unfolding left-cases
 left-typed zero g n a = call-typed g n a
 left-typed (suc k) g n a =
     Types.T-Case {Δ₂ = []} TypesName.T-Var1 Types.T-Int (Types.T-Plus {Δ₁ = n ∷ []} (left-typed k g (suc (suc n)) n) (call-typed g (suc (suc n)) (suc n)))
-
--- .. and the sixteenth is refused
-left-refused : map order (programOf (numbered (left-cases 15 1 0) ∷ []) ∷ programOf (numbered (left-cases 16 1 0) ∷ []) ∷ []) ≡ done tt ∷ refusal 12 47 ∷ []
-unfolding order passOne passOver atEntry roomy wordsTested bareNumber typed named enteredAll entered enteredArgs inside startOf passTwo walkAll noneLeft walk walkArgs joined sameNames takeHead resultType isInt isTree fits size prefix prefixes nth signatureOf numbered programOf on left-cases
-left-refused = refl
-
--- ---- pass one, condition by condition
-
-pass-one : map order (
-    -- names: a number name, a tree name, and 9 before 8
-    programOf (numbered (var 0) ∷ [])
-    ∷ programOf (numbered (on 0 1) ∷ [])
-    ∷ programOf (treed (var 0) ∷ [])
-    -- Let's first part does not see its name; a leaf's label is a number name, a node's trees are tree names
-    ∷ programOf (numbered (letIn (var 0) (on 0 0)) ∷ [])
-    ∷ programOf (numbered (caseOf 0 (on 0 1) (on 0 1)) ∷ [])
-    -- types: a number, a leaf, a Call
-    ∷ programOf (treed (const 1) ∷ [])
-    ∷ programOf (numbered (leafOf (const 1)) ∷ [])
-    ∷ programOf (treed (on 1 0) ∷ numbered (on 1 0) ∷ [])
-    -- words: sixteen Lets around a Call that leaves none; a Const, a Case, a number-valued Call on the sixteenth
-    ∷ programOf (treed (lets 16 (on 0 0)) ∷ [])
-    ∷ programOf (numbered (lets 15 (on 0 0)) ∷ [])
-    ∷ programOf (numbered (lets 16 (const 1)) ∷ [])
-    ∷ programOf (treed (lets 16 (caseOf 0 (on 0 0) (on 0 0))) ∷ [])
-    ∷ programOf (numbered (lets 16 (on 0 0)) ∷ [])
-    -- pass one of the last function comes before pass two of the first
-    ∷ programOf (numbered (const 1) ∷ numbered (var 0) ∷ [])
-    ∷ [])
-    ≡ refusal 9 2 ∷ refusal 9 2 ∷ refusal 9 2 ∷ refusal 9 3 ∷ refusal 9 3 ∷ refusal 8 2 ∷ refusal 8 2 ∷ refusal 8 3 ∷ done tt ∷ done tt ∷ refusal 10 34 ∷ refusal 10 34
-    ∷ refusal 10 34 ∷ refusal 9 4 ∷ []
-unfolding order passOne passOver atEntry roomy wordsTested bareNumber typed named enteredAll entered enteredArgs inside startOf passTwo walkAll noneLeft walk walkArgs joined sameNames takeHead resultType isInt isTree fits size prefix prefixes nth signatureOf numbered treed programOf on lets
-pass-one = refl
 
 -- ---- witnesses
 

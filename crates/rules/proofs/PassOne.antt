@@ -15,14 +15,14 @@ use Rattle.formats.proofs.Results.{done-not, then-done, then-refused, then-inv,
 use Rattle.rules.specs.Types.{Ty, Int, Tree⁻, Tree⁺, arrow, resultType, isInt, isTree, fits}
 use Rattle.rules.specs.Scopes.{Scope, scope, inside, Entry, entry, entered, enteredArgs, enteredAll}
 use Rattle.rules.specs.PassOne.{named, typed, roomy, atEntry, passOver, passOne}
-use Rattle.rules.specs.PassOne.{Fails, name-not-bound, wrong-type, too-many-words, Holds, all-three, FirstFails, here, later}
+use Rattle.rules.specs.PassOne.{Fails, name-not-bound, wrong-type, too-many-words, AllHold, all-three, FirstFails, here, later}
 use Rattle.rules.specs.OrderChecker.{firstNode}
 
 -- ---- where a condition first fails
 
 module _ (gs : List Signature) where
   -- what a record's tests say
-  holds-says : {x : Entry} → Holds gs x → atEntry gs x ≡ done tt
+  holds-says : {x : Entry} → AllHold gs x → atEntry gs x ≡ done tt
   unfolding atEntry
   holds-says (all-three e f h) = rw (e, f, h)
 
@@ -34,7 +34,7 @@ module _ (gs : List Signature) where
 
   -- all three hold at a record, or one fails first
   data Told (x : Entry) : Type 0 where
-    fine : Holds gs x → Told x
+    fine : AllHold gs x → Told x
     fault : {number r : ℕ} → Fails gs x number r → Told x
 
   told : (x : Entry) → Told x

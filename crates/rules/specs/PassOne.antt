@@ -97,13 +97,13 @@ pub data Fails (gs : List Signature) : Entry → ℕ → ℕ → Type 0 where
       → Fails gs (entry sc r kind) tooManyWords r
 
 -- All three hold.
-pub data Holds (gs : List Signature) : Entry → Type 0 where
-  all-three : {sc : Scope} {r : ℕ} {kind : Kind} → named sc kind ≡ true → typed gs sc kind ≡ true → roomy gs sc kind ≡ true → Holds gs (entry sc r kind)
+pub data AllHold (gs : List Signature) : Entry → Type 0 where
+  all-three : {sc : Scope} {r : ℕ} {kind : Kind} → named sc kind ≡ true → typed gs sc kind ≡ true → roomy gs sc kind ≡ true → AllHold gs (entry sc r kind)
 
 -- The first record, in this order, at which a condition fails.
 pub data FirstFails (gs : List Signature) : List Entry → ℕ → ℕ → Type 0 where
   here : {x : Entry} {xs : List Entry} {number r : ℕ} → Fails gs x number r → FirstFails gs (x ∷ xs) number r
-  later : {x : Entry} {xs : List Entry} {number r : ℕ} → Holds gs x → FirstFails gs xs number r → FirstFails gs (x ∷ xs) number r
+  later : {x : Entry} {xs : List Entry} {number r : ℕ} → AllHold gs x → FirstFails gs xs number r → FirstFails gs (x ∷ xs) number r
 
 -- ---- the limit of 16 words
 

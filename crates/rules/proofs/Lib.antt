@@ -6,6 +6,7 @@ pub mod Words
 pub mod Typed
 pub mod PassTwo
 pub mod FirstFault
+pub mod Places
 pub mod Printed
 pub mod OrderChecker
 pub mod Parts

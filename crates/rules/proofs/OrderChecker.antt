@@ -25,6 +25,7 @@ use Rattle.rules.proofs.Words.{few-words}
 use Rattle.rules.proofs.Typed.{passes-one}
 use Rattle.rules.proofs.PassTwo.{walks, second, no-typing, only-full}
 use Rattle.rules.proofs.FirstFault.{pass-two, only-one}
+use Rattle.rules.proofs.Places.{untyped-there}
 use Rattle.rules.proofs.Printed.{printed, fixed}
 
 -- ---- one function
@@ -149,6 +150,7 @@ order-checker = record {
   pass-two = pass-two;
   only-one = only-one;
   no-typing = no-typing;
+  untyped-there = untyped-there;
   only-full = only-full;
   printed = printed;
   fixed = fixed;

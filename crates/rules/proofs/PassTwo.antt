@@ -36,7 +36,7 @@ pub data Said {A : Type 0} (Good : A → Type 0) (Bad : ℕ → ℕ → Type 0) 
   good : {x : A} → Good x → Said Good Bad (done x)
   bad : {number place : ℕ} → Bad number place → Said Good Bad (refusal number place)
 
-said-done : {A : Type 0} {Good : A → Type 0} {Bad : ℕ → ℕ → Type 0} {r : Result A} {x : A} → Said Good Bad r → r ≡ done x → Good x
+pub said-done : {A : Type 0} {Good : A → Type 0} {Bad : ℕ → ℕ → Type 0} {r : Result A} {x : A} → Said Good Bad r → r ≡ done x → Good x
 said-done {Good = Good} (good h) e = subst Good (done-injective e) h
 said-done (bad h) e = done-not e refl
 
@@ -79,7 +79,7 @@ pub said-worse :
 said-worse worse h = said-map h (λ x g. g) worse
 
 -- what is said of a check
-said-check :
+pub said-check :
     {A : Type 0} {G : A → Type 0} {Bad : ℕ → ℕ → Type 0} (test : Bool) (number place : ℕ) (x : A)
     → (test ≡ true → G x)
     → (test ≡ false → Bad number place)
@@ -215,7 +215,7 @@ walked-joined r ls ms own first second = said-joined r first (said-worse (full-l
 mutual
   unfolding walk lines
 
-  checked-walk : {gs : List Signature} {g n r : ℕ} {Δ Δ′ : List ℕ} {e : Expr} {τ : Ty} (d : Checks gs g n r Δ e τ Δ′) → Walked (lines d) Δ′ (walk n r Δ e)
+  pub checked-walk : {gs : List Signature} {g n r : ℕ} {Δ Δ′ : List ℕ} {e : Expr} {τ : Ty} (d : Checks gs g n r Δ e τ Δ′) → Walked (lines d) Δ′ (walk n r Δ e)
   checked-walk (T-Var2 bound) = good refl
   checked-walk T-Int = good refl
   checked-walk (T-App {r = r} {a = a} known d) =

@@ -1,7 +1,7 @@
 -- What holds of the order checker: the statements. They are proved in proofs/OrderChecker.antt.
 --
 -- Demand 2: "within the limits, the order checker passes precisely what document 000's typing rules admit, with document 01's for Let and IfZero".
-use Prim.Native.Nat.{ℕ, suc, _+_, _≤_}
+use Prim.Native.Nat.{ℕ, suc, _+_, _≤_, _<_}
 use mathlib.Core.List.{List, [], _∷_, _++_, map}
 use mathlib.Core.Logic.{_↔_}
 use mathlib.Core.Path.{_≡_}
@@ -73,6 +73,16 @@ Numbered r (entry sc k kind ∷ xs) = (k ≡ r) × Numbered (suc r) xs
 unfoldable pub kindIn : Entry → Kind
 kindIn (entry sc r kind) = kind
 
+-- Record r is one of a function's, which has no derivation; functions from this one on, its first node at record k.
+pub data Untyped (gs : List Signature) (r : ℕ) : ℕ → List Function → Type 0 where
+  this-one :
+      {k : ℕ} {f : Function} {fs : List Function}
+      → k ≤ r
+      → r < k + size (f .body)
+      → (TypedFunction gs f → ⊥)
+      → Untyped gs r k (f ∷ fs)
+  behind-it : {k : ℕ} {f : Function} {fs : List Function} → Untyped gs r (k + size (f .body)) fs → Untyped gs r k (f ∷ fs)
+
 -- ---- the theorems
 
 pub record OrderChecker : Type 0 where
@@ -123,6 +133,11 @@ pub record OrderChecker : Type 0 where
       → passTwo program ≡ refusal outOfOrder r
       → Every (TypedFunction (signatures program)) (program .functions)
       → ⊥
+  -- It is that function whose record is told.
+  pub untyped-there :
+      (program : Program) (r : ℕ)
+      → passTwo program ≡ refusal outOfOrder r
+      → Untyped (signatures program) r (firstNode program) (program .functions)
   -- Where every body has one, it refuses nothing but 12: the limit of 16 pending is all that the checker asks besides.
   pub only-full :
       (program : Program) (number r : ℕ)

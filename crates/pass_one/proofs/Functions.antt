@@ -1,16 +1,14 @@
 -- Pass one over the functions one after the other: a law for each way out of `start`, `pass` and `check_pass_one`.
-use Prim.Native.Nat.{ℕ, suc, _+_, _≤_, _<_}
-use mathlib.Core.List.{List, [], _∷_, map}
+use Prim.Native.Nat.{ℕ, _+_, _≤_, _<_}
+use mathlib.Core.List.{List}
 use mathlib.Core.Path.{_≡_, refl, sym, ap, ap₂, subst, _∙_}
-use native.Mathlib.Numerals.{add-one}
 use native.Mathlib.Omega.{arith}
 use lib.Dec.{eqb}
-use lib.ListN.{length, getD}
+use lib.ListN.{getD}
 use Rattle.formats.specs.Numbers.{Bytes, numberAt}
 use Rattle.formats.specs.Results.{Result, done, refusal, andThen, onValue, verdict}
-use Rattle.formats.specs.Records.{recordAt}
-use Rattle.formats.specs.Programs.{size, Sort, numberValued, treeValued, sortNumber, Signature, total, Function, signatureOf, Program, signatures}
-use Rattle.formats.specs.Rows.{headerIn, sortIn, arityIn, readProgram}
+use Rattle.formats.specs.Programs.{size, Sort, numberValued, treeValued, sortNumber, Function, signatureOf, Program, signatures}
+use Rattle.formats.specs.Rows.{sortIn, arityIn, readProgram}
 use Rattle.formats.proofs.Results.{then-done, then-refused, value-inv, passed-is, refused-is, value-refused}
 use Rattle.formats.proofs.Rows.{function-read}
 use Rattle.refusal.specs.Number.{number}
@@ -22,8 +20,8 @@ use Rattle.refusal.specs.declared.Verdict.the-variants.{Refused as Refuses}
 use Rattle.rules.specs.Types.{resultType}
 use Rattle.rules.specs.Scopes.{scope, startOf, entered, enteredAll}
 use Rattle.rules.specs.PassOne.{passOver, passOne, checkOne}
-use Rattle.rules.proofs.Parts.{Known, Bodies, no-more, one-more}
-use Rattle.rules.proofs.Walks.{program-held, pass-append}
+use Rattle.rules.proofs.PassOne.{pass-join}
+use Rattle.rules.proofs.Functions.{Left, all-left, Turn, turn, none-left}
 use Rattle.pass_one.specs.Walk.{expected, told, Entered, Starts, PassSays}
 use Rattle.pass_one.specs.declared.Scope.{Scope}
 use Rattle.pass_one.specs.declared.Walked.{Walked}
@@ -50,108 +48,69 @@ started s j m n em en small = record {
 
 -- ---- `pass`
 
-module _ (s : List ℕ) (functions end : ℕ) where
-  -- the functions from j on, whose bodies begin at record k, say what pass one says of the program
-  pub record Left (program : Program) (k j : ℕ) : Type 0 where
-    pub others : List Function
-    pub known : Known s (signatures program)
-    pub held : Bodies s (signatures program) j k others
-    pub many : j + length others ≡ functions
-    pub within : k + total (map signatureOf others) ≤ end
-    pub left : passOne program ≡ passOver (signatures program) (enteredAll k others)
+-- what pass one says of functions, the first of them at record k
+abbrev rowOne : Program → ℕ → List Function → Result (Unit {0})
+rowOne program k fs = passOver (signatures program) (enteredAll k fs)
 
-  -- so it is of every program that these records are, and the record come to is not behind the end
-  pub record Walking (k j : ℕ) : Type 0 where
-    pub upto : k ≤ end
-    pub few : end ≤ 100000
-    pub rest : (program : Program) → readProgram s ≡ done program → Left program k j
+-- the functions from j on, at record k, say what pass one says of every program that these records are
+pub record Walking (s : List ℕ) (functions end k j : ℕ) : Type 0 where
+  pub upto : k ≤ end
+  pub few : end ≤ 100000
+  pub rest : (program : Program) → readProgram s ≡ done program → Left s functions end passOne rowOne program k j
 
-  pub walk-all : (k j : ℕ) → functions ≤ j → Walking k j → PassSays s Passed
+pub walk-none : (s : List ℕ) (functions nodes : ℕ) → Bytes s → functions ≡ getD s 1 0 → nodes ≡ numberAt 2 s 2 → functions < 256 → nodes < 65536
+    → Walking s functions (1 + functions + nodes) (1 + functions) 0
+unfolding passOne
+walk-none s functions nodes bytes ef en small few = record {
+  upto = omega arith;
+  few = omega arith;
+  rest = all-left s functions _ passOne rowOne nodes bytes ef en refl (λ program. refl);
+}
+
+module _ (s : List ℕ) (functions end k j : ℕ) where
+  pub walk-all : functions ≤ j → Walking s functions end k j → PassSays s Passed
   unfolding enteredAll passOver
-  walk-all k j over w = record {
-    is = λ program e.
-        let l = w .rest program e in
-        sym (l .left ∙ ap (λ fs. passOver (signatures program) (enteredAll k fs)) (none (l .others) (omega (arith, l .many))));
-  }
-    where
-      none : (fs : List Function) → length fs ≡ 0 → fs ≡ []
-      none [] e = refl
-      none (f ∷ fs) e = absurd (omega arith)
+  walk-all over w = record { is = λ program e. sym (none-left s functions end passOne rowOne program k j over (w .rest program e)) }
 
-  -- the body of function j, and those behind it
-  record Turn (program : Program) (k j : ℕ) (walked : Walked) : Type 0 where
-    here : Function
-    over : Result (Unit {0})
-    is-told : told walked ≡ onValue (λ u. k + size (here .body)) over
-    passed : over ≡ done tt → Left program (k + size (here .body)) (j + 1)
-    refused : (why place : ℕ) → over ≡ refusal why place → passOne program ≡ refusal why place
+  module _ (c : Scope) (walked : Walked) (more : j < functions) (w : Walking s functions end k j) (starts : Starts s j c) (is : Entered s k end c walked) where
+    -- the body of function j, whose walk is told, and then those behind it
+    record Walk (program : Program) : Type 0 where
+      at-hand : Turn s functions end passOne rowOne program k j
+      over : Result (Unit {0})
+      is-told : told walked ≡ onValue (λ u. k + size (at-hand .here .body)) over
+      split : passOne program ≡ andThen over (λ u. rowOne program (k + size (at-hand .here .body)) (at-hand .others))
 
-  module _ (k j : ℕ) (c : Scope) (walked : Walked) (more : j < functions) (w : Walking k j) (starts : Starts s j c) (is : Entered s k end c walked) where
-    turn : (program : Program) → Left program k j → Turn program k j walked
-    unfolding enteredAll total signatureOf
-    turn program l = by-body (l .others) (l .held) (l .many) (l .within) (l .left)
-      where
-        gs : List Signature
-        gs = signatures program
+    walk : (program : Program) → readProgram s ≡ done program → Walk program
+    unfolding enteredAll
+    walk program e =
+        let t = turn s functions end passOne rowOne program k j more (w .rest program e) in
+        let f = t .here in
+        let gs = signatures program in
+        record {
+          at-hand = t;
+          over = passOver gs (entered (startOf f) k (f .body));
+          is-told =
+              is .is gs (f .body) (t .known) (t .holds) (t .fits)
+              ∙ ap (λ sc. onValue (λ u. k + size (f .body)) (passOver gs (entered sc k (f .body)))) (starts .is f (t .signed));
+          split = t .left ∙ pass-join gs _ _;
+        }
 
-        by-body : (fs : List Function) → Bodies s gs j k fs → j + length fs ≡ functions → k + total (map signatureOf fs) ≤ end
-            → passOne program ≡ passOver gs (enteredAll k fs) → Turn program k j walked
-        by-body fs no-more many within left = absurd (omega arith)
-        by-body fs (one-more {f = f} {fs = others} signed held behind) many within left =
-            let over = passOver gs (entered (startOf f) k (f .body)) in
-            let split : passOne program ≡ andThen over (λ u. passOver gs (enteredAll (k + size (f .body)) others)) = left ∙ pass-append gs _ _ in
-            record {
-              here = f;
-              over = over;
-              is-told =
-                  is .is gs (f .body) (l .known) held (omega arith)
-                  ∙ ap (λ sc. onValue (λ u. k + size (f .body)) (passOver gs (entered sc k (f .body)))) (starts .is f signed);
-              passed = λ e. record {
-                others = others;
-                known = l .known;
-                held = rw add-one behind;
-                many = omega arith;
-                within = omega arith;
-                left = split ∙ then-done _ e;
-              };
-              refused = λ why place e. split ∙ then-refused _ e;
-            }
-
-    pub walk-more : (next : ℕ) → walked ≡ To next → Walking next (j + 1)
+    pub walk-more : (next : ℕ) → walked ≡ To next → Walking s functions end next (j + 1)
     walk-more next case = record {
       upto = is .on next case .1;
       few = w .few;
       rest = λ program e.
-          let t = turn program (w .rest program e) in
-          let v = value-inv (λ u. k + size (t .here .body)) (t .over) next (sym (t .is-told) ∙ ap told case) in
-          subst (λ m. Left program m (j + 1)) (v .second) (t .passed (v .first));
+          let t = walk program e in
+          let v = value-inv (λ u. k + size (t .at-hand .here .body)) (t .over) next (sym (t .is-told) ∙ ap told case) in
+          subst (λ m. Left s functions end passOne rowOne program m (j + 1)) (v .second) (t .at-hand .later (t .split ∙ then-done _ (v .first)));
     }
 
     pub walk-refused : (why : Refusal) (place : ℕ) → walked ≡ Refused why place → PassSays s (Refuses why place)
     walk-refused why place case = record {
       is = λ program e.
-          let t = turn program (w .rest program e) in
-          sym (t .refused (number why) place (value-refused (λ u. k + size (t .here .body)) (t .over) (number why) place (sym (t .is-told) ∙ ap told case)));
+          let t = walk program e in
+          sym (t .split ∙ then-refused _ (value-refused (λ u. k + size (t .at-hand .here .body)) (t .over) (number why) place (sym (t .is-told) ∙ ap told case)));
     }
-
-pub walk-none : (s : List ℕ) (functions nodes : ℕ) → Bytes s → functions ≡ getD s 1 0 → nodes ≡ numberAt 2 s 2 → functions < 256 → nodes < 65536
-    → Walking s functions (1 + functions + nodes) (1 + functions) 0
-unfolding headerIn recordAt passOne
-walk-none s functions nodes bytes ef en small few = record {
-  upto = omega arith;
-  few = omega arith;
-  rest = λ program e.
-      let h = program-held s program bytes e in
-      let place : suc (length (program .functions)) ≡ 1 + functions = omega (arith, h .functions) in
-      record {
-        others = program .functions;
-        known = h .known;
-        held = rw (← place) (h .held);
-        many = omega (arith, h .functions);
-        within = omega (arith, h .nodes);
-        left = ap (λ k. passOver (signatures program) (enteredAll k (program .functions))) place;
-      };
-}
 
 pub ruleset walking = (walk-none, walk-more, walk-refused, walk-all)
 

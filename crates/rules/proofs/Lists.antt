@@ -7,6 +7,7 @@ use Rattle.formats.specs.Records.{Kind, Const, Var, Add, IfZero, Let, Leaf, Nod
 use Rattle.formats.specs.Programs.{Expr, const, var, add, ifZero, letIn, leafOf, nodeOf, caseOf, call, Args, noArgs, arg, size, Placed, behind, argsAt, partsAt, Signature}
 use Rattle.rules.specs.PassTwo.{takeHead, walk, walkArgs}
 use Rattle.rules.proofs.Parts.{headOf, Holds, Row, end, next, walkParts}
+use Rattle.rules.proofs.Walks.{then-nothing}
 
 -- what follows may be said in another way
 then-same : {A B : Type 0} (r : Result A) (f g : A → Result B) → ((x : A) → f x ≡ g x) → andThen r f ≡ andThen r g
@@ -16,11 +17,7 @@ then-same (refusal number place) f g h = refl
 -- the last part, and a part in front of others
 walk-last : (n k : ℕ) (Δ : List ℕ) (p : Expr) → walk n k Δ p ≡ walkParts n Δ (behind k p ∷ [])
 unfolding walkParts
-walk-last n k Δ p = nothing-more (walk n k Δ p)
-  where
-    nothing-more : (r : Result (List ℕ)) → r ≡ andThen r (λ Δ′. done Δ′)
-    nothing-more (done x) = refl
-    nothing-more (refusal number place) = refl
+walk-last n k Δ p = then-nothing (walk n k Δ p)
 
 walk-two : (n k : ℕ) (Δ : List ℕ) (p q : Expr)
     → andThen (walk n k Δ p) (λ Δ′. walk n (k + size p) Δ′ q) ≡ walkParts n Δ (behind k p ∷ behind (k + size p) q ∷ [])

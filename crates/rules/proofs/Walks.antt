@@ -22,6 +22,7 @@ use Rattle.rules.specs.Scopes.{Scope, inside, entry, Entry, entered, ent
 use Rattle.rules.specs.PassOne.{atEntry, passOver}
 use Rattle.rules.proofs.Parts.{Known, headOf, Holds, Row, end, next, passParts, Bodies, no-more}
 use Rattle.rules.proofs.Parts.{one-more as one-body}
+use Rattle.rules.proofs.PassOne.{pass-join}
 
 -- ---- an expression's own record
 
@@ -178,21 +179,11 @@ parts-counted s gs k e known h = by-kind e (head-in-range s gs k e h) (h .applie
 -- ---- pass one over an expression
 
 -- nothing more follows
-then-nothing : (r : Result (Unit {0})) → r ≡ andThen r (λ u. done tt)
+pub then-nothing : {A : Type 0} (r : Result A) → r ≡ andThen r (λ x. done x)
 then-nothing (done x) = refl
 then-nothing (refusal number place) = refl
 
 module _ (gs : List Signature) where
-  -- what is entered first is passed over first
-  pub pass-append : (xs ys : List Entry) → passOver gs (xs ++ ys) ≡ andThen (passOver gs xs) (λ u. passOver gs ys)
-  unfolding passOver
-  pass-append [] ys = refl
-  pass-append (x ∷ xs) ys = ap (λ r. andThen (atEntry gs x) (λ u. r)) (pass-append xs ys) ∙ after (atEntry gs x)
-    where
-      after : (r : Result (Unit {0})) → andThen r (λ u. andThen (passOver gs xs) (λ v. passOver gs ys)) ≡ andThen (andThen r (λ u. passOver gs xs)) (λ v. passOver gs ys)
-      after (done u) = refl
-      after (refusal number place) = refl
-
   module _ (kind : Kind) where
     -- the last part, and a part in front of others
     pass-last : (i : ℕ) (sc : Scope) (r : ℕ) (p : Expr) → passOver gs (entered (inside kind i sc) r p) ≡ passParts gs kind i sc (behind r p ∷ [])
@@ -204,7 +195,7 @@ module _ (gs : List Signature) where
     unfolding passParts
     pass-more i sc r p xs ps e =
         let first = entered (inside kind i sc) r p in
-        pass-append first xs ∙ ap (λ q. andThen (passOver gs first) (λ u. q)) e
+        pass-join gs first xs ∙ ap (λ q. andThen (passOver gs first) (λ u. q)) e
 
     pass-two : (i : ℕ) (sc : Scope) (r : ℕ) (p q : Expr)
         → passOver gs (entered (inside kind i sc) r p ++ entered (inside kind (suc i) sc) (r + size p) q) ≡ passParts gs kind i sc (behind r p ∷ behind (r + size p) q ∷ [])

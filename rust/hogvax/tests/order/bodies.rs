@@ -41,11 +41,8 @@ fn bodies_of_up_to_six_records() {
 #[test]
 fn bodies_of_up_to_six_records_with_arguments() {
     let alphabet = Alphabet {
-        numbers: 0,
-        cases: 1,
-        calls: 2,
-        calls_with_argument: Some(2),
         trees: false,
+        ..Alphabet::WITH_ARGUMENTS
     };
     assert_eq!(check_all(&alphabet, 1..=6, &[false]), 124_595);
 }
@@ -53,12 +50,6 @@ fn bodies_of_up_to_six_records_with_arguments() {
 /// The same with trees: 47,410 programs.
 #[test]
 fn bodies_of_up_to_five_records_with_arguments() {
-    let alphabet = Alphabet {
-        numbers: 0,
-        cases: 1,
-        calls: 2,
-        calls_with_argument: Some(2),
-        trees: true,
-    };
-    assert_eq!(check_all(&alphabet, 1..=5, &[false, true]), 47_410);
+    let count = check_all(&Alphabet::WITH_ARGUMENTS, 1..=5, &[false, true]);
+    assert_eq!(count, 47_410);
 }

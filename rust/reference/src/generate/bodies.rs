@@ -31,6 +31,15 @@ impl Alphabet {
         trees: true,
     };
 
+    /// With a second function, which takes a number.
+    pub const WITH_ARGUMENTS: Alphabet = Alphabet {
+        numbers: 0,
+        cases: 1,
+        calls: 2,
+        calls_with_argument: Some(2),
+        trees: true,
+    };
+
     fn records(&self) -> Vec<Record> {
         let record = |kind, a, b| Record { kind, a, b, i: 0 };
         let kinds = [kind::CONST, kind::ADD, kind::IF_ZERO, kind::LET];

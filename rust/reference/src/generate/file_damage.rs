@@ -85,14 +85,24 @@ impl FileDamage {
     }
 
     fn damage(self, random: &mut Random, file: &mut Vec<u8>) -> Option<usize> {
+        if let Some(place) = self.leave_unmended(random, file) {
+            return Some(place);
+        }
+        let place = match self.change_field(random, file) {
+            Some(place) => place,
+            None => self.change_blocks(random, file)?,
+        };
+        mend_checks(file);
+        Some(place)
+    }
+
+    /// Damage to the length or the check itself.
+    fn leave_unmended(self, random: &mut Random, file: &mut Vec<u8>) -> Option<usize> {
         let blocks = file.len() / BLOCK_BYTES;
-        let last = blocks - 1;
-        let used = word(file, last, RECORDS_USED);
-        let block = random.below(blocks);
         let place = match self {
             FileDamage::Empty => {
                 file.clear();
-                return Some(0);
+                0
             }
             FileDamage::PartBlock => {
                 let bytes = 1 + random.below(BLOCK_BYTES - 1);
@@ -100,19 +110,32 @@ impl FileDamage {
                 let kept = random.below(blocks + 1);
                 file.extend_from_within(..BLOCK_BYTES);
                 file.truncate(kept * BLOCK_BYTES + bytes);
-                return Some(0);
+                0
             }
             FileDamage::ManyBlocks => {
                 let blocks = BLOCK_LIMIT + 1 + random.below(2);
                 let records = file[..RECORD_BYTES].repeat(BLOCK_RECORDS * blocks);
                 *file = lay_out(&records);
-                return Some(0);
+                0
             }
             FileDamage::Check => {
+                let block = random.below(blocks);
                 let byte = block * BLOCK_BYTES + random.below(BLOCK_BYTES);
                 change(random, file, byte);
-                return Some(block);
+                block
             }
+            _ => return None,
+        };
+        Some(place)
+    }
+
+    /// Damage to one block's fields or unused records.
+    fn change_field(self, random: &mut Random, file: &mut [u8]) -> Option<usize> {
+        let blocks = file.len() / BLOCK_BYTES;
+        let last = blocks - 1;
+        let used = word(file, last, RECORDS_USED);
+        let block = random.below(blocks);
+        let place = match self {
             FileDamage::BlockNumber | FileDamage::NumberOfBlocks => {
                 let (field, right) = match self {
                     FileDamage::BlockNumber => (BLOCK_NUMBER, block),
@@ -140,6 +163,17 @@ impl FileDamage {
                 );
                 last
             }
+            _ => return None,
+        };
+        Some(place)
+    }
+
+    /// Damage to which blocks there are, and how many records each uses.
+    fn change_blocks(self, random: &mut Random, file: &mut Vec<u8>) -> Option<usize> {
+        let blocks = file.len() / BLOCK_BYTES;
+        let last = blocks - 1;
+        let used = word(file, last, RECORDS_USED);
+        let place = match self {
             FileDamage::SwappedBlocks if blocks > 1 => {
                 let first = random.below(last);
                 let second = first + 1 + random.below(last - first);
@@ -181,7 +215,6 @@ impl FileDamage {
             }
             _ => return None,
         };
-        mend_checks(file);
         Some(place)
     }
 }

@@ -26,14 +26,7 @@ fn every_body_of_up_to_five_records() {
 
 #[test]
 fn every_body_of_up_to_five_records_with_arguments() {
-    let alphabet = Alphabet {
-        numbers: 0,
-        cases: 1,
-        calls: 2,
-        calls_with_argument: Some(2),
-        trees: true,
-    };
-    assert_eq!(counts(&alphabet, 5), (47_410, 99));
+    assert_eq!(counts(&Alphabet::WITH_ARGUMENTS, 5), (47_410, 99));
 }
 
 #[test]

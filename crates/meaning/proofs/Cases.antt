@@ -1,0 +1,186 @@
+-- Closed cases of the stream run, proved by computation. Each row of a table is a call and what it gives.
+use Prim.Native.Nat.{ℕ, zero, suc}
+use mathlib.Core.List.{List, [], _∷_, _++_, map}
+use mathlib.Core.Path.{_≡_, refl}
+use lib.ListN.{length}
+use Rattle.formats.specs.Numbers.{bytesOf, numberOf, numberAt, sum32}
+use Rattle.formats.specs.Results.{Result, done, refusal, onValue}
+use Rattle.formats.specs.Records.{bytesOfRecord, flat, recordAt, nth}
+use Rattle.formats.specs.Tokens.{tagOf, tagAt}
+use Rattle.formats.specs.Written.{written}
+use Rattle.meaning.specs.Instructions.{Operation, Push, Get, Add, Ifnot, Jump, Slide, Drop, LeafTag, NodeTag, WriteNumber, ReadTag, ReadNumber, Call, Return, heldBy, operations, operationOf, instructionOf}
+use Rattle.meaning.specs.Performing.{Setting, start, wordsBelow, standing, opened, wordAt, one, two, room, push, write, byTag, readNumber, call, kept, numberKept, leave, operate, perform, step}
+use Rattle.meaning.specs.Running.{Answer, Ran, Run, run, unitsOf, outcomeOf, numberOf as numberAnswered, streamRun, valueWords, returnWords}
+
+-- A code's bytes.
+codeOf : List Operation → List ℕ
+codeOf ops = flat (map instructionOf ops)
+
+-- 01, "Worked programs": Grow's code.
+grow : List ℕ
+grow =
+    codeOf
+    (ReadTag 9 ∷ ReadNumber ∷ LeafTag ∷ Get 0 ∷ Push 1 ∷ Add ∷ WriteNumber ∷ Drop ∷ Jump 12 ∷ NodeTag ∷ Call 0 0 ∷ Call 0 0 ∷ Return 0 ∷ [])
+
+-- Tree T.
+two-leaves : List ℕ
+two-leaves = 2 ∷ 1 ∷ 5 ∷ 0 ∷ 0 ∷ 0 ∷ 1 ∷ 7 ∷ 0 ∷ 0 ∷ 0 ∷ []
+
+-- An output of so many bytes, all 255.
+blank : ℕ → List ℕ
+blank zero = []
+blank (suc n) = 255 ∷ blank n
+
+-- A call with the work space that document 01 asks for.
+record Row : Type 0 where
+  code : List ℕ
+  input : List ℕ
+  fuel : ℕ
+  space : ℕ
+  gives : Ran
+
+ranOn : Row → Ran
+ranOn r = streamRun (r .code) (r .input) (blank (r .space)) (r .fuel) valueWords returnWords
+
+-- It ends with these units, bytes read and number, having written `out`; it is refused.
+ended-with : (units read number : ℕ) (out rest : List ℕ) → Ran
+ended-with units read number out rest =
+    record {
+      answer = record { outcome = done tt; units = units; bytesRead = read; bytesWritten = length out; number = number };
+      output = out ++ rest;
+    }
+
+refused-with : (why units read : ℕ) (out rest : List ℕ) → Ran
+refused-with why units read out rest =
+    record {
+      answer = record { outcome = refusal why read; units = units; bytesRead = read; bytesWritten = length out; number = 0 };
+      output = out ++ rest;
+    }
+
+-- Tree T with each label one more.
+grown : List ℕ
+grown = 2 ∷ 1 ∷ 6 ∷ 0 ∷ 0 ∷ 0 ∷ 1 ∷ 8 ∷ 0 ∷ 0 ∷ 0 ∷ []
+
+on-grow : (input : List ℕ) (fuel space : ℕ) → Ran → Row
+on-grow input fuel space gives = record { code = grow; input = input; fuel = fuel; space = space; gives = gives }
+
+-- 01: "Grow on T, fuel 25: ends, labels 6 and 8, units 25. fuel 24: 14, read 11, written 11. fuel 2: 14, read 1, written 1. fuel 0: 14, read 0."
+-- "output of 10 bytes: 17, read 11, written 7." "empty input, fuel 1: 15, units 0. 01 05 00 00: 15, read 1. 03: 16, read 0."
+-- "Call 0 on 0 ..; fuel 1,023 gives 14, 1,024 gives 18."
+worked : List Row
+worked =
+    on-grow two-leaves 25 12 (ended-with 25 11 0 grown (blank 1))
+    ∷ on-grow two-leaves 24 12 (refused-with 14 24 11 grown (blank 1))
+    ∷ on-grow two-leaves 2 12 (refused-with 14 2 1 (2 ∷ []) (blank 11))
+    ∷ on-grow two-leaves 0 12 (refused-with 14 0 0 [] (blank 12))
+    ∷ on-grow two-leaves 25 10 (refused-with 17 20 11 (2 ∷ 1 ∷ 6 ∷ 0 ∷ 0 ∷ 0 ∷ 1 ∷ []) (blank 3))
+    ∷ on-grow [] 1 0 (refused-with 15 0 0 [] [])
+    ∷ on-grow (1 ∷ 5 ∷ 0 ∷ 0 ∷ []) 25 0 (refused-with 15 1 1 [] [])
+    ∷ on-grow (3 ∷ []) 25 0 (refused-with 16 0 0 [] [])
+    ∷ record { code = codeOf (Call 0 0 ∷ Return 1 ∷ []); input = []; fuel = 1023; space = 0; gives = refused-with 14 1023 0 [] [] }
+    ∷ record { code = codeOf (Call 0 0 ∷ Return 1 ∷ []); input = []; fuel = 1024; space = 0; gives = refused-with 18 1023 0 [] [] }
+    ∷ []
+
+-- Code on an empty input, with fuel for 20 instructions and 6 bytes of output.
+bare : List ℕ → Ran → Row
+bare code gives = record { code = code; input = []; fuel = 20; space = 6; gives = gives }
+
+ends-with : (units number : ℕ) → Ran
+ends-with units number = ended-with units 0 number [] (blank 6)
+
+stuck : (why units : ℕ) → Ran
+stuck why units = refused-with why units 0 [] (blank 6)
+
+-- What each instruction does. Words are named from the base up, so the arguments of a call are its frame's first words, and a word below the base is
+-- out of reach. Where a return keeps a word, those under it go.
+performed-well : List Row
+performed-well =
+    bare (codeOf (Push 5 ∷ Return 1 ∷ [])) (ends-with 2 5)
+    ∷ bare (codeOf (Push 5 ∷ Push 6 ∷ Get 0 ∷ Return 1 ∷ [])) (ends-with 4 5)
+    ∷ bare (codeOf (Push 5 ∷ Push 4294967295 ∷ Add ∷ Return 1 ∷ [])) (ends-with 4 4)
+    ∷ bare (codeOf (Push 0 ∷ Ifnot 99 ∷ Push 7 ∷ Return 1 ∷ [])) (ends-with 4 7)
+    ∷ bare (codeOf (Push 1 ∷ Ifnot 3 ∷ Push 7 ∷ Push 8 ∷ Return 1 ∷ [])) (ends-with 4 8)
+    ∷ bare (codeOf (Jump 2 ∷ Push 7 ∷ Push 8 ∷ Return 1 ∷ [])) (ends-with 3 8)
+    ∷ bare (codeOf (Push 5 ∷ Push 6 ∷ Slide ∷ Return 1 ∷ [])) (ends-with 4 6)
+    ∷ bare (codeOf (Push 5 ∷ Push 6 ∷ Drop ∷ Return 1 ∷ [])) (ends-with 4 5)
+    ∷ bare (codeOf (LeafTag ∷ NodeTag ∷ Push 258 ∷ WriteNumber ∷ Return 0 ∷ [])) (ended-with 5 0 0 (1 ∷ 2 ∷ 2 ∷ 1 ∷ 0 ∷ 0 ∷ []) [])
+    ∷ bare (codeOf (Push 1 ∷ Push 2 ∷ Call 3 1 ∷ Push 9 ∷ Get 0 ∷ Return 1 ∷ [])) (ends-with 9 1)
+    ∷ bare (codeOf (Push 1 ∷ Push 2 ∷ Call 4 1 ∷ Return 1 ∷ Push 9 ∷ Get 0 ∷ Return 1 ∷ [])) (ends-with 7 2)
+    ∷ bare (codeOf (Push 1 ∷ Call 3 0 ∷ Return 1 ∷ Push 9 ∷ Push 8 ∷ Return 0 ∷ [])) (ends-with 6 1)
+    ∷ bare (codeOf (Push 1 ∷ Return 0 ∷ [])) (ends-with 2 0)
+    ∷ []
+
+-- What can't be performed. An address is tested when its instruction is fetched: the jump to it is performed.
+not-performed : List Row
+not-performed =
+    bare [] (stuck 19 0)
+    ∷ bare (0 ∷ 0 ∷ 0 ∷ 0 ∷ 0 ∷ 0 ∷ 0 ∷ []) (stuck 19 0)
+    ∷ bare (14 ∷ 0 ∷ 0 ∷ 0 ∷ 0 ∷ 0 ∷ 0 ∷ 0 ∷ []) (stuck 19 0)
+    ∷ bare (codeOf (Jump 1 ∷ [])) (stuck 19 1)
+    ∷ bare (codeOf (Jump 65535 ∷ [])) (stuck 19 1)
+    ∷ bare (codeOf (Call 1 0 ∷ [])) (stuck 19 1)
+    ∷ bare (codeOf (Get 0 ∷ [])) (stuck 19 0)
+    ∷ bare (codeOf (Push 5 ∷ Get 1 ∷ [])) (stuck 19 1)
+    ∷ bare (codeOf (Push 5 ∷ Add ∷ [])) (stuck 19 1)
+    ∷ bare (codeOf (Ifnot 0 ∷ [])) (stuck 19 0)
+    ∷ bare (codeOf (Push 5 ∷ Slide ∷ [])) (stuck 19 1)
+    ∷ bare (codeOf (Drop ∷ [])) (stuck 19 0)
+    ∷ bare (codeOf (WriteNumber ∷ [])) (stuck 19 0)
+    ∷ bare (codeOf (Push 5 ∷ Call 2 0 ∷ Drop ∷ [])) (stuck 19 2)
+    ∷ bare (codeOf (Push 5 ∷ Call 2 0 ∷ Get 0 ∷ [])) (stuck 19 2)
+    ∷ bare (codeOf (Push 5 ∷ Call 2 0 ∷ Return 1 ∷ [])) (stuck 19 2)
+    ∷ bare (codeOf (Push 5 ∷ Call 0 2 ∷ [])) (stuck 19 1)
+    ∷ bare (codeOf (Return 1 ∷ [])) (stuck 19 0)
+    ∷ bare (codeOf (Push 5 ∷ Return 2 ∷ [])) (stuck 19 1)
+    ∷ []
+
+-- The input and the output. A number is read or written whole or not at all.
+at-ends : List Row
+at-ends =
+    record { code = codeOf (ReadTag 0 ∷ []); input = []; fuel = 9; space = 0; gives = refused-with 15 0 0 [] [] }
+    ∷ record { code = codeOf (ReadTag 0 ∷ []); input = 2 ∷ 2 ∷ 3 ∷ []; fuel = 9; space = 0; gives = refused-with 16 2 2 [] [] }
+    ∷ record { code = codeOf (ReadTag 0 ∷ Return 0 ∷ []); input = 2 ∷ 1 ∷ []; fuel = 9; space = 0; gives = ended-with 3 2 0 [] [] }
+    ∷ record { code = codeOf (ReadNumber ∷ Return 1 ∷ []); input = 1 ∷ 2 ∷ 0 ∷ []; fuel = 9; space = 0; gives = refused-with 15 0 0 [] [] }
+    ∷ record { code = codeOf (ReadNumber ∷ Return 1 ∷ []); input = 1 ∷ 2 ∷ 0 ∷ 0 ∷ []; fuel = 9; space = 0; gives = ended-with 2 4 513 [] [] }
+    ∷ record { code = codeOf (LeafTag ∷ LeafTag ∷ []); input = []; fuel = 9; space = 1; gives = refused-with 17 1 0 (1 ∷ []) [] }
+    ∷ record { code = codeOf (NodeTag ∷ NodeTag ∷ []); input = []; fuel = 9; space = 1; gives = refused-with 17 1 0 (2 ∷ []) [] }
+    ∷ record { code = codeOf (Push 5 ∷ WriteNumber ∷ []); input = []; fuel = 9; space = 3; gives = refused-with 17 1 0 [] (blank 3) }
+    ∷ record { code = codeOf (WriteNumber ∷ []); input = []; fuel = 9; space = 0; gives = refused-with 19 0 0 [] [] }
+    ∷ []
+
+cases : List Row
+cases = worked ++ (performed-well ++ (not-performed ++ at-ends))
+
+as-told : map ranOn cases ≡ map (λ r. r .gives) cases
+unfolding streamRun run step perform operate heldBy operationOf operations instructionOf nth recordAt flat bytesOfRecord bytesOf numberOf numberAt sum32 tagAt tagOf written standing wordsBelow opened wordAt one two room push write byTag readNumber call kept numberKept leave outcomeOf numberAnswered cases worked performed-well not-performed at-ends grow two-leaves grown blank codeOf ranOn ended-with refused-with ends-with stuck on-grow bare
+as-told = refl
+
+-- ---- the limits, on a machine that has room for 2 words and 2 open calls
+
+small : List Operation → List ℕ → Setting
+small ops input = record { holds = heldBy (codeOf ops); input = input; space = 4; mostWords = 2; mostOpen = 2 }
+
+-- How many instructions are performed, and why the run then stops.
+stops : List Operation → Result ℕ
+stops ops = let r : Run = run (small ops []) 20 start in onValue (λ u. unitsOf r) (outcomeOf (r .stop) (unitsOf r))
+
+-- So many words may stand, in all frames together, and so many calls may be open, the first frame among them. 19 comes before 15, 17 and 18.
+limits : List (Result ℕ)
+limits = map stops
+    ((Push 1 ∷ Push 2 ∷ Return 1 ∷ [])
+    ∷ (Push 1 ∷ Push 2 ∷ Push 3 ∷ [])
+    ∷ (Push 1 ∷ Push 2 ∷ Get 0 ∷ [])
+    ∷ (Push 1 ∷ Push 2 ∷ ReadNumber ∷ [])
+    ∷ (Push 1 ∷ ReadNumber ∷ [])
+    ∷ (Push 1 ∷ Push 2 ∷ Call 3 1 ∷ Push 3 ∷ [])
+    ∷ (Call 1 0 ∷ Return 0 ∷ [])
+    ∷ (Call 0 0 ∷ [])
+    ∷ (Push 1 ∷ Call 1 2 ∷ [])
+    ∷ (Call 1 0 ∷ Call 0 1 ∷ [])
+    ∷ [])
+
+within-limits :
+    limits
+    ≡ done 3 ∷ refusal 19 2 ∷ refusal 19 2 ∷ refusal 19 2 ∷ refusal 15 1 ∷ refusal 19 3 ∷ done 3 ∷ refusal 18 1 ∷ refusal 19 1 ∷ refusal 19 1 ∷ []
+unfolding streamRun run step perform operate heldBy operationOf operations instructionOf nth recordAt flat bytesOfRecord bytesOf numberOf numberAt sum32 tagAt tagOf written standing wordsBelow opened wordAt one two room push write byTag readNumber call kept numberKept leave outcomeOf numberAnswered limits stops small codeOf
+within-limits = refl

@@ -1,0 +1,7 @@
+-- Proofs about stream runs.
+pub mod Steps
+pub mod Runs
+pub mod Inputs
+pub mod Calls
+pub mod StreamRun
+pub mod Cases

@@ -1,0 +1,5 @@
+-- What stream code does.
+pub mod Instructions
+pub mod Performing
+pub mod Running
+pub mod StreamRun

@@ -1,0 +1,109 @@
+-- Document 01, "Code and the stream run": the run with its fuel, and its answer.
+use Prim.Native.Nat.{ℕ, zero, suc}
+use mathlib.Core.Bool.{true, false, _&&_}
+use mathlib.Core.List.{List, [], _∷_}
+use mathlib.Core.Path.{_≡_}
+use lib.ListN.{length}
+use lib.Dec.{leb}
+use Rattle.formats.specs.Refusals.{spaceTooShort, fuelUsedUp}
+use Rattle.formats.specs.Results.{Result, done, refusal}
+use Rattle.formats.specs.Written.{written}
+use Rattle.meaning.specs.Instructions.{heldBy}
+use Rattle.meaning.specs.Performing.{Setting, State, start, Step, goes, ends, refuses, step}
+
+-- Why a run stops: at the return of the first frame, with its number, or refused.
+pub data Stop : Type 0 where
+  ended : ℕ → Stop
+  refused : ℕ → Stop
+
+-- A run: the addresses of the instructions performed, in order; the state in which it stops; why it stops.
+pub record Run : Type 0 where
+  pub performed : List ℕ
+  pub last : State
+  pub stop : Stop
+
+-- Stops in this state, with nothing performed.
+abbrev pub stopped : State → Stop → Run
+stopped s why = record { performed = []; last = s; stop = why }
+
+-- The instruction at an address is performed first.
+abbrev pub after : ℕ → Run → Run
+after a r = record { performed = a ∷ r .performed; last = r .last; stop = r .stop }
+
+-- 01: "One unit of fuel is one instruction performed." "A refused instruction counts nothing and changes nothing. Fuel is looked at first."
+unfoldable pub run : Setting → ℕ → State → Run
+run m zero s = stopped s (refused fuelUsedUp)
+run m (suc fuel) s =
+    elim (step m s) [
+      | goes t ↦ after (s .address) (run m fuel t)
+      | ends number ↦ after (s .address) (stopped s (ended number))
+      | refuses number ↦ stopped s (refused number)
+    ]
+
+-- One unit for each instruction performed.
+abbrev pub unitsOf : Run → ℕ
+unitsOf r = length (r .performed)
+
+-- 01: "Its answer gives units, bytes read, bytes written, and the number (0 for a tree or a refusal)."
+pub record Answer : Type 0 where
+  -- ended, or the refusal's number and place
+  pub outcome : Result (Unit {0})
+  pub units : ℕ
+  pub bytesRead : ℕ
+  pub bytesWritten : ℕ
+  pub number : ℕ
+
+-- The place of every refusal is "bytes read".
+unfoldable pub outcomeOf : Stop → ℕ → Result (Unit {0})
+outcomeOf (ended number) read = done tt
+outcomeOf (refused number) read = refusal number read
+
+unfoldable pub numberOf : Stop → ℕ
+numberOf (ended number) = number
+numberOf (refused number) = 0
+
+abbrev pub answerOf : Run → Answer
+answerOf r =
+    record {
+      outcome = outcomeOf (r .stop) (r .last .read);
+      units = unitsOf r;
+      bytesRead = r .last .read;
+      bytesWritten = length (r .last .output);
+      number = numberOf (r .stop);
+    }
+
+-- 01: "Both runs lend 16,384 value words and 1,024 return places of two words." "a call with 1,024 open".
+abbrev pub valueWords : ℕ
+valueWords = 16384
+
+abbrev pub returnWords : ℕ
+returnWords = 2048
+
+abbrev pub mostCalls : ℕ
+mostCalls = 1024
+
+-- A run of any code, within document 01's limits.
+abbrev pub ofCode : List ℕ → List ℕ → ℕ → Setting
+ofCode code input space = record { holds = heldBy code; input = input; space = space; mostWords = valueWords; mostOpen = mostCalls }
+
+-- What a call of the stream run gives: its answer, and every byte of the output.
+pub record Ran : Type 0 where
+  pub answer : Answer
+  pub output : List ℕ
+
+-- 01: "what it wrote stays, the rest is untouched".
+abbrev pub ranTo : List ℕ → Run → Ran
+ranTo output r = record { answer = answerOf r; output = written output 0 (r .last .output) }
+
+-- 01: "The runs test 13 before tree or fuel." "A run refused before its first instruction .. answers 0 in every count."
+abbrev pub tooShort : List ℕ → Ran
+tooShort output =
+    record { answer = record { outcome = refusal spaceTooShort 0; units = 0; bytesRead = 0; bytesWritten = 0; number = 0 }; output = output }
+
+-- 01: "Any buffer may be run as code". With so many value words and return words lent.
+unfoldable pub streamRun : (code input output : List ℕ) (fuel values returns : ℕ) → Ran
+streamRun code input output fuel values returns =
+    elim (leb valueWords values && leb returnWords returns) [
+      | true ↦ ranTo output (run (ofCode code input (length output)) fuel start)
+      | false ↦ tooShort output
+    ]

@@ -10,7 +10,7 @@ use native.Mathlib.Nat.{add-assoc, add-zero, add-sub-of-le}
 use native.Mathlib.Numerals.{add-one}
 use native.Mathlib.Omega.{arith}
 use lib.ListN.{length, getD, take, drop, set, length-append, length-drop, length-set, take-append-drop, List·getD-append}
-use lib.Seq.{length-take-le, getD-take, getD-drop, getD-append-add, take-append-seam, drop-append-add, drop-drop, set-split, sets}
+use lib.Seq.{length-take-le, getD-take, getD-drop, getD-append-add, take-at, drop-at, take-append-seam, drop-append-add, drop-drop, set-split, sets}
 use borrow.Author.Tests.{le-leb, lt-leb}
 use Rattle.formats.specs.Numbers.{bytesOf}
 use Rattle.formats.specs.Written.{written, Wrote}
@@ -38,6 +38,13 @@ module _ (s : List ℕ) (p : ℕ) (vs : List ℕ) (fits : p + length vs ≤ leng
   -- the front reaches to the end of vs
   length-front : length (take p s ++ vs) ≡ p + length vs
   length-front = simp (length-append, length-before)
+
+  -- so it is what a part of that length shows, and behind it all is as it was
+  pub front-written : take (p + length vs) (written s p vs) ≡ take p s ++ vs
+  front-written = ap (take (p + length vs)) as-front ∙ take-at (take p s ++ vs) (drop (p + length vs) s) (p + length vs) length-front
+
+  pub behind-written : drop (p + length vs) (written s p vs) ≡ drop (p + length vs) s
+  behind-written = ap (drop (p + length vs)) as-front ∙ drop-at (take p s ++ vs) (drop (p + length vs) s) (p + length vs) length-front
 
   -- the length is kept
   length-fits : length (written s p vs) ≡ length s

@@ -2,19 +2,18 @@
 -- first place on, or it is refused before. So each statement is one of runs, with what such a write leaves; what a run writes fits.
 use Prim.Native.Nat.{ℕ, _≤_, zero-le}
 use mathlib.Core.Bool.{Bool, true, false, _&&_}
-use mathlib.Core.List.{List, [], _++_}
+use mathlib.Core.List.{List, []}
 use mathlib.Core.Logic.{_≢_}
-use mathlib.Core.Path.{_≡_, refl, ap, _∙_}
+use mathlib.Core.Path.{_≡_, refl, ap}
 use native.Mathlib.Nat.{zero-add}
 use native.Mathlib.Omega.{arith}
 use lib.Dec.{leb, lit<}
 use lib.ListN.{length, take, drop}
-use lib.Seq.{take-append-seam, drop-append-seam}
 use Rattle.formats.specs.Refusals.{spaceTooShort, fuelUsedUp}
-use Rattle.formats.specs.Results.{Result, done, refusal}
+use Rattle.formats.specs.Results.{Result, refusal}
 use Rattle.formats.specs.Written.{written}
 use Rattle.formats.proofs.Results.{done-not}
-use Rattle.formats.proofs.Written.{written-fits, wrote}
+use Rattle.formats.proofs.Written.{front-written, behind-written, wrote}
 use Rattle.meaning.specs.Performing.{Setting, State, start, wordsBelow, standing, opened}
 use Rattle.meaning.specs.Running.{Stop, ended, refused, Run, run, outcomeOf, numberOf, valueWords, returnWords, ofCode, ranTo, tooShort, streamRun}
 use Rattle.meaning.specs.StreamRun.{writtenBy, Within, Runs, Calls}
@@ -23,16 +22,11 @@ use Rattle.meaning.proofs.Inputs.{run-same}
 -- ---- bytes written from the first place on, where they fit
 
 module _ (s vs : List ℕ) (fits : length vs ≤ length s) where
-  -- they stand before the rest of the buffer ..
-  write-first : written s 0 vs ≡ vs ++ drop (length vs) s
-  write-first = rw zero-add at (written-fits s 0 vs (rw zero-add fits))
-
-  -- .. so they are its first bytes, and the rest is as it was
   first-written : take (length vs) (written s 0 vs) ≡ vs
-  first-written = ap (take (length vs)) write-first ∙ take-append-seam vs (drop (length vs) s)
+  first-written = rw zero-add at (front-written s 0 vs (rw zero-add fits))
 
   first-untouched : drop (length vs) (written s 0 vs) ≡ drop (length vs) s
-  first-untouched = ap (drop (length vs)) write-first ∙ drop-append-seam vs (drop (length vs) s)
+  first-untouched = rw zero-add at (behind-written s 0 vs (rw zero-add fits))
 
 -- ---- outcomes
 

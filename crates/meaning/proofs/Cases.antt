@@ -10,7 +10,7 @@ use Rattle.formats.specs.Tokens.{tagOf, tagAt}
 use Rattle.formats.specs.Written.{written}
 use Rattle.meaning.specs.Instructions.{Operation, Push, Get, Add, Ifnot, Jump, Slide, Drop, LeafTag, NodeTag, WriteNumber, ReadTag, ReadNumber, Call, Return, heldBy, operations, operationOf, instructionOf}
 use Rattle.meaning.specs.Performing.{Setting, start, wordsBelow, standing, opened, wordAt, one, two, room, push, write, byTag, readNumber, call, kept, numberKept, leave, operate, perform, step}
-use Rattle.meaning.specs.Running.{Answer, Ran, Run, run, unitsOf, outcomeOf, numberOf as numberAnswered, streamRun, valueWords, returnWords}
+use Rattle.meaning.specs.Running.{Ran, Run, run, unitsOf, outcomeOf, numberOf as numberAnswered, streamRun, valueWords, returnWords}
 
 -- A code's bytes.
 codeOf : List Operation → List ℕ

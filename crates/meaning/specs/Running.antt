@@ -2,14 +2,13 @@
 use Prim.Native.Nat.{ℕ, zero, suc}
 use mathlib.Core.Bool.{true, false, _&&_}
 use mathlib.Core.List.{List, [], _∷_}
-use mathlib.Core.Path.{_≡_}
 use lib.ListN.{length}
 use lib.Dec.{leb}
 use Rattle.formats.specs.Refusals.{spaceTooShort, fuelUsedUp}
 use Rattle.formats.specs.Results.{Result, done, refusal}
 use Rattle.formats.specs.Written.{written}
 use Rattle.meaning.specs.Instructions.{heldBy}
-use Rattle.meaning.specs.Performing.{Setting, State, start, Step, goes, ends, refuses, step}
+use Rattle.meaning.specs.Performing.{Setting, State, start, goes, ends, refuses, step}
 
 -- Why a run stops: at the return of the first frame, with its number, or refused.
 pub data Stop : Type 0 where

@@ -1,5 +1,5 @@
 -- What holds of every stream run, of any code: the statements. They are proved in proofs/StreamRun.antt.
-use Prim.Native.Nat.{ℕ, suc, _+_, _≤_, _<_}
+use Prim.Native.Nat.{ℕ, _+_, _≤_, _<_}
 use mathlib.Core.List.{List, [], _∷_, _++_}
 use mathlib.Core.Logic.{_≢_}
 use mathlib.Core.Option.{some}
@@ -12,8 +12,8 @@ use Rattle.formats.specs.Refusals.{fuelUsedUp, inputEnded, notATag, outputFull,
 use Rattle.formats.specs.Results.{Result, done, refusal}
 use Rattle.formats.specs.Tokens.{labelBytes}
 use Rattle.meaning.specs.Instructions.{Operation, operationOf, instructionOf}
-use Rattle.meaning.specs.Performing.{Setting, State, start, standing, opened, Step, goes, ends, refuses, step}
-use Rattle.meaning.specs.Running.{Run, Stop, ended, refused, run, unitsOf, Answer, Ran, streamRun}
+use Rattle.meaning.specs.Performing.{Setting, State, standing, opened, goes, ends, refuses, step}
+use Rattle.meaning.specs.Running.{Run, ended, refused, run, unitsOf, Answer, Ran, streamRun}
 
 -- ---- one step
 

@@ -6,7 +6,7 @@ ghost use lib.ListN.{getD};
 ghost use Rattle.formats.specs.Numbers.{numberOf, numberAt};
 
 // The number that two bytes stand for.
-fn word16(b0: u8, b1: u8) -> u16
+pub fn word16(b0: u8, b1: u8) -> u16
     ensures { λ r. ⌜ r ≡ numberOf (b0 ∷ b1 ∷ []) ⌝ }
 {
     (b0 as u16) + 256 * (b1 as u16)

@@ -6,7 +6,7 @@ ghost use Rattle.formats.specs.Numbers.{bytesOf, numberOf, numberAt};
 ghost use Rattle.formats.specs.Written.{written};
 
 // The number that four bytes stand for.
-fn word32(b0: u8, b1: u8, b2: u8, b3: u8) -> u32
+pub fn word32(b0: u8, b1: u8, b2: u8, b3: u8) -> u32
     ensures { λ r. ⌜ r ≡ numberOf (b0 ∷ b1 ∷ b2 ∷ b3 ∷ []) ⌝ }
 {
     (b0 as u32) + 256 * ((b1 as u32) + 256 * ((b2 as u32) + 256 * (b3 as u32)))

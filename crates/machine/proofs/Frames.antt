@@ -1,0 +1,227 @@
+-- What the lent words stand for: the frame's words, and the frames that wait. A word set at or above a base leaves the frames below it.
+use Prim.Native.Nat.{ℕ, zero, suc, _+_, _-_, _*_, _≤_, _<_}
+use mathlib.Core.Bool.{Bool, true, false}
+use mathlib.Core.List.{List, _∷_}
+use mathlib.Core.Option.{none, some}
+use mathlib.Core.Logic.{_≢_, _⊎_, inl, inr}
+use mathlib.Core.Path.{_≡_, refl, sym, ap, ap₂, _∙_}
+use native.Mathlib.Nat.{le-refl, le-trans}
+use native.Mathlib.Omega.{arith}
+use borrow.Author.Tests.{eq-eqb, ne-eqb, eqb-true, eqb-false}
+use lib.Dec.{eqb}
+use lib.ListN.{length, getD, set, take, drop, length-set}
+use lib.Seq.{getD-set-same, getD-set-other}
+use Rattle.formats.specs.Refusals.{cannotPerform}
+use Rattle.meaning.specs.Performing.{Caller, wordsBelow, standing, wordAt, Step, refuses, one, two}
+use Rattle.machine.specs.declared.Machine.{Machine}
+use Rattle.machine.specs.Held.{wordsFrom, waiting, stateOf, Chained, first, above}
+
+decide : (b : Bool) → (b ≡ true) ⊎ (b ≡ false)
+decide true = inl refl
+decide false = inr refl
+
+-- ---- a frame's words
+
+pub length-words : (values : List ℕ) (base n : ℕ) → length (wordsFrom values base n) ≡ n
+unfolding wordsFrom
+length-words values base zero = refl
+length-words values base (suc n) = ap suc (length-words values base n)
+
+-- a word above them set
+pub words-kept : (values : List ℕ) (base n i x : ℕ) → base + n ≤ i → wordsFrom (set values i x) base n ≡ wordsFrom values base n
+unfolding wordsFrom
+words-kept values base zero i x h = refl
+words-kept values base (suc n) i x h =
+    ap₂ (λ (y : ℕ) (ys : List ℕ). y ∷ ys) (getD-set-other values i (base + n) x 0 (λ e. absurd (omega arith))) (words-kept values base n i x (omega arith))
+
+-- a word set on top of them
+pub words-pushed :
+    (values : List ℕ) (base n i x : ℕ)
+    → i < length values
+    → i ≡ base + n
+    → wordsFrom (set values i x) base (suc n) ≡ x ∷ wordsFrom values base n
+unfolding wordsFrom
+words-pushed values base n i x h e =
+    ap₂ (λ (y : ℕ) (ys : List ℕ). y ∷ ys)
+    (ap (λ j. getD (set values i x) j 0) (sym e) ∙ getD-set-same values i x 0 h)
+    (words-kept values base n i x (omega arith))
+
+-- by the top one
+pub words-top :
+    (values : List ℕ) (base top : ℕ)
+    → base < top
+    → wordsFrom values base (top - base) ≡ getD values (top - 1) 0 ∷ wordsFrom values base (top - 1 - base)
+unfolding wordsFrom
+words-top values base top h =
+    let one-more : top - base ≡ suc (top - 1 - base) = omega arith in
+    let there : base + (top - 1 - base) ≡ top - 1 = omega arith in
+    ap (wordsFrom values base) one-more ∙ ap (λ i. getD values i 0 ∷ wordsFrom values base (top - 1 - base)) there
+
+-- one word, or two, taken or missing
+module _ (values : List ℕ) (base top : ℕ) where
+  pub one-missing : (f : ℕ → List ℕ → Step) → top ≤ base → one (wordsFrom values base (top - base)) f ≡ refuses cannotPerform
+  unfolding wordsFrom one
+  one-missing f few = let none-there : top - base ≡ 0 = omega arith in rw none-there
+
+  pub one-taken :
+      (f : ℕ → List ℕ → Step)
+      → base < top
+      → one (wordsFrom values base (top - base)) f ≡ f (getD values (top - 1) 0) (wordsFrom values base (top - 1 - base))
+  unfolding one
+  one-taken f some-there = ap (λ ws. one ws f) (words-top values base top some-there)
+
+module _ (values : List ℕ) (base top : ℕ) (f : ℕ → ℕ → List ℕ → Step) where
+  pub two-missing : top - base < 2 → two (wordsFrom values base (top - base)) f ≡ refuses cannotPerform
+  unfolding wordsFrom one two
+  two-missing few = by (top - base) few
+    where
+      by : (n : ℕ) → n < 2 → two (wordsFrom values base n) f ≡ refuses cannotPerform
+      by zero h = refl
+      by (suc zero) h = refl
+      by (suc (suc n)) h = absurd (omega arith)
+
+  pub two-taken :
+      base + 2 ≤ top
+      → two (wordsFrom values base (top - base)) f
+      ≡ f (getD values (top - 1) 0) (getD values (top - 2) 0) (wordsFrom values base (top - 2 - base))
+  unfolding two
+  two-taken there =
+      let less : top - 1 - 1 ≡ top - 2 = omega arith in
+      one-taken values base top _ (omega arith)
+      ∙ one-taken values base (top - 1) _ (omega arith)
+      ∙ ap (λ i. f (getD values (top - 1) 0) (getD values i 0) (wordsFrom values base (i - base))) less
+
+-- the word that stands k above the base
+word-top : (x k : ℕ) (xs : List ℕ) → k ≡ length xs → wordAt (x ∷ xs) k ≡ some x
+unfolding wordAt
+word-top x k xs e = rw (wordAt, eq-eqb _ _ e)
+
+word-under : (x k : ℕ) (xs : List ℕ) → k ≢ length xs → wordAt (x ∷ xs) k ≡ wordAt xs k
+unfolding wordAt
+word-under x k xs h = rw (wordAt, ne-eqb _ _ h)
+
+pub word-found : (values : List ℕ) (base n k : ℕ) → k < n → wordAt (wordsFrom values base n) k ≡ some (getD values (base + k) 0)
+unfolding wordsFrom
+word-found values base zero k h = absurd (omega arith)
+word-found values base (suc n) k h =
+    let counted = length-words values base n in
+    elim (decide (eqb k n)) [
+      | inl e ↦ word-top _ k _ (eqb-true k n e ∙ sym counted) ∙ ap (λ j. some (getD values (base + j) 0)) (sym (eqb-true k n e))
+      | inr e ↦
+          let other : k ≢ n = eqb-false k n e in
+          word-under _ k _ (λ d. other (d ∙ counted)) ∙ word-found values base n k (omega arith)
+    ]
+
+pub word-missing : (values : List ℕ) (base n k : ℕ) → n ≤ k → wordAt (wordsFrom values base n) k ≡ none
+unfolding wordsFrom wordAt
+word-missing values base zero k h = refl
+word-missing values base (suc n) k h =
+    let counted = length-words values base n in
+    word-under (getD values (base + n) 0) k (wordsFrom values base n) (λ d. let same : k ≡ n = d ∙ counted in absurd (omega arith)) ∙ word-missing values base n k (omega arith)
+
+-- the topmost k of them, and those under these
+pub words-taken : (values : List ℕ) (base n lo k : ℕ) → base + n ≡ lo + k → base ≤ lo → take k (wordsFrom values base n) ≡ wordsFrom values lo k
+unfolding wordsFrom
+words-taken values base n lo zero e h = refl
+words-taken values base zero lo (suc k) e h = absurd (omega arith)
+words-taken values base (suc n) lo (suc k) e h =
+    let same : base + n ≡ lo + k = omega arith in
+    ap₂ (λ (y : ℕ) (ys : List ℕ). y ∷ ys) (ap (λ j. getD values j 0) same) (words-taken values base n lo k same h)
+
+pub words-left : (values : List ℕ) (base n rest k : ℕ) → n ≡ rest + k → drop k (wordsFrom values base n) ≡ wordsFrom values base rest
+unfolding wordsFrom
+words-left values base n rest zero e = let same : n ≡ rest = omega arith in ap (wordsFrom values base) same
+words-left values base zero rest (suc k) e = absurd (omega arith)
+words-left values base (suc n) rest (suc k) e = words-left values base n rest k (omega arith)
+
+-- ---- the frames that wait
+
+-- a value word above them set
+pub waiting-kept :
+    (values places : List ℕ) (base saved i x : ℕ)
+    → Chained places base saved
+    → base ≤ i
+    → waiting (set values i x) places base saved ≡ waiting values places base saved
+unfolding waiting
+waiting-kept values places base saved i x first h = refl
+waiting-kept values places base saved i x (above {n = n} below c) h =
+    let own : ℕ = getD places (suc n) 0 in
+    ap₂ (λ (ws : List ℕ) (cs : List Caller). record { back = getD places n 0; words = ws } ∷ cs)
+    (words-kept values own (base - own) i x (omega arith))
+    (waiting-kept values places own n i x c (le-trans below h))
+
+-- a return place above them set
+pub waiting-saved :
+    (values places : List ℕ) (base saved i x : ℕ)
+    → Chained places base saved
+    → saved ≤ i
+    → waiting values (set places i x) base saved ≡ waiting values places base saved
+unfolding waiting
+waiting-saved values places base saved i x first h = refl
+waiting-saved values places base saved i x (above {n = n} below c) h =
+    let own-kept : getD (set places i x) (suc n) 0 ≡ getD places (suc n) 0 = getD-set-other places i (suc n) x 0 (λ e. absurd (omega arith)) in
+    let back-kept : getD (set places i x) n 0 ≡ getD places n 0 = getD-set-other places i n x 0 (λ e. absurd (omega arith)) in
+    rw (own-kept, back-kept, waiting-saved values places (getD places (suc n) 0) n i x c (omega arith)) refl
+
+pub chained-saved : (places : List ℕ) (base saved i x : ℕ) → Chained places base saved → saved ≤ i → Chained (set places i x) base saved
+chained-saved places base saved i x first h = first
+chained-saved places base saved i x (above {n = n} below c) h =
+    let own-kept : getD (set places i x) (suc n) 0 ≡ getD places (suc n) 0 = getD-set-other places i (suc n) x 0 (λ e. absurd (omega arith)) in
+    above {base = base} {n = n} (rw own-kept below) (rw own-kept (chained-saved places (getD places (suc n) 0) n i x c (omega arith)))
+
+-- one frame more waits: its return place is saved, below a new base
+module _ (places : List ℕ) (base saved back : ℕ) (c : Chained places base saved) (fits : saved + 1 < length places) where
+  abbrev back-set : List ℕ
+  back-set = set places saved back
+
+  abbrev place-set : List ℕ
+  place-set = set back-set (suc saved) base
+
+  own-there : getD place-set (suc saved) 0 ≡ base
+  own-there = getD-set-same back-set (suc saved) base 0 (simp length-set (omega arith))
+
+  back-there : getD place-set saved 0 ≡ back
+  back-there = getD-set-other back-set (suc saved) saved base 0 (λ e. omega arith) ∙ getD-set-same places saved back 0 (omega arith)
+
+  chained-still : Chained back-set base saved
+  chained-still = chained-saved places base saved saved back c (le-refl saved)
+
+  waiting-still : (values : List ℕ) → waiting values place-set base saved ≡ waiting values places base saved
+  waiting-still values =
+      waiting-saved values back-set base saved (suc saved) base chained-still (omega arith)
+      ∙ waiting-saved values places base saved saved back c (le-refl saved)
+
+  pub waiting-more :
+      (values : List ℕ) (lo : ℕ)
+      → waiting values place-set lo (suc (suc saved))
+      ≡ record { back = back; words = wordsFrom values base (lo - base) } ∷ waiting values places base saved
+  unfolding waiting
+  waiting-more values lo = rw (own-there, back-there, waiting-still values)
+
+  pub chained-more : (lo : ℕ) → base ≤ lo → Chained place-set lo (suc (suc saved))
+  chained-more lo h =
+      above {base = lo} {n = saved} (rw own-there h) (rw own-there (chained-saved back-set base saved (suc saved) base chained-still (omega arith)))
+
+-- they hold all words below the base
+pub words-below : (values places : List ℕ) (base saved : ℕ) → Chained places base saved → wordsBelow (waiting values places base saved) ≡ base
+unfolding waiting wordsBelow
+words-below values places base saved first = refl
+words-below values places base saved (above {n = n} below c) =
+    let own : ℕ = getD places (suc n) 0 in
+    rw (length-words values own (base - own), words-below values places own n c) (omega arith)
+
+-- there is one for every two words saved
+pub count-waiting : (values places : List ℕ) (base saved : ℕ) → Chained places base saved → saved ≡ 2 * length (waiting values places base saved)
+unfolding waiting
+count-waiting values places base saved first = refl
+count-waiting values places base saved (above {n = n} below c) = let e = count-waiting values places (getD places (suc n) 0) n c in omega arith
+
+-- all words that stand
+pub all-standing :
+    (values places output : List ℕ) (s : Machine)
+    → Chained places (s .base) (s .saved)
+    → s .base ≤ s .top
+    → standing (stateOf values places output s) ≡ s .top
+unfolding standing
+all-standing values places output s c h =
+    rw (length-words values (s .base) (s .top - s .base), words-below values places (s .base) (s .saved) c) (omega arith)

@@ -1,0 +1,8 @@
+-- Laws of the machine.
+pub mod Frames
+pub mod Doing
+pub mod StackLaws
+pub mod StreamLaws
+pub mod CallLaws
+pub mod StepLaws
+pub mod RunLaws

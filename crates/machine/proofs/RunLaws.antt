@@ -1,0 +1,370 @@
+-- The run: a law for each way out of its functions. In front of each turn as many steps as units lead from the start to the state that the machine
+-- stands for (`Running`), and steps determine the run: so the turn that stops is the whole run's last.
+use Prim.Native.Nat.{ℕ, _+_, _-_, _^_, _≤_, _<_}
+use mathlib.Core.List.{List, [], _∷_, _++_}
+use mathlib.Core.Logic.{_≢_}
+use mathlib.Core.Path.{_≡_, refl, sym, ap, _∙_}
+use native.Mathlib.Decide.{decLe}
+use native.Mathlib.Omega.{arith}
+use borrow.Author.Tests.{eq-eqb, ne-eqb, le-leb, lt-leb}
+use mir.Syntax.{w64}
+use mir.Val.{Fits}
+use lib.ListN.{length, getD, take, drop, length-append, take-append-drop}
+use lib.Seq.{length-take-le, drop-drop}
+use Rattle.formats.specs.Refusals.{fuelUsedUp, inputEnded, notATag, outputFull, tooManyCalls, cannotPerform}
+use Rattle.formats.specs.Written.{written}
+use Rattle.formats.proofs.Written.{written-fits}
+use Rattle.refusal.specs.Number.{number}
+use Rattle.refusal.specs.declared.Refusal.{Refusal}
+use Rattle.refusal.specs.declared.Refusal.the-variants.{FuelUsedUp}
+use Rattle.refusal.specs.declared.Verdict.the-variants.{Passed, Refused}
+use Rattle.meaning.specs.Performing.{Setting, State, start, goes, ends, refuses, step, numberKept}
+use Rattle.meaning.specs.Running.{Run, Stop, refused, Ran, ranTo, tooShort, ofCode, outcomeOf, numberOf, valueWords, returnWords, streamRun}
+use Rattle.meaning.specs.StreamRun.{StepRefusal, ended-there, no-tag, full, too-many, cannot, Stops, used-up, returned, stuck, here, on}
+use Rattle.meaning.specs.StreamRun.{Steps as Led}
+use Rattle.meaning.proofs.Steps.{one-step}
+use Rattle.meaning.proofs.Runs.{runs}
+use Rattle.machine.specs.declared.Machine.{Machine}
+use Rattle.machine.specs.declared.Answer.{Answer}
+use Rattle.machine.specs.Held.{wordsFrom, waiting, frameOf, stateOf, stepOf, goesOn, hasEnded, first, Going, Held, Lent}
+use Rattle.machine.specs.Does.{Does, Steps}
+use Rattle.machine.proofs.Frames.{words-top}
+use Rattle.machine.specs.Told.{answered, refusalNumber, dueAt, Tells, noneDone, Performed}
+
+-- ---- `refusal_of`
+
+module _ (stop : ℕ) where
+  pub named-input : stop ≡ inputEnded → inputEnded ≡ refusalNumber stop
+  unfolding refusalNumber
+  named-input e = sym (ap refusalNumber e)
+
+  pub named-tag : stop ≡ notATag → notATag ≡ refusalNumber stop
+  unfolding refusalNumber
+  named-tag e = sym (ap refusalNumber e)
+
+  pub named-output : stop ≡ outputFull → outputFull ≡ refusalNumber stop
+  unfolding refusalNumber
+  named-output e = sym (ap refusalNumber e)
+
+  pub named-calls : stop ≡ tooManyCalls → tooManyCalls ≡ refusalNumber stop
+  unfolding refusalNumber
+  named-calls e = sym (ap refusalNumber e)
+
+  pub named-rest :
+      stop ≢ inputEnded
+      → stop ≢ notATag
+      → stop ≢ outputFull
+      → stop ≢ tooManyCalls
+      → cannotPerform ≡ refusalNumber stop
+  unfolding refusalNumber
+  named-rest a b c d =
+      elim (decLe inputEnded stop) [
+        | no low ↦ let few : stop < inputEnded = omega arith in sym (rw (refusalNumber, lt-leb _ _ few))
+        | yes low ↦ let many : tooManyCalls < stop = omega arith in sym (rw (refusalNumber, le-leb _ _ low, lt-leb _ _ many))
+      ]
+
+pub ruleset named = (named-input, named-tag, named-output, named-calls, named-rest)
+
+-- ---- `number_kept`
+
+module _ (values : List ℕ) (s : Machine) where
+  pub kept-none : s .top ≤ s .base → 0 ≡ numberKept (frameOf values s)
+  unfolding wordsFrom numberKept
+  kept-none low = let none : s .top - s .base ≡ 0 = omega arith in sym (ap (λ n. numberKept (wordsFrom values (s .base) n)) none)
+
+  pub kept-top : s .base < s .top → getD values (s .top - 1) 0 ≡ numberKept (frameOf values s)
+  unfolding numberKept
+  kept-top some = sym (ap numberKept (words-top values (s .base) (s .top) some))
+
+pub ruleset kept = (kept-none, kept-top)
+
+-- ---- `tell`
+
+module _ (values : List ℕ) (units : ℕ) (s : Machine) where
+  pub tells-ended :
+      (number : ℕ)
+      → s .stop ≡ hasEnded
+      → number ≡ numberKept (frameOf values s)
+      → Tells values units s (record { verdict = Passed; units = units + 1; read = s .read; written = s .written; number = number })
+  unfolding dueAt
+  tells-ended number e is = record { tells = rw (dueAt, eq-eqb _ _ e, is) refl }
+
+  pub tells-refused :
+      (why : Refusal)
+      → s .stop ≢ hasEnded
+      → number why ≡ refusalNumber (s .stop)
+      → Tells values units s (record { verdict = Refused why (s .read); units = units; read = s .read; written = s .written; number = 0 })
+  unfolding dueAt
+  tells-refused why h is = record { tells = rw (dueAt, ne-eqb _ _ h, is) refl }
+
+pub ruleset told = (tells-ended, tells-refused)
+
+-- ---- what a stop says of the step
+
+module _ (values places output : List ℕ) (r : Machine) where
+  step-goes : r .stop ≡ goesOn → stepOf values places output r ≡ goes (stateOf values places output r)
+  unfolding stepOf
+  step-goes e = rw (stepOf, eq-eqb _ _ e)
+
+  step-ends : r .stop ≡ hasEnded → stepOf values places output r ≡ ends (numberKept (frameOf values r))
+  unfolding stepOf
+  step-ends e = rw (stepOf, ne-eqb (r .stop) goesOn (λ z. absurd (omega arith)), eq-eqb _ _ e)
+
+  step-refuses : r .stop ≢ goesOn → r .stop ≢ hasEnded → stepOf values places output r ≡ refuses (r .stop)
+  unfolding stepOf
+  step-refuses h g = rw (stepOf, ne-eqb _ _ h, ne-eqb _ _ g)
+
+-- a step's refusal is named by its number
+names-itself : (n : ℕ) → StepRefusal n → refusalNumber n ≡ n
+unfolding refusalNumber
+names-itself n ended-there = refl
+names-itself n no-tag = refl
+names-itself n full = refl
+names-itself n too-many = refl
+names-itself n cannot = refl
+
+-- ---- the steps of the whole run
+
+-- one step more
+led-more : {m : Setting} {past : List ℕ} {s t u : State} → Led m past s t → step m t ≡ goes u → Led m (past ++ (t .address ∷ [])) s u
+led-more {m} {u = u} d =
+    elim d as (λ past s t d. step m t ≡ goes u → Led m (past ++ (t .address ∷ [])) s u) [
+      | here ↦ λ e. on e here
+      | on f (d → h) ↦ λ e. on f (h e)
+    ]
+
+-- where enough work words are lent, a row of steps that stops is the run
+lent-run :
+    (code input output : List ℕ) (fuel values returns : ℕ) (r : Run)
+    → valueWords ≤ values
+    → returnWords ≤ returns
+    → Stops (ofCode code input (length output)) fuel start r
+    → streamRun code input output fuel values returns ≡ ranTo output r
+unfolding streamRun
+lent-run code input output fuel values returns r v p d =
+    rw (streamRun, le-leb _ _ v, le-leb _ _ p) (ap (ranTo output) (sym (runs (ofCode code input (length output)) start .only-one fuel r d)))
+
+-- ---- the output: what is written, and behind it what stood there
+
+output-is :
+    (output output₀ : List ℕ) (w : ℕ)
+    → length output ≡ length output₀
+    → w ≤ length output
+    → drop w output ≡ drop w output₀
+    → output ≡ written output₀ 0 (take w output)
+output-is output output₀ w same fits rest =
+    let front : List ℕ = take w output in
+    let long = length-take-le w output fits in
+    let end : 0 + length front ≡ w = omega arith in
+    let room : 0 + length front ≤ length output₀ = omega arith in
+    let behind : drop (0 + length front) output₀ ≡ drop w output = ap (λ k. drop k output₀) end ∙ sym rest in
+    sym (written-fits output₀ 0 front room ∙ ap (λ (l : List ℕ). front ++ l) behind ∙ take-append-drop w output)
+
+-- what is untouched behind fewer bytes is so behind more
+drop-more : (few many : ℕ) (l k : List ℕ) → few ≤ many → drop few l ≡ drop few k → drop many l ≡ drop many k
+drop-more few many l k h e =
+    let sum : few + (many - few) ≡ many = omega arith in
+    rw (← sum, ← (drop-drop (many - few) few l), ← (drop-drop (many - few) few k)) (ap (drop (many - few)) e)
+
+-- ---- `run`
+
+-- In front of a turn: the machine goes on, so many steps have led to its state, and behind what is written the output is as it was.
+pub record Running (code input : List ℕ) (fuel : ℕ) (output₀ values₀ places₀ output values places : List ℕ) (s : Machine) (units : ℕ) : Type 0 where
+  pub going : s .stop ≡ goesOn
+  pub held : Held (ofCode code input (length output₀)) values places output s
+  pub past : List ℕ
+  pub led : Led (ofCode code input (length output₀)) past start (stateOf values places output s)
+  pub counted : length past ≡ units
+  pub fuelled : units ≤ fuel
+  pub same-values : length values ≡ length values₀
+  pub same-places : length places ≡ length places₀
+  pub same-output : length output ≡ length output₀
+  pub untouched : drop (s .written) output ≡ drop (s .written) output₀
+
+module _ (code input : List ℕ) (fuel : ℕ) (output₀ values₀ places₀ : List ℕ) where
+  abbrev m : Setting
+  m = ofCode code input (length output₀)
+
+  -- what is due at the end
+  abbrev due : Ran
+  due = streamRun code input output₀ fuel (length values₀) (length places₀)
+
+  pub run-first :
+      valueWords ≤ length values₀
+      → returnWords ≤ length places₀
+      → Running code input fuel output₀ values₀ places₀ output₀ values₀ places₀
+      (record { stop = 0; address = 0; top = 0; base = 0; saved = 0; read = 0; written = 0 })
+      0
+  unfolding waiting wordsFrom
+  run-first v p =
+      record {
+        going = refl;
+        held = record {
+          words-limit = refl;
+          calls-limit = refl;
+          space-is = refl;
+          values-lent = v;
+          places-lent = p;
+          based = omega arith;
+          topped = omega arith;
+          saved-fits = omega arith;
+          chained = first;
+          read-there = omega arith;
+          written-there = omega arith;
+        };
+        past = [];
+        led = here;
+        counted = refl;
+        fuelled = omega arith;
+        same-values = refl;
+        same-places = refl;
+        same-output = refl;
+        untouched = refl;
+      }
+
+  module _ (output values places : List ℕ) (s : Machine) (units : ℕ)
+      (h : Running code input fuel output₀ values₀ places₀ output values places s units)
+    where
+      abbrev state : State
+      state = stateOf values places output s
+
+      pub turn-going : Going s
+      turn-going = record { going = h .going; based = h .held .based; topped = h .held .topped }
+
+      pub turn-lent : Lent s input output values places
+      turn-lent = record {
+        values-lent = h .held .values-lent;
+        places-lent = h .held .places-lent;
+        saved-fits = h .held .saved-fits;
+        read-there = h .held .read-there;
+        written-there = h .held .written-there;
+      }
+
+      -- a run that stops here, for whatever reason
+      stops-here :
+          (done : List ℕ) (why : Stop) (output′ values′ places′ : List ℕ) (a : Answer)
+          → Stops m fuel start (record { performed = done; last = state; stop = why })
+          → answered a
+          ≡ record { outcome = outcomeOf why (s .read); units = length done; bytesRead = s .read; bytesWritten = s .written; number = numberOf why }
+          → output′ ≡ output
+          → length values′ ≡ length values
+          → length places′ ≡ length places
+          → Performed due output′ values₀ values′ places₀ places′ a
+      stops-here done why output′ values′ places′ a d told same lv lp =
+          let v : valueWords ≤ length values₀ = omega (arith, h .held .values-lent, h .same-values) in
+          let p : returnWords ≤ length places₀ = omega (arith, h .held .places-lent, h .same-places) in
+          let there = h .held .written-there in
+          let long = length-take-le (s .written) output there in
+          rw (lent-run code input output₀ fuel (length values₀) (length places₀) _ v p d)
+          (record {
+            answer = rw long told;
+            output = same ∙ output-is output output₀ (s .written) (h .same-output) there (h .untouched);
+            values-length = lv ∙ h .same-values;
+            places-length = lp ∙ h .same-places;
+          })
+
+      -- the fuel is used up
+      pub stops-unfuelled :
+          fuel ≤ units
+          → Performed due output values₀ values places₀ places
+          (record { verdict = Refused FuelUsedUp (s .read); units = fuel; read = s .read; written = s .written; number = 0 })
+      unfolding outcomeOf numberOf
+      stops-unfuelled none =
+          let all : length (h .past) ≡ fuel = omega (arith, h .counted, h .fuelled) in
+          stops-here (h .past) (refused fuelUsedUp) output values places _ (used-up (h .led) all) (rw all refl) refl refl refl
+
+      -- after a turn
+      module _ (output′ values′ places′ : List ℕ) (r : Machine) (more : units < fuel)
+          (d : Steps code input values places output values′ places′ output′ s r)
+        where
+          did : Does m (step m state) values places output values′ places′ output′ s r
+          did = d .does m refl refl (h .held)
+
+          pub turned-asks : Fits w64 fuel → (r .top ≤ length values′) × (units + 1 < 2 ^ 64)
+          turned-asks few = let top = did .held .topped in let lent = did .held .values-lent in (omega arith, omega arith)
+
+          pub turned-output : length output′ ≡ length output₀
+          turned-output = did .same-output ∙ h .same-output
+
+          pub turned-values : length values′ ≡ length values₀
+          turned-values = did .same-values ∙ h .same-values
+
+          pub turned-places : length places′ ≡ length places₀
+          turned-places = did .same-places ∙ h .same-places
+
+          counted-more : length (h .past ++ (s .address ∷ [])) ≡ units + 1
+          counted-more = omega (arith, length-append (h .past) (s .address ∷ []), h .counted)
+
+          -- it goes on
+          pub turned-on : r .stop ≡ goesOn → Running code input fuel output₀ values₀ places₀ output′ values′ places′ r (units + 1)
+          turned-on goes-on =
+              let e : step m state ≡ goes (stateOf values′ places′ output′ r) = sym (did .told) ∙ step-goes values′ places′ output′ r goes-on in
+              let grown = one-step m state .grows _ e .writes in
+              let before = length-take-le (s .written) output (h .held .written-there) in
+              let after = length-take-le (r .written) output′ (did .held .written-there) in
+              let both = length-append (take (s .written) output) (grown .rest) in
+              let lengths = ap length (grown .joined) in
+              let more-written : s .written ≤ r .written = omega arith in
+              record {
+                going = goes-on;
+                held = did .held;
+                past = h .past ++ (s .address ∷ []);
+                led = led-more (h .led) e;
+                counted = counted-more;
+                fuelled = omega arith;
+                same-values = turned-values;
+                same-places = turned-places;
+                same-output = turned-output;
+                untouched = did .untouched ∙ drop-more (s .written) (r .written) output output₀ more-written (h .untouched);
+              }
+
+          -- it stops
+          pub turned-stops : (a : Answer) → r .stop ≢ goesOn → Tells values′ units r a → Performed due output′ values₀ values′ places₀ places′ a
+          unfolding outcomeOf numberOf dueAt
+          turned-stops a stops t =
+              let still = did .still stops in
+              let fuel-left : length (h .past) < fuel = omega (arith, h .counted) in
+              elim (decLe (r .stop) hasEnded) [
+                | yes low ↦
+                    let is-end : r .stop ≡ hasEnded = omega arith in
+                    let e : step m state ≡ ends (numberKept (frameOf values′ r)) = sym (did .told) ∙ step-ends values′ places′ output′ r is-end in
+                    stops-here _ _ output′ values′ places′ a (returned (h .led) fuel-left e)
+                    (t .tells ∙ rw (dueAt, eq-eqb _ _ is-end, still .read, still .written, counted-more) refl)
+                    (still .same)
+                    (did .same-values)
+                    (did .same-places)
+                | no high ↦
+                    let no-end : r .stop ≢ hasEnded = λ e. absurd (omega arith) in
+                    let e : step m state ≡ refuses (r .stop) = sym (did .told) ∙ step-refuses values′ places′ output′ r stops no-end in
+                    let own = names-itself (r .stop) (one-step m state .refusals (r .stop) e) in
+                    stops-here _ _ output′ values′ places′ a (stuck (h .led) fuel-left e)
+                    (t .tells ∙ rw (dueAt, ne-eqb _ _ no-end, own, still .read, still .written, h .counted) refl)
+                    (still .same)
+                    (did .same-values)
+                    (did .same-places)
+              ]
+
+pub ruleset running = (run-first, turn-going, turn-lent, turned-output, turned-values, turned-places, turned-on, turned-stops, stops-unfuelled)
+
+-- ---- `perform`
+
+-- value words are missing, or return words
+module _ (code input output : List ℕ) (fuel : ℕ) (values places : List ℕ) (r : Answer) (told : answered r ≡ noneDone) where
+  pub short-values :
+      length values < valueWords
+      → Performed (streamRun code input output fuel (length values) (length places)) output values values places places r
+  unfolding streamRun
+  short-values h =
+      let none : streamRun code input output fuel (length values) (length places) ≡ tooShort output = rw (streamRun, lt-leb _ _ h) in
+      rw none (record { answer = told; output = refl; values-length = refl; places-length = refl })
+
+  pub short-places :
+      valueWords ≤ length values
+      → length places < returnWords
+      → Performed (streamRun code input output fuel (length values) (length places)) output values values places places r
+  unfolding streamRun
+  short-places v h =
+      let none : streamRun code input output fuel (length values) (length places) ≡ tooShort output = rw (streamRun, le-leb _ _ v, lt-leb _ _ h) in
+      rw none (record { answer = told; output = refl; values-length = refl; places-length = refl })
+
+pub ruleset too-short = (short-values, short-places)

@@ -1,0 +1,196 @@
+-- A law for each way out of `step` and `turn`. An opcode names its operation, and what was done on some of the buffers leaves the others; an
+-- address below the limit holds its record, and any other holds none.
+use Prim.Native.Nat.{ℕ, zero, suc, _+_, _*_, _≤_, _<_}
+use mathlib.Core.Bool.{Bool, true, false}
+use mathlib.Core.List.{List, [], _∷_}
+use mathlib.Core.Logic.{_≢_}
+use mathlib.Core.Option.{none, some}
+use mathlib.Core.Path.{_≡_, refl, sym, ap, _∙_}
+use native.Mathlib.Nat.{le-of-suc-le-suc}
+use native.Mathlib.Omega.{arith}
+use borrow.Author.Tests.{lt-ltb, le-leb, lt-leb, ltb-true}
+use lib.Dec.{ltb}
+use lib.ListN.{length}
+use Rattle.formats.specs.Records.{fields, recordAt, nth}
+use Rattle.formats.specs.Refusals.{cannotPerform}
+use Rattle.formats.specs.Tokens.{leafTag, nodeTag}
+use Rattle.meaning.specs.Instructions.{Instruction, instructionBytes, mostInstructions, heldBy, Operation, operations, operationOf}
+use Rattle.meaning.specs.Instructions.{Push, Get, Add, Ifnot, Jump, Slide, Drop, LeafTag, NodeTag, WriteNumber, ReadTag, ReadNumber, Call, Return}
+use Rattle.meaning.specs.Performing.{Setting, State, refuses, operate, perform, step}
+use Rattle.machine.specs.declared.Machine.{Machine}
+use Rattle.machine.specs.Held.{stateOf, Held, Sound, limitOf, stoppedBy, jumpTo}
+use Rattle.machine.specs.Does.{Does, OnNumbers, OnValues, WritesTag, OnOutput, FromInput, OnInput, OnPlaces, FromPlaces, Performs, Steps}
+use Rattle.machine.proofs.Doing.{held-moved, refused-so, goes-so}
+
+-- ---- the operation that an opcode names
+
+performs-named : (m : Setting) (s : State) (i : Instruction) (op : Operation) → operationOf i ≡ some op → perform m s i ≡ operate m s op
+unfolding perform
+performs-named m s i op e = rw (perform, e)
+
+performs-none : (m : Setting) (s : State) (i : Instruction) → operationOf i ≡ none → perform m s i ≡ refuses cannotPerform
+unfolding perform
+performs-none m s i e = rw (perform, e)
+
+-- past the end of a list stands nothing
+none-past : {A : Type 0} (xs : List A) (n : ℕ) → length xs ≤ n → nth xs n ≡ none
+unfolding nth
+none-past [] n h = refl
+none-past (x ∷ xs) zero h = absurd (omega arith)
+none-past (x ∷ xs) (suc n) h = none-past xs n (le-of-suc-le-suc h)
+
+-- one number after the other is left out
+but : (m n : ℕ) → m ≤ n → n ≢ m → suc m ≤ n
+but m n h e = omega arith
+
+-- ---- `step`
+
+module _ (x b o n : ℕ) (input values places output : List ℕ) (s r : Machine) where
+  -- the instruction with these fields leaves these buffers
+  abbrev pub Leaves : (values′ places′ output′ : List ℕ) → Type 0
+  Leaves values′ places′ output′ = Performs (fields x b o n) input values places output values′ places′ output′ s r
+
+  -- the operation at the opcode's place
+  placed : (k : ℕ) → x ≡ k → operationOf (fields x b o n) ≡ nth (operations b o n) k
+  unfolding operationOf
+  placed k e = ap (nth (operations b o n)) e
+
+  -- the instruction does what its operation does
+  as-named :
+      (op : Operation) (values′ places′ output′ : List ℕ)
+      → operationOf (fields x b o n) ≡ some op
+      → ((m : Setting)
+      → m .input ≡ input
+      → Held m values places output s
+      → Does m (operate m (stateOf values places output s) op) values places output values′ places′ output′ s r)
+      → Leaves values′ places′ output′
+  as-named op values′ places′ output′ e d =
+      record { does = λ m i h. rw (performs-named m (stateOf values places output s) _ op e) (d m i h) }
+
+  on-values :
+      (op : Operation) (values′ : List ℕ)
+      → operationOf (fields x b o n) ≡ some op
+      → OnValues op values values′ s r
+      → Leaves values′ places output
+  on-values op values′ e d = as-named op values′ places output e (λ m i h. d .does m places output h)
+
+  pub pushes : (values′ : List ℕ) → x ≡ 0 → OnValues (Push n) values values′ s r → Leaves values′ places output
+  unfolding operations nth
+  pushes values′ e d = on-values (Push n) values′ (placed 0 e) d
+
+  pub gets : (values′ : List ℕ) → x ≡ 1 → OnValues (Get o) values values′ s r → Leaves values′ places output
+  unfolding operations nth
+  gets values′ e d = on-values (Get o) values′ (placed 1 e) d
+
+  pub adds : (values′ : List ℕ) → x ≡ 2 → OnValues Add values values′ s r → Leaves values′ places output
+  unfolding operations nth
+  adds values′ e d = on-values Add values′ (placed 2 e) d
+
+  pub ifnots : x ≡ 3 → OnValues (Ifnot o) values values s r → Leaves values places output
+  unfolding operations nth
+  ifnots e d = on-values (Ifnot o) values (placed 3 e) d
+
+  pub jumps : x ≡ 4 → Sound s → r ≡ jumpTo o s → Leaves values places output
+  unfolding operations nth operate
+  jumps e sound is =
+      as-named (Jump o) values places output (placed 4 e) (λ m i h. rw is
+      (let held =
+      held-moved m values places output values output s o (s .top) (s .read) (s .written) h refl refl
+      (h .based) (h .topped) (h .read-there) (h .written-there) in
+      goes-so m _ values places output values places output s (jumpTo o s) refl (sound .going) held refl refl refl refl))
+
+  pub slides : (values′ : List ℕ) → x ≡ 5 → OnValues Slide values values′ s r → Leaves values′ places output
+  unfolding operations nth
+  slides values′ e d = on-values Slide values′ (placed 5 e) d
+
+  pub drops : x ≡ 6 → OnNumbers Drop s r → Leaves values places output
+  unfolding operations nth
+  drops e d = as-named Drop values places output (placed 6 e) (λ m i h. d .does m values places output h)
+
+  pub writes-leaf : (output′ : List ℕ) → x ≡ 7 → WritesTag leafTag output output′ s r → Leaves values places output′
+  unfolding operations nth operate
+  writes-leaf output′ e d = as-named LeafTag values places output′ (placed 7 e) (λ m i h. d .does m values places h)
+
+  pub writes-node : (output′ : List ℕ) → x ≡ 8 → WritesTag nodeTag output output′ s r → Leaves values places output′
+  unfolding operations nth operate
+  writes-node output′ e d = as-named NodeTag values places output′ (placed 8 e) (λ m i h. d .does m values places h)
+
+  pub writes-number : (output′ : List ℕ) → x ≡ 9 → OnOutput WriteNumber values output output′ s r → Leaves values places output′
+  unfolding operations nth
+  writes-number output′ e d = as-named WriteNumber values places output′ (placed 9 e) (λ m i h. d .does m places h)
+
+  pub reads-tag : x ≡ 10 → OnInput (ReadTag o) input s r → Leaves values places output
+  unfolding operations nth
+  reads-tag e d = as-named (ReadTag o) values places output (placed 10 e) (λ m i h. d .does values .does m places output i h)
+
+  pub reads-number : (values′ : List ℕ) → x ≡ 11 → FromInput ReadNumber input values values′ s r → Leaves values′ places output
+  unfolding operations nth
+  reads-number values′ e d = as-named ReadNumber values′ places output (placed 11 e) (λ m i h. d .does m places output i h)
+
+  pub calls : (places′ : List ℕ) → x ≡ 12 → OnPlaces (Call o b) places places′ s r → Leaves values places′ output
+  unfolding operations nth
+  calls places′ e d = as-named (Call o b) values places′ output (placed 12 e) (λ m i h. d .does m values output h)
+
+  pub returns : (values′ : List ℕ) → x ≡ 13 → FromPlaces (Return b) places values values′ s r → Leaves values′ places output
+  unfolding operations nth
+  returns values′ e d = as-named (Return b) values′ places output (placed 13 e) (λ m i h. d .does m output h)
+
+  -- any other opcode
+  pub names-none :
+      x ≢ 0 → x ≢ 1 → x ≢ 2 → x ≢ 3 → x ≢ 4 → x ≢ 5 → x ≢ 6 → x ≢ 7 → x ≢ 8 → x ≢ 9 → x ≢ 10 → x ≢ 11 → x ≢ 12 → x ≢ 13
+      → r ≡ stoppedBy cannotPerform s
+      → Leaves values places output
+  unfolding operationOf operations
+  names-none n0 n1 n2 n3 n4 n5 n6 n7 n8 n9 n10 n11 n12 n13 is =
+      let from-7 : 7 ≤ x = but 6 x (but 5 x (but 4 x (but 3 x (but 2 x (but 1 x (but 0 x (omega arith) n0) n1) n2) n3) n4) n5) n6 in
+      let from-14 : 14 ≤ x = but 13 x (but 12 x (but 11 x (but 10 x (but 9 x (but 8 x (but 7 x from-7 n7) n8) n9) n10) n11) n12) n13 in
+      let unnamed : operationOf (fields x b o n) ≡ none = none-past (operations b o n) x from-14 in
+      record { does = λ m i h. refused-so m _ values places output s r cannotPerform is (performs-none m _ _ unnamed) (omega arith) h }
+
+-- ---- `turn`
+
+-- an address holds its record exactly where it is below the limit
+there : (code : List ℕ) (a : ℕ) → a < limitOf (length code) → heldBy code a ≡ some (recordAt code a)
+unfolding heldBy
+there code a h = rw (heldBy, lt-ltb a mostInstructions (omega arith), le-leb (instructionBytes * a + instructionBytes) (length code) (omega arith))
+
+not-there : (code : List ℕ) (a : ℕ) → limitOf (length code) ≤ a → heldBy code a ≡ none
+unfolding heldBy
+not-there code a h = by (ltb a mostInstructions) refl
+  where
+    by : (t : Bool) → ltb a mostInstructions ≡ t → heldBy code a ≡ none
+    by true e =
+        let below : a < mostInstructions = ltb-true a mostInstructions e in
+        rw (heldBy, e, lt-leb (instructionBytes * a + instructionBytes) (length code) (omega arith))
+    by false e = rw (heldBy, e)
+
+-- a step performs what the address holds
+steps-held : (m : Setting) (s : State) (i : Instruction) → m .holds (s .address) ≡ some i → step m s ≡ perform m s i
+unfolding step
+steps-held m s i e = rw (step, e)
+
+steps-none : (m : Setting) (s : State) → m .holds (s .address) ≡ none → step m s ≡ refuses cannotPerform
+unfolding step
+steps-none m s e = rw (step, e)
+
+module _ (code input values places output : List ℕ) (limit : ℕ) (s r : Machine) (limited : limit ≡ limitOf (length code)) where
+  pub turns-past : limit ≤ s .address → r ≡ stoppedBy cannotPerform s → Steps code input values places output values places output s r
+  turns-past h is =
+      let none-held : heldBy code (s .address) ≡ none = not-there code (s .address) (omega arith) in
+      record {
+        does = λ m holds i held.
+            refused-so m _ values places output s r cannotPerform is (steps-none m _ (ap (λ f. f (s .address)) holds ∙ none-held)) (omega arith) held;
+      }
+
+  pub turns-there :
+      (i : Instruction) (values′ places′ output′ : List ℕ)
+      → s .address < limit
+      → i ≡ recordAt code (s .address)
+      → Performs i input values places output values′ places′ output′ s r
+      → Steps code input values places output values′ places′ output′ s r
+  turns-there i values′ places′ output′ h fetched performs =
+      let this-held : heldBy code (s .address) ≡ some i = there code (s .address) (omega arith) ∙ ap some (sym fetched) in
+      record {
+        does = λ m holds given held. rw (steps-held m (stateOf values places output s) i (ap (λ f. f (s .address)) holds ∙ this-held))
+            (performs .does m given held);
+      }

@@ -1,0 +1,290 @@
+-- What the operations on the output and the input do: a law for each way out of `write_tag`, `write_number`, `read_tag` and `read_number`.
+use Prim.Native.Nat.{ℕ, suc, _+_, _-_, _≤_, _<_}
+use mathlib.Core.List.{List, [], _∷_}
+use mathlib.Core.Logic.{_≢_}
+use mathlib.Core.Path.{_≡_, refl, ap, _∙_}
+use native.Mathlib.Nat.{add-zero, le-refl}
+use native.Mathlib.Numerals.{add-one}
+use native.Mathlib.Omega.{arith}
+use borrow.Author.Tests.{le-leb, lt-leb, lt-ltb, le-ltb}
+use lib.Dec.{lit<}
+use lib.ListN.{length, getD, set, take, length-set}
+use lib.Seq.{length-take-le}
+use Rattle.formats.specs.Numbers.{bytesOf, numberOf, numberAt}
+use Rattle.formats.specs.Refusals.{inputEnded, notATag, outputFull, cannotPerform}
+use Rattle.formats.specs.Tokens.{leafTag, nodeTag, labelBytes, Tag, ended, aLeaf, aNode, other, tagAt}
+use Rattle.formats.specs.Written.{written}
+use Rattle.formats.proofs.Numbers.{number-read}
+use Rattle.formats.proofs.Tokens.{past, at-leaf, at-node, at-other, tag-is}
+use Rattle.formats.proofs.Written.{front-written, behind-written, written-one, wrote}
+use Rattle.meaning.specs.Instructions.{WriteNumber, ReadTag, ReadNumber}
+use Rattle.meaning.specs.Performing.{Setting, State, Step, goes, refuses, next, holding, writing, standing}
+use Rattle.meaning.specs.Performing.{room, write, byTag, readNumber, operate}
+use Rattle.meaning.specs.Running.{valueWords}
+use Rattle.machine.specs.declared.Machine.{Machine}
+use Rattle.machine.specs.Held.{wordsFrom, frameOf, stateOf, Sound, Held, goesOn, hasEnded, stoppedBy, nextTo, jumpTo}
+use Rattle.machine.specs.Does.{Does, WritesTag, OnOutput, FromInput, OnInput}
+use Rattle.machine.proofs.Frames.{words-pushed, one-missing, one-taken, waiting-kept, all-standing}
+use Rattle.machine.proofs.Doing.{moved, held-moved, refused-so, goes-so}
+
+-- ---- bytes to the output
+
+-- so many bytes are written
+length-out :
+    (m : Setting) (values places output : List ℕ) (s : Machine)
+    → Held m values places output s
+    → length (take (s .written) output) ≡ s .written
+length-out m values places output s h = length-take-le (s .written) output (h .written-there)
+
+-- bytes that do not fit behind those written
+full-so :
+    (m : Setting) (values places output bytes words : List ℕ) (s : Machine)
+    → Held m values places output s
+    → length output < s .written + length bytes
+    → write m bytes (holding words (stateOf values places output s)) ≡ refuses outputFull
+unfolding write
+full-so m values places output bytes words s h full =
+    let over : m .space < length (take (s .written) output) + length bytes = rw (length-out m values places output s h, h .space-is) full in
+    rw (write, lt-leb _ _ over)
+
+-- bytes that fit, the frame's words up to here
+writes-so :
+    (m : Setting) (due : Step) (values places output bytes : List ℕ) (s : Machine) (top : ℕ)
+    → due ≡ write m bytes (holding (wordsFrom values (s .base) (top - s .base)) (stateOf values places output s))
+    → Held m values places output s
+    → s .stop ≡ goesOn
+    → s .base ≤ top
+    → top ≤ s .top
+    → s .written + length bytes ≤ length output
+    → Does m due values places output values places (written output (s .written) bytes) s
+    (moved (s .address + 1) top (s .read) (s .written + length bytes) s)
+unfolding write
+writes-so m due values places output bytes s top e h going based fewer fits =
+    let output′ = written output (s .written) bytes in
+    let keeps = wrote output (s .written) bytes .same-length in
+    let r = moved (s .address + 1) top (s .read) (s .written + length bytes) s in
+    let t = holding (wordsFrom values (s .base) (top - s .base)) (stateOf values places output s) in
+    let inside : length (take (s .written) output) + length bytes ≤ m .space = rw (length-out m values places output s h, h .space-is) fits in
+    let passed : write m bytes t ≡ goes (next (writing bytes t)) = rw (write, le-leb _ _ inside) in
+    let state : goes (next (writing bytes t)) ≡ goes (stateOf values places output′ r) =
+    rw (front-written output (s .written) bytes fits, add-one (s .address)) in
+    goes-so m due values places output values places output′ s r (e ∙ passed ∙ state) going
+    (held-moved m values places output values output′ s _ top _ _ h refl keeps based (omega (arith, h .topped)) (h .read-there) fits)
+    refl refl keeps (behind-written output (s .written) bytes fits)
+
+-- ---- `write_tag`
+
+module _ (tag : ℕ) (output : List ℕ) (s r : Machine) where
+  -- the byte does not fit
+  pub tag-full : length output ≤ s .written → r ≡ stoppedBy outputFull s → WritesTag tag output output s r
+  tag-full full is = record {
+    does = λ m values places h.
+        refused-so m _ values places output s r outputFull is (full-so m values places output (tag ∷ []) _ s h (omega arith)) (lit< tt) h;
+  }
+
+  -- it fits
+  pub tag-fits :
+      s .written < length output
+      → Sound s
+      → r ≡ nextTo (s .top) s
+      → WritesTag tag output (set output (s .written) tag) s (moved (r .address) (r .top) (r .read) (s .written + 1) r)
+  tag-fits fits sound is = record {
+    does = λ m values places h.
+        rw (is, written-one output (s .written) tag fits)
+        (writes-so m _ values places output (tag ∷ []) s (s .top) refl h (sound .going) (sound .based) (le-refl _) (omega arith));
+  }
+
+pub ruleset tags = (tag-full, tag-fits)
+
+-- ---- `write_number`
+
+module _ (values output : List ℕ) (s r : Machine) where
+  -- no word, which comes first
+  pub number-missing : s .top ≤ s .base → r ≡ stoppedBy cannotPerform s → OnOutput WriteNumber values output output s r
+  unfolding operate
+  number-missing none is = record {
+    does = λ m places h.
+        refused-so m _ values places output s r cannotPerform is (one-missing values (s .base) (s .top) _ none) (lit< tt) h;
+  }
+
+  module _ (some : s .base < s .top) where
+    -- the word's bytes do not fit
+    pub number-full :
+        length output - s .written < labelBytes
+        → r ≡ stoppedBy outputFull s
+        → OnOutput WriteNumber values output output s r
+    unfolding operate bytesOf
+    number-full full is = record {
+      does = λ m places h.
+          let bytes = bytesOf labelBytes (getD values (s .top - 1) 0) in
+          let over = full-so m values places output bytes _ s h (omega arith) in
+          refused-so m _ values places output s r outputFull is (one-taken values (s .base) (s .top) _ some ∙ over) (lit< tt) h;
+    }
+
+    -- they fit
+    pub number-fits :
+        (output′ : List ℕ)
+        → labelBytes ≤ length output - s .written
+        → output′ ≡ written output (s .written) (bytesOf labelBytes (getD values (s .top - 1) 0))
+        → Sound s
+        → r ≡ nextTo (s .top - 1) s
+        → OnOutput WriteNumber values output output′ s (moved (r .address) (r .top) (r .read) (s .written + labelBytes) r)
+    unfolding operate bytesOf
+    number-fits output′ fits out sound is = record {
+      does = λ m places h.
+          rw (is, out)
+          (writes-so m _ values places output (bytesOf labelBytes (getD values (s .top - 1) 0)) s (s .top - 1)
+          (one-taken values (s .base) (s .top) _ some) h (sound .going) (omega arith) (omega arith) (omega arith));
+    }
+
+pub ruleset numbers-out = (number-missing, number-full, number-fits)
+
+-- ---- bytes from the input
+
+-- bytes that are there read, the frame's words up to here
+reads-so :
+    (m : Setting) (due : Step) (values values′ places output : List ℕ) (s : Machine) (address top read : ℕ)
+    → due ≡ goes (stateOf values′ places output (moved address top read (s .written) s))
+    → Held m values places output s
+    → s .stop ≡ goesOn
+    → length values′ ≡ length values
+    → s .base ≤ top
+    → top ≤ valueWords
+    → read ≤ length (m .input)
+    → Does m due values places output values′ places output s (moved address top read (s .written) s)
+reads-so m due values values′ places output s address top read e h going lv based topped there =
+    goes-so m due values places output values′ places output s _ e going
+    (held-moved m values places output values′ output s address top read _ h lv refl based topped there (h .written-there))
+    lv refl refl refl
+
+-- ---- `read_tag`
+
+-- on to an address, with a tag read
+abbrev tagRead : ℕ → Machine → Machine
+tagRead to s = moved to (s .top) (s .read + 1) (s .written) s
+
+module _ (address : ℕ) (input : List ℕ) (s r : Machine) where
+  -- by the tag found
+  by-tag : (m : Setting) (t : State) (g : Tag) → m .input ≡ input → tagAt input (t .read) ≡ g → operate m t (ReadTag address) ≡ byTag g address t
+  unfolding operate
+  by-tag m t g e found = ap (λ k. byTag k address t) (ap (λ i. tagAt i (t .read)) e ∙ found)
+
+  -- .. it is refused, whatever the state
+  tag-refused :
+      (g : Tag) (why : ℕ)
+      → tagAt input (s .read) ≡ g
+      → ((t : State) → byTag g address t ≡ refuses why)
+      → hasEnded < why
+      → r ≡ stoppedBy why s
+      → OnInput (ReadTag address) input s r
+  tag-refused g why found refused some is = record {
+    does = λ values. record {
+      does = λ m places output e h. refused-so m _ values places output s r why is (by-tag m _ g e found ∙ refused _) some h;
+    };
+  }
+
+  -- the input has ended; its next byte is no tag; a leaf's; a node's
+  pub tag-ended : length input ≤ s .read → r ≡ stoppedBy inputEnded s → OnInput (ReadTag address) input s r
+  unfolding byTag
+  tag-ended end is = tag-refused ended inputEnded (tag-is (past end)) (λ t. refl) (lit< tt) is
+
+  module _ (there : s .read < length input) where
+    pub tag-other :
+        getD input (s .read) 0 ≢ leafTag
+        → getD input (s .read) 0 ≢ nodeTag
+        → r ≡ stoppedBy notATag s
+        → OnInput (ReadTag address) input s r
+    unfolding byTag
+    tag-other no-leaf no-node is = tag-refused other notATag (tag-is (at-other there no-leaf no-node)) (λ t. refl) (lit< tt) is
+
+    -- .. it goes on, to an address
+    tag-goes :
+        (g : Tag) (to : ℕ)
+        → tagAt input (s .read) ≡ g
+        → ((values places output : List ℕ) → byTag g address (stateOf values places output s) ≡ goes (stateOf values places output (tagRead to s)))
+        → Sound s
+        → OnInput (ReadTag address) input s (tagRead to s)
+    tag-goes g to found gone sound = record {
+      does = λ values. record {
+        does = λ m places output e h.
+            reads-so m _ values values places output s to (s .top) (s .read + 1) (by-tag m _ g e found ∙ gone values places output) h
+            (sound .going) refl (h .based) (h .topped) (rw e (omega arith));
+      };
+    }
+
+    pub tag-leaf :
+        getD input (s .read) 0 ≡ leafTag
+        → Sound s
+        → r ≡ nextTo (s .top) s
+        → OnInput (ReadTag address) input s (moved (r .address) (r .top) (s .read + 1) (r .written) r)
+    unfolding byTag
+    tag-leaf leaf sound is =
+        rw is (tag-goes aLeaf (s .address + 1) (tag-is (at-leaf there leaf)) (λ values places output. rw (byTag, add-one (s .address))) sound)
+
+    pub tag-node :
+        (q : Machine)
+        → getD input (s .read) 0 ≡ nodeTag
+        → Sound s
+        → q ≡ nextTo (s .top) s
+        → r ≡ jumpTo address (moved (q .address) (q .top) (s .read + 1) (q .written) q)
+        → OnInput (ReadTag address) input s r
+    unfolding byTag
+    tag-node q node sound is jumped =
+        rw (jumped, is) (tag-goes aNode address (tag-is (at-node there node)) (λ values places output. refl) sound)
+
+pub ruleset tags-in = (tag-ended, tag-other, tag-leaf, tag-node)
+
+-- ---- `read_number`
+
+module _ (input values : List ℕ) (s r : Machine) where
+  -- no room, which comes first
+  pub number-surplus : valueWords ≤ s .top → r ≡ stoppedBy cannotPerform s → FromInput ReadNumber input values values s r
+  unfolding operate room
+  number-surplus surplus is = record {
+    does = λ m places output e h.
+        let full : m .mostWords ≤ standing (stateOf values places output s) =
+        rw (h .words-limit, all-standing values places output s (h .chained) (h .based)) surplus in
+        refused-so m _ values places output s r cannotPerform is (rw (operate, room, le-ltb _ _ full)) (lit< tt) h;
+  }
+
+  module _ (more : s .top < valueWords) where
+    -- there is room for the word
+    roomy : (m : Setting) (places output : List ℕ) → Held m values places output s → standing (stateOf values places output s) < m .mostWords
+    roomy m places output h = rw (h .words-limit, all-standing values places output s (h .chained) (h .based)) more
+
+    -- the four bytes are not there
+    pub number-ended : length input - s .read < labelBytes → r ≡ stoppedBy inputEnded s → FromInput ReadNumber input values values s r
+    unfolding operate room readNumber
+    number-ended end is = record {
+      does = λ m places output e h.
+          let cut : length (m .input) < s .read + labelBytes = rw e (omega arith) in
+          refused-so m _ values places output s r inputEnded is
+          (rw (operate, room, lt-ltb _ _ (roomy m places output h), readNumber, lt-leb _ _ cut)) (lit< tt) h;
+    }
+
+    -- they are, and their number is set on top
+    pub number-there :
+        (x : ℕ)
+        → labelBytes ≤ length input - s .read
+        → x ≡ numberOf (getD input (s .read) 0 ∷ getD input (s .read + 1) 0 ∷ getD input (s .read + 2) 0 ∷ getD input (s .read + 3) 0 ∷ [])
+        → Sound s
+        → r ≡ nextTo (s .top + 1) s
+        → FromInput ReadNumber input values (set values (s .top) x) s (moved (r .address) (r .top) (s .read + labelBytes) (r .written) r)
+    unfolding operate room readNumber
+    number-there x whole is-x sound is = record {
+      does = λ m places output e h.
+          let there : s .read + labelBytes ≤ length (m .input) = rw e (omega arith) in
+          let number : x ≡ numberAt labelBytes input (s .read) =
+          number-read labelBytes input (s .read) _ x (omega arith) (omega arith) is-x (rw add-zero) in
+          let count : s .top + 1 - s .base ≡ suc (s .top - s .base) = omega (arith, h .based) in
+          let pushed : wordsFrom (set values (s .top) x) (s .base) (s .top + 1 - s .base) ≡ x ∷ frameOf values s =
+          ap (wordsFrom (set values (s .top) x) (s .base)) count
+          ∙ words-pushed values (s .base) (s .top - s .base) (s .top) x (omega (arith, h .values-lent)) (omega (arith, h .based)) in
+          let kept = waiting-kept values places (s .base) (s .saved) (s .top) x (h .chained) (h .based) in
+          rw is
+          (reads-so m _ values (set values (s .top) x) places output s (s .address + 1) (s .top + 1) (s .read + labelBytes)
+          (rw (operate, room, lt-ltb _ _ (roomy m places output h), readNumber, le-leb _ _ there, e, ← number, pushed, kept, add-one (s .address)))
+          h (sound .going) (length-set values (s .top) x) (omega (arith, h .based)) (omega arith) there);
+    }
+
+pub ruleset numbers-in = (number-surplus, number-ended, number-there)

@@ -1,0 +1,22 @@
+-- `machine::add` meets its contract. Where the frame hasn't two words it is refused; else their sum is set in the place of the lower one, and is the
+-- top.
+use borrow.Author.Needs.{needs}
+use Rattle.machine.proofs.StackLaws.{adds}
+use Rattle.machine.proofs.add.Statement.{statement}
+use Rattle.machine.proofs.add.Tie as tie
+
+pub add-spec : {M : Type 1} → statement M
+add-spec =
+    tie.close
+    (tie.spec
+    -- words missing
+    (λ c. search needs) (λ c κs. search needs)
+    (λ c. search adds)
+    -- the two words read, and their sum
+    (λ c. search needs) (λ c. search needs) (λ c. search needs)
+    (λ c. search needs) (λ c. search needs) (λ c. search needs)
+    (λ c κs. search needs)
+    -- the sum set, and the machine on top of it
+    (λ c. search needs) (λ c. search needs) (λ c. search needs)
+    (λ c. search needs) (λ c κs. search needs) (λ c. search needs)
+    (λ c. search adds))

@@ -1,0 +1,48 @@
+-- What the machine's answers tell.
+use Prim.Native.Nat.{ℕ, _+_}
+use mathlib.Core.Bool.{true, false, _&&_}
+use mathlib.Core.List.{List}
+use mathlib.Core.Path.{_≡_}
+use lib.Dec.{eqb, leb}
+use lib.ListN.{length}
+use Rattle.formats.specs.Refusals.{spaceTooShort, inputEnded, tooManyCalls, cannotPerform}
+use Rattle.formats.specs.Results.{done, refusal}
+use Rattle.refusal.specs.Said.{said}
+use Rattle.meaning.specs.Performing.{numberKept}
+use Rattle.meaning.specs.Running.{Ran, Answer as Due}
+use Rattle.machine.specs.Held.{frameOf, hasEnded}
+use Rattle.machine.specs.declared.Machine.{Machine}
+use Rattle.machine.specs.declared.Answer.{Answer}
+
+-- The answer, as document 01 has it.
+abbrev pub answered : Answer → Due
+answered a =
+    record { outcome = said (a .verdict); units = a .units; bytesRead = a .read; bytesWritten = a .written; number = a .number }
+
+-- The refusal that a stop's number names: 15 to 18, else 19.
+unfoldable pub refusalNumber : ℕ → ℕ
+refusalNumber stop = elim (leb inputEnded stop && leb stop tooManyCalls) [ true ↦ stop | false ↦ cannotPerform ]
+
+-- The answer of a run that stops with these numbers, so many units before: the return of the first frame is one more.
+unfoldable pub dueAt : List ℕ → ℕ → Machine → Due
+dueAt values units s =
+    elim (eqb (s .stop) hasEnded) [
+      | true ↦
+          record { outcome = done tt; units = units + 1; bytesRead = s .read; bytesWritten = s .written; number = numberKept (frameOf values s) }
+      | false ↦
+          record { outcome = refusal (refusalNumber (s .stop)) (s .read); units = units; bytesRead = s .read; bytesWritten = s .written; number = 0 }
+    ]
+
+pub record Tells (values : List ℕ) (units : ℕ) (s : Machine) (r : Answer) : Type 0 where
+  pub tells : answered r ≡ dueAt values units s
+
+-- 01: "A run refused before its first instruction .. answers 0 in every count."
+abbrev pub noneDone : Due
+noneDone = record { outcome = refusal spaceTooShort 0; units = 0; bytesRead = 0; bytesWritten = 0; number = 0 }
+
+-- A call of the stream run: its answer, every byte of the output, and the lengths of the work words, which are otherwise free.
+pub record Performed (due : Ran) (output′ values values′ places places′ : List ℕ) (r : Answer) : Type 0 where
+  pub answer : answered r ≡ due .answer
+  pub output : output′ ≡ due .output
+  pub values-length : length values′ ≡ length values
+  pub places-length : length places′ ≡ length places

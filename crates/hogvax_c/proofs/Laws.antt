@@ -16,7 +16,13 @@ use Rattle.tree.specs.Answer.{answered as treeAnswered}
 use Rattle.tree.specs.declared.TreeAnswer.{TreeAnswer}
 use Rattle.answers.specs.Answer.{answerPlaces, Answers}
 use Rattle.answers.proofs.Laws.{too-few}
+use Rattle.meaning.specs.Running.{Ran}
+use Rattle.machine.specs.declared.Answer.{Answer}
+use Rattle.machine.specs.Told.{answered as runAnswered, Performed}
+use Rattle.run_answers.specs.RunAnswer.{runPlaces, Answers as RunAnswers}
+use Rattle.run_answers.proofs.Laws.{run-too-few}
 use Rattle.hogvax_c.specs.Fills.{Fills}
+use Rattle.hogvax_c.specs.Runs.{Runs}
 
 -- ---- the tree reader
 
@@ -45,3 +51,35 @@ module _ (due : Result (List ℕ)) (buffer before : List ℕ) (r : ℕ) (room : 
       record { answers = rw (← (put .answer)) a; holds = rw (le-ltb _ _ h) (put .buffer) }
 
 pub ruleset call-ways = (not-filled, put-told)
+
+-- ---- the stream run
+
+module _ (due : Ran) (output values returns before : List ℕ) (r : ℕ) (room : Bool) (test : room ≡ leb runPlaces (length before)) where
+  -- too few places: nothing is run
+  pub not-run : not room ≡ true → r ≡ spaceTooShort → Runs due output output values values returns returns before before r
+  not-run u e =
+      let h = leb-false runPlaces (length before) (sym test ∙ not-true room u) in
+      record {
+        answers = run-too-few (due .answer) before r h e;
+        holds = rw (lt-ltb _ _ h) refl;
+        values-length = refl;
+        returns-length = refl;
+      }
+
+  -- what was run is told
+  pub run-told :
+      (output′ values′ returns′ after : List ℕ) (ran : Answer)
+      → not room ≡ false
+      → Performed due output′ values values′ returns returns′ ran
+      → RunAnswers (runAnswered ran) before after r
+      → Runs due output output′ values values′ returns returns′ before after r
+  run-told output′ values′ returns′ after ran u p a =
+      let h = leb-true runPlaces (length before) (sym test ∙ not-false room u) in
+      record {
+        answers = rw (← (p .answer)) a;
+        holds = rw (le-ltb _ _ h) (p .output);
+        values-length = p .values-length;
+        returns-length = p .places-length;
+      }
+
+pub ruleset run-ways = (not-run, run-told)

@@ -7,7 +7,9 @@ ghost use Rattle.formats.specs.Results.{onValue};
 ghost use Rattle.formats.specs.Tokens.{firstEnd, firstTree, ownBytes};
 ghost use Rattle.rules.specs.PassTwo.{checkRecords, checkFile};
 ghost use Rattle.answers.specs.Answer.{Answers};
+ghost use Rattle.meaning.specs.Running.{streamRun};
 ghost use Rattle.hogvax_c.specs.Fills.{Fills};
+ghost use Rattle.hogvax_c.specs.Runs.{Runs};
 
 // The length of the first tree's own bytes, which begin the input; 0 on a refusal.
 #[no_mangle]
@@ -68,4 +70,26 @@ pub extern "C" fn hogvax_check_records(flat: &[u8], answer: &mut [u64]) -> u32
     ensures { λ r. ⌜ Answers (onValue (λ u. 0) (checkRecords (now (flat .entry)))) (now (answer .entry)) (now (answer .exit)) r ⌝ }
 {
     answers::tell_verdict(pass_two::check_order(flat), answer)
+}
+
+// The stream run of any code. The refusal's number, 0 where the run ended; the refusal's place, units, bytes read, bytes written and the number go
+// to the answer's first five places. What the run wrote stays in `output`, and the rest is untouched. Fewer than 16,384 `values` or 2,048 `returns`:
+// 13; what they hold after a run is free. With fewer than five places in `answer`: 13, and all buffers are untouched.
+#[no_mangle]
+pub extern "C" fn hogvax_perform(
+    code: &[u8],
+    input: &[u8],
+    fuel: u64,
+    output: &mut [u8],
+    values: &mut [u32],
+    returns: &mut [u64],
+    answer: &mut [u64],
+) -> u32
+    ensures { λ r. ⌜ Runs (streamRun (now (code .entry)) (now (input .entry)) (now (output .entry)) fuel (length (now (values .entry))) (length (now (returns .entry)))) (now (output .entry)) (now (output .exit)) (now (values .entry)) (now (values .exit)) (now (returns .entry)) (now (returns .exit)) (now (answer .entry)) (now (answer .exit)) r ⌝ }
+{
+    if !run_answers::has_room(answer) {
+        return refusal::number_of(Refusal::SpaceTooShort);
+    }
+    let ran = machine::perform(code, input, fuel, output, values, returns);
+    run_answers::tell_run(ran, answer)
 }

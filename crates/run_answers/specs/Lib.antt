@@ -1,0 +1,2 @@
+-- What a stream run answers.
+pub mod RunAnswer

@@ -1,0 +1,46 @@
+// The answer of a stream run from C or Rust: a number, and the first places of an array that the caller lends.
+use machine::Answer;
+use refusal::Refusal;
+use refusal::Verdict;
+ghost use mathlib.Core.Path.{_≡_};
+ghost use lib.Dec.{leb};
+ghost use lib.ListN.{length};
+ghost use Rattle.machine.specs.Told.{answered};
+ghost use Rattle.run_answers.specs.RunAnswer.{runPlaces, Stores, Answers};
+
+// How many places an answer takes.
+const RUN_PLACES: usize = 5;
+
+// Whether so many places are lent.
+pub fn has_room(answer: &[u64]) -> bool
+    ensures { λ r. ⌜ r ≡ leb runPlaces (length (now (answer .entry))) ⌝ }
+{
+    RUN_PLACES <= answer.len()
+}
+
+// Stores a refusal's place, units, bytes read, bytes written and the number as the answer's first places, and gives the refusal's number. With
+// fewer places: 13, and the answer is untouched.
+fn store(ran: Answer, number: u32, place: usize, answer: &mut [u64]) -> u32
+    ensures { λ r. ⌜ Stores (answered ran) number place (now (answer .entry)) (now (answer .exit)) r ⌝ }
+{
+    if answer.len() < RUN_PLACES {
+        return refusal::number_of(Refusal::SpaceTooShort);
+    }
+    answer[0] = place as u64;
+    answer[1] = ran.units;
+    answer[2] = ran.read as u64;
+    answer[3] = ran.written as u64;
+    answer[4] = ran.number as u64;
+    number
+}
+
+// The answer of a stream run.
+pub fn tell_run(ran: Answer, answer: &mut [u64]) -> u32
+    ensures { λ r. ⌜ Answers (answered ran) (now (answer .entry)) (now (answer .exit)) r ⌝ }
+{
+    let verdict = ran.verdict;
+    match verdict {
+        Verdict::Passed => store(ran, 0, 0, answer),
+        Verdict::Refused(why, place) => store(ran, refusal::number_of(why), place, answer),
+    }
+}

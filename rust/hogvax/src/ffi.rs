@@ -35,6 +35,22 @@ extern "C" {
         answer: *mut u64,
         answer_len: usize,
     ) -> u32;
+
+    fn hogvax_perform(
+        code: *const u8,
+        code_len: usize,
+        input: *const u8,
+        input_len: usize,
+        fuel: u64,
+        output: *mut u8,
+        output_len: usize,
+        values: *mut u32,
+        values_len: usize,
+        returns: *mut u64,
+        returns_len: usize,
+        answer: *mut u64,
+        answer_len: usize,
+    ) -> u32;
 }
 
 /// A call that reads its first slice and answers in its second.
@@ -79,6 +95,37 @@ pub fn check(file: &[u8], answer: &mut [u64]) -> u32 {
 pub fn check_records(records: &[u8], answer: &mut [u64]) -> u32 {
     // SAFETY: the library exports this call.
     unsafe { ask(hogvax_check_records, records, answer) }
+}
+
+/// The stream run of this code over this input; see `perform_into`.
+pub fn perform(
+    code: &[u8],
+    input: &[u8],
+    fuel: u64,
+    output: &mut [u8],
+    values: &mut [u32],
+    returns: &mut [u64],
+    answer: &mut [u64],
+) -> u32 {
+    // SAFETY: pointers and lengths are those of one slice each, and the
+    // slices written are borrowed mutably.
+    unsafe {
+        hogvax_perform(
+            code.as_ptr(),
+            code.len(),
+            input.as_ptr(),
+            input.len(),
+            fuel,
+            output.as_mut_ptr(),
+            output.len(),
+            values.as_mut_ptr(),
+            values.len(),
+            returns.as_mut_ptr(),
+            returns.len(),
+            answer.as_mut_ptr(),
+            answer.len(),
+        )
+    }
 }
 
 /// Lends the two slices to a call.

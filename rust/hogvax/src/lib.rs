@@ -10,17 +10,20 @@ use std::fmt;
 
 #[allow(unsafe_code)]
 mod ffi;
+mod machine;
 mod order;
 mod program;
 mod tree;
 
+pub use machine::{perform, perform_in, perform_into, Ran, WorkSpace, LONGEST_CODE};
 pub use order::{check, check_into, check_records, check_records_into};
 pub use program::{pack, pack_into, unpack, unpack_into, LONGEST_FILE, LONGEST_RECORDS};
 pub use tree::{first_tree, tree, tree_into};
 
 /// A refusal: its number in document 01's table, and its place. What the
 /// place counts depends on the number: the tree reader's is a byte of the
-/// input, a program file's is a block or a record.
+/// input, a program file's is a block or a record, a stream run's is the bytes
+/// read.
 #[derive(Clone, Copy, Debug, PartialEq, Eq)]
 pub struct Refused {
     pub number: u32,

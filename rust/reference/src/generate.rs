@@ -5,6 +5,7 @@ use crate::random::Random;
 use crate::tree::{Token, Tree};
 
 pub mod bodies;
+pub mod code;
 pub mod file_damage;
 pub mod order_damage;
 pub mod ordered;

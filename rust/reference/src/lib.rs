@@ -1,16 +1,21 @@
 //! Reference implementation for tests: trees, their tokens, the tree reader,
-//! programs, their records and program files, and the order checker, with
-//! generators of random inputs.
+//! programs, their records and program files, the order checker, and the
+//! stream run, with generators of random inputs.
 
 #![forbid(unsafe_code)]
 
 pub mod generate;
+pub mod machine;
 mod message;
 pub mod order;
 pub mod program;
 pub mod random;
 pub mod tree;
 
+pub use machine::{
+    assemble, instruction_at, perform, perform_traced, Cause, Instruction, Mark, Ran, Stop,
+    TestCase, Trace,
+};
 pub use message::shown;
 pub use order::{check, check_program, check_records, Fault, Found};
 pub use program::{

@@ -10,6 +10,7 @@ use crate::words::Words;
 pub const VERB: Verb = Verb {
     name: "check",
     operands: "[FILE]",
+    options: "",
     summary: "whether a program takes its trees in order",
     description: "\
 Reads a program file and prints 'passed' if its program names, types and orders

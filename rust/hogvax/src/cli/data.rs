@@ -7,7 +7,7 @@ use hogvax::Refused;
 
 use crate::outcome::{Ended, Outcome};
 use crate::streams;
-use crate::words::Words;
+use crate::words::{Takes, Words};
 
 /// The option that names a file for the data.
 pub const OUT: &str = "--out";
@@ -30,6 +30,12 @@ pub fn refuse(line: &str) -> Outcome {
     Ok(Ended::Refused)
 }
 
+/// Writes the data that came before a refusal, then tells it.
+pub fn refuse_after(data: &[u8], out: &OsStr, line: &str) -> Outcome {
+    streams::write(out, data)?;
+    refuse(line)
+}
+
 /// A verb that turns the bytes of one file into others.
 pub struct Conversion {
     pub convert: fn(&[u8]) -> Result<Vec<u8>, Refused>,
@@ -43,7 +49,7 @@ pub struct Conversion {
 impl Conversion {
     /// Takes the words that follow the verb: `[FILE] [--out FILE]`.
     pub fn run(&self, words: &[OsString]) -> Option<Outcome> {
-        let words = Words::sort(words, &[OUT])?;
+        let words = Words::sort(words, &[(OUT, Takes::File)])?;
         let file = words.one_file()?;
         Some(self.convert_file(file, destination(&words)))
     }

@@ -9,6 +9,7 @@ use crate::verbs::{self, Verb, VERBS};
 pub const VERB: Verb = Verb {
     name: "help",
     operands: "[VERB]",
+    options: "",
     summary: "the verbs, or one verb with an example",
     description: "\
 Lists the verbs, or describes one.
@@ -18,6 +19,9 @@ Example:
 ",
     run,
 };
+
+/// The length of the longest line.
+const COLUMNS: usize = 80;
 
 fn run(operands: &[OsString]) -> Option<Outcome> {
     match operands {
@@ -36,9 +40,10 @@ pub fn list() -> Outcome {
         text += &format!("  {:<width$}{}\n", verb.call(), verb.summary);
     }
     text += "
-FILE may be '-' or left out: then standard input is read. A verb with --out
-writes data, to that file or, if it is '-' or left out, to standard output; its
-answer goes to standard error.
+FILE may be '-' or left out: then standard input is read. Verbs that write data,
+pack, unpack and perform, write it into the file of --out or, if that is '-' or
+left out, to standard output; their answer goes to standard error.
+'hogvax help VERB' shows a verb's options.
 Exit status: 0 done; 1 refused; 2 wrong usage, or a file that can't be read or
 written.
 ";
@@ -48,7 +53,18 @@ written.
 
 /// Prints all that is said of one verb.
 pub fn describe(verb: &Verb) -> Outcome {
-    let call = verb.call();
-    streams::print(&format!("hogvax {call}\n\n{}", verb.description))?;
+    let usage = heading(verb);
+    streams::print(&format!("{usage}\n\n{}", verb.description))?;
     Ok(Ended::Done)
+}
+
+/// How a verb is called, its options on a line of their own where one line is
+/// too long.
+fn heading(verb: &Verb) -> String {
+    let usage = verb.usage();
+    if usage.len() <= COLUMNS {
+        return usage;
+    }
+    let indent = "hogvax ".len() + verb.name.len() + 1;
+    format!("hogvax {}\n{:indent$}{}", verb.call(), "", verb.options)
 }

@@ -7,7 +7,9 @@ mod data;
 mod help;
 mod outcome;
 mod pack;
+mod perform;
 mod refusals;
+mod space;
 mod streams;
 mod tree;
 mod unpack;
@@ -24,7 +26,7 @@ use outcome::{Ended, Trouble};
 
 fn main() -> ExitCode {
     let words: Vec<OsString> = env::args_os().skip(1).collect();
-    match verbs::perform(&words) {
+    match verbs::run(&words) {
         Ok(Ended::Done) => ExitCode::SUCCESS,
         Ok(Ended::Refused) => ExitCode::from(1),
         Err(Trouble(message)) => {

@@ -8,7 +8,8 @@ use crate::verbs::Verb;
 
 pub const VERB: Verb = Verb {
     name: "pack",
-    operands: "[FILE] [--out FILE]",
+    operands: "[FILE]",
+    options: "[--out FILE]",
     summary: "the program file of a program's records",
     description: "\
 Reads the records of a program, 8 bytes each, and writes its program file, in

@@ -7,7 +7,8 @@ pub struct Refusal {
     pub meaning: &'static str,
     /// What the place counts.
     pub place: &'static str,
-    /// An input that is refused so, and the line that tells it.
+    /// An input that is refused so, and the line that tells it. Where a line
+    /// with a command stands before it, that command prints it.
     pub example: &'static str,
 }
 
@@ -164,61 +165,75 @@ Const 1 as the last node part:
         name: "lent space",
         meaning: "\
 A buffer that the caller lends for code, for a file, for records, for work
-words or for the answer is shorter than the call needs. This command lends
-enough; a program that calls the library may meet it.",
+words or for the answer is shorter than the call needs. A run always needs
+16,384 value words and 2,048 return words. This command lends enough; a program
+that calls the library may meet it.",
         place: "always 0.",
         example: "\
-a code buffer of 96 bytes for 13 instructions, which take 104:
-  refused 13 0",
+a stream run that is lent 16,383 value words:
+  refused 13 0 units 0 read 0 written 0 number 0",
     },
     Refusal {
         number: 14,
         name: "fuel used up",
         meaning: "\
 The run is not at its end, and its fuel is spent. The stream run spends a unit
-on each instruction performed, the source run on each expression begun.",
+on each instruction performed, the source run on each expression begun; before
+each, the fuel is looked at first.",
         place: "in the stream run the bytes read, in the source run 0.",
         example: "\
 document 01's program Grow on its tree T, a stream run of 25 units,
 with fuel 24:
-  refused 14 11",
+  $ ./hogvax perform samples/code/grow.code samples/small.tokens --fuel 24
+  refused 14 11 units 24 read 11 written 11 number 0",
     },
     Refusal {
         number: 15,
         name: "input ended",
         meaning: "\
-The input ends before the tree does: a tag is missing, or a label has fewer
-than 4 bytes.",
+The input ends where a tag is to be read, or fewer than 4 bytes are left where
+a label is. The tree reader reads to the end of one tree, a stream run as far
+as its code goes.",
         place: "\
 the byte at which that tag or label begins, counted from 0; in the
 stream run this is the bytes read.",
         example: "\
-the input 01 05 00 00, a leaf whose label has 3 bytes:
-  refused 15 1",
+the input 01 05 00 00, a leaf whose label has 3 bytes, for the tree
+reader and in a stream run:
+  $ printf '\\1\\5\\0\\0' | ./hogvax tree
+  refused 15 1
+  $ printf '\\1\\5\\0\\0' | ./hogvax perform samples/code/grow.code --fuel 25
+  refused 15 1 units 1 read 1 written 0 number 0",
     },
     Refusal {
         number: 16,
         name: "byte not 1 or 2",
         meaning: "\
-A tag is expected, 1 for a leaf or 2 for a node, and another byte stands there.",
+A tag is to be read, 1 for a leaf or 2 for a node, and another byte stands
+there.",
         place: "\
 that byte, counted from 0; in the stream run this is the bytes read.",
         example: "\
-the input 03:
-  refused 16 0",
+the input 03, for the tree reader and in a stream run:
+  $ printf '\\3' | ./hogvax tree
+  refused 16 0
+  $ printf '\\3' | ./hogvax perform samples/code/grow.code --fuel 25
+  refused 16 0 units 0 read 0 written 0 number 0",
     },
     Refusal {
         number: 17,
         name: "output full",
         meaning: "\
 In the stream run the output has no room for the next tag or label; what was
-written before stays. In the source run the output is shorter than the result;
-nothing is written.",
+written before stays, and 'perform --partial' hands it out. In the source run
+the output is shorter than the result; nothing is written.",
         place: "in the stream run the bytes read, in the source run 0.",
         example: "\
 document 01's program Grow on its tree T, a stream run with an output
 of 10 bytes, of which it writes 7:
-  refused 17 11",
+  $ ./hogvax perform samples/code/grow.code samples/small.tokens \\
+    --fuel 25 --space 10
+  refused 17 11 units 20 read 11 written 7 number 0",
     },
     Refusal {
         number: 18,
@@ -227,8 +242,11 @@ of 10 bytes, of which it writes 7:
 A call is to be made and 1,024 are open, the run's own first one counted.",
         place: "in the stream run the bytes read, in the source run 0.",
         example: "\
-one function, whose only node is Call 0 on 0, fuel 1,024:
-  refused 18 0",
+one function, whose only node is Call 0 on 0, a stream run with fuel
+1,024; its first instruction calls address 0 again and again:
+  $ printf '\\14\\0\\0\\0\\0\\0\\0\\0' |
+    ./hogvax perform - samples/small.tokens --fuel 1024
+  refused 18 0 units 1023 read 0 written 0 number 0",
     },
     Refusal {
         number: 19,
@@ -236,12 +254,13 @@ one function, whose only node is Call 0 on 0, fuel 1,024:
         meaning: "\
 An opcode is above 13; an address is above 4,127 or has no 8 whole bytes of
 code; a return's byte 1 is not 0 or 1; words are missing above the frame's
-base; or more than 16,384 words would stand. Only a stream run of code that the
-translator did not make meets it.",
+base; or more than 16,384 words would stand. It comes before 15 to 18. Only a
+stream run of code that the translator did not make meets it.",
         place: "the bytes read.",
         example: "\
 an empty code buffer, fuel 1:
-  refused 19 0",
+  $ printf '' | ./hogvax perform - samples/small.tokens --fuel 1
+  refused 19 0 units 0 read 0 written 0 number 0",
     },
     Refusal {
         number: 20,

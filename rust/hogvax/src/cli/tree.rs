@@ -10,6 +10,7 @@ use crate::words::Words;
 pub const VERB: Verb = Verb {
     name: "tree",
     operands: "[FILE]",
+    options: "",
     summary: "the length of the tree that begins a token file",
     description: "\
 Reads token bytes and prints 'tree BYTES', the length of the tree that begins

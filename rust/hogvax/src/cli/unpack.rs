@@ -8,7 +8,8 @@ use crate::verbs::Verb;
 
 pub const VERB: Verb = Verb {
     name: "unpack",
-    operands: "[FILE] [--out FILE]",
+    operands: "[FILE]",
+    options: "[--out FILE]",
     summary: "the records of a program file",
     description: "\
 Reads a program file and writes its records, 8 bytes each, to standard output

@@ -6,6 +6,7 @@ use crate::check;
 use crate::help;
 use crate::outcome::{Outcome, Trouble};
 use crate::pack;
+use crate::perform;
 use crate::tree;
 use crate::unpack;
 use crate::why;
@@ -13,7 +14,10 @@ use crate::why;
 /// A verb of the command line. A new one is a line of `VERBS` and a module.
 pub struct Verb {
     pub name: &'static str,
+    /// What it needs, and files that may be left out.
     pub operands: &'static str,
+    /// What else it takes.
+    pub options: &'static str,
     /// What it does, in a few words, for the list of verbs.
     pub summary: &'static str,
     /// What it does, with an example.
@@ -29,6 +33,7 @@ pub const VERBS: &[Verb] = &[
     pack::VERB,
     unpack::VERB,
     check::VERB,
+    perform::VERB,
     why::VERB,
     help::VERB,
 ];
@@ -37,6 +42,12 @@ impl Verb {
     /// How it is called: its name and its operands.
     pub fn call(&self) -> String {
         format!("{} {}", self.name, self.operands)
+    }
+
+    /// How the program is called with it, options included.
+    pub fn usage(&self) -> String {
+        let usage = format!("hogvax {} {}", self.call(), self.options);
+        usage.trim_end().to_owned()
     }
 }
 
@@ -51,8 +62,8 @@ fn asks_for_help(word: &OsString) -> bool {
     word == "--help" || word == "-h"
 }
 
-/// Performs the command line's words, the program's name aside.
-pub fn perform(words: &[OsString]) -> Outcome {
+/// Does what the command line's words say, the program's name aside.
+pub fn run(words: &[OsString]) -> Outcome {
     let Some((name, operands)) = words.split_first() else {
         return help::list();
     };
@@ -65,6 +76,6 @@ pub fn perform(words: &[OsString]) -> Outcome {
     }
     match (verb.run)(operands) {
         Some(outcome) => outcome,
-        None => Err(Trouble(format!("usage: hogvax {}", verb.call()))),
+        None => Err(Trouble(format!("usage: {}", verb.usage()))),
     }
 }

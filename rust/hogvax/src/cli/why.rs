@@ -6,10 +6,12 @@ use crate::outcome::{Ended, Outcome, Trouble};
 use crate::refusals::{Refusal, REFUSALS};
 use crate::streams;
 use crate::verbs::Verb;
+use crate::words;
 
 pub const VERB: Verb = Verb {
     name: "why",
     operands: "NUMBER",
+    options: "",
     summary: "what a refusal means",
     description: "\
 Says what a refusal's number means and what its place counts, with an example.
@@ -24,8 +26,7 @@ fn run(operands: &[OsString]) -> Option<Outcome> {
     match operands {
         [word] => {
             let word = word.to_str()?;
-            let digits = !word.is_empty() && word.bytes().all(|byte| byte.is_ascii_digit());
-            digits.then(|| why(word))
+            words::is_decimal(word).then(|| why(word))
         }
         _ => None,
     }

@@ -1,6 +1,7 @@
 //! The command line: what each verb prints, and its exit status.
 
 mod check;
+mod perform;
 mod programs;
 mod tree;
 mod why;
@@ -10,7 +11,7 @@ use std::io::{ErrorKind, Write};
 use std::path::{Path, PathBuf};
 use std::process::{Child, Command, Output, Stdio};
 
-const VERBS: [&str; 6] = ["tree", "pack", "unpack", "check", "why", "help"];
+const VERBS: [&str; 7] = ["tree", "pack", "unpack", "check", "perform", "why", "help"];
 
 fn command(words: &[&str]) -> Command {
     let mut command = Command::new(env!("CARGO_BIN_EXE_hogvax"));
@@ -47,6 +48,14 @@ fn assert_says(output: &Output, status: i32, text: &str) {
     assert_eq!(output.status.code(), Some(status));
 }
 
+/// The exit status is this, the data is on standard output, and the line on
+/// standard error.
+fn assert_gives(output: &Output, status: i32, data: &[u8], line: &str) {
+    assert_eq!(String::from_utf8_lossy(&output.stderr), line);
+    assert!(output.stdout == data, "not the data: {line}");
+    assert_eq!(output.status.code(), Some(status));
+}
+
 /// The exit status is 0 and something is on standard output alone.
 fn printed(output: Output) -> String {
     assert_eq!(output.status.code(), Some(0));
@@ -75,6 +84,11 @@ fn sample(name: &str) -> String {
     let root = Path::new(env!("CARGO_MANIFEST_DIR")).join("../..");
     let path = root.join("samples").join(name);
     path.to_str().unwrap().to_owned()
+}
+
+/// The bytes of a sample.
+fn bytes(name: &str) -> Vec<u8> {
+    fs::read(sample(name)).unwrap()
 }
 
 /// The bytes with another one at this place.

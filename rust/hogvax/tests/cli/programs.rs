@@ -2,10 +2,6 @@
 
 use super::*;
 
-fn bytes(name: &str) -> Vec<u8> {
-    fs::read(sample(name)).unwrap()
-}
-
 /// A verb that writes data, with a sample, what it makes of it, and what it
 /// says.
 struct Verb {
@@ -34,14 +30,6 @@ const UNPACK: Verb = Verb {
 };
 
 const BOTH: [&Verb; 2] = [&PACK, &UNPACK];
-
-/// The exit status is this, the data is on standard output, and the line on
-/// standard error.
-fn assert_gives(output: &Output, status: i32, data: &[u8], line: &str) {
-    assert_eq!(String::from_utf8_lossy(&output.stderr), line);
-    assert_eq!(output.stdout, data);
-    assert_eq!(output.status.code(), Some(status));
-}
 
 // Data
 

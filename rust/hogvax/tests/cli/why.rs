@@ -32,8 +32,64 @@ fn the_tree_readers_examples_are_true() {
     for (number, input) in [("15", &[1, 5, 0, 0][..]), ("16", &[3]), ("20", &[2; 1_025])] {
         let line = String::from_utf8(run_on(&["tree"], input).stdout).unwrap();
         let text = printed(run(&["why", number]));
-        assert!(text.ends_with(&format!("\n  {line}")), "{text}");
+        assert!(text.contains(&format!("\n  {line}")), "{text}");
     }
+}
+
+/// The commands of an example, each with the line that it is to print. A
+/// command may have two lines.
+#[cfg(unix)]
+fn commands(text: &str) -> Vec<(String, String)> {
+    let told = |text: &str| {
+        let (command, rest) = text.split_once("\n  refused ").unwrap();
+        let line = rest.lines().next().unwrap();
+        (command.to_owned(), format!("refused {line}\n"))
+    };
+    text.split("\n  $ ").skip(1).map(told).collect()
+}
+
+/// Runs a command of a shell as if it were typed at the root of the
+/// repository, where `./hogvax` is the program.
+#[cfg(unix)]
+fn typed(command: &str) -> Output {
+    let program = env!("CARGO_BIN_EXE_hogvax");
+    let command = command.replace("./hogvax", &format!("'{program}'"));
+    let root = Path::new(env!("CARGO_MANIFEST_DIR")).join("../..");
+    let mut shell = Command::new("sh");
+    shell.args(["-c", &command]).current_dir(root);
+    shell.stdin(Stdio::null()).output().unwrap()
+}
+
+#[cfg(unix)]
+#[test]
+fn the_commands_are_true() {
+    let mut runs = Vec::new();
+    for number in 1..=20 {
+        let text = printed(run(&["why", &number.to_string()]));
+        for (command, line) in commands(&text) {
+            let output = typed(&command);
+            assert_eq!(output.status.code(), Some(1), "{command}");
+            let said = [output.stdout, output.stderr].concat();
+            assert_eq!(String::from_utf8(said).unwrap(), line, "{command}");
+            if command.contains("./hogvax perform ") {
+                runs.push(number);
+            }
+        }
+    }
+    assert_eq!(runs, [14, 15, 16, 17, 18, 19]);
+}
+
+/// The example of 13, which this command never meets.
+#[test]
+fn the_example_of_short_work_space_is_true() {
+    let (mut values, mut returns) = ([0; 16_383], [0; 2_048]);
+    let mut answer = [9; 5];
+    let (values, returns) = (&mut values, &mut returns);
+    let number = hogvax::perform_into(&[], &[], 0, &mut [], values, returns, &mut answer);
+    assert_eq!((number, answer), (13, [0; 5]));
+    let text = printed(run(&["why", "13"]));
+    let line = "  refused 13 0 units 0 read 0 written 0 number 0\n";
+    assert!(text.ends_with(line), "{text}");
 }
 
 /// One function, whose only node is Add.

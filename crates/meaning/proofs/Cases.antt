@@ -9,8 +9,8 @@ use Rattle.formats.specs.Records.{bytesOfRecord, flat, recordAt, nth}
 use Rattle.formats.specs.Tokens.{tagOf, tagAt}
 use Rattle.formats.specs.Written.{written}
 use Rattle.meaning.specs.Instructions.{Operation, Push, Get, Add, Ifnot, Jump, Slide, Drop, LeafTag, NodeTag, WriteNumber, ReadTag, ReadNumber, Call, Return, heldBy, operations, operationOf, instructionOf}
-use Rattle.meaning.specs.Performing.{Setting, start, wordsBelow, standing, opened, wordAt, one, two, room, push, write, byTag, readNumber, call, kept, numberKept, leave, operate, perform, step}
-use Rattle.meaning.specs.Running.{Ran, Run, run, unitsOf, outcomeOf, numberOf as numberAnswered, streamRun, valueWords, returnWords}
+use Rattle.meaning.specs.Performing.{Setting, start, goes, ends, refuses, holding, wordsBelow, standing, opened, wordAt, one, two, room, push, write, byTag, readNumber, call, kept, numberKept, leave, operate, perform, step}
+use Rattle.meaning.specs.Running.{ofCode, Ran, Run, run, unitsOf, outcomeOf, numberOf as numberAnswered, streamRun, valueWords, returnWords}
 
 -- A code's bytes.
 codeOf : List Operation → List ℕ
@@ -184,3 +184,17 @@ within-limits :
     ≡ done 3 ∷ refusal 19 2 ∷ refusal 19 2 ∷ refusal 19 2 ∷ refusal 15 1 ∷ refusal 19 3 ∷ done 3 ∷ refusal 18 1 ∷ refusal 19 1 ∷ refusal 19 1 ∷ []
 unfolding streamRun run step perform operate heldBy operationOf operations instructionOf nth recordAt flat bytesOfRecord bytesOf numberOf numberAt sum32 tagAt tagOf written standing wordsBelow opened wordAt one two room push write byTag readNumber call kept numberKept leave outcomeOf numberAnswered limits stops small codeOf
 within-limits = refl
+
+-- ---- the limit of 16,384 words
+
+replicate : ℕ → List ℕ
+replicate zero = []
+replicate (suc n) = 0 ∷ replicate n
+
+-- What a push is refused with, or 0, where so many words stand.
+pushed-on : ℕ → ℕ
+pushed-on n = elim (push (ofCode [] [] 0) 1 (holding (replicate n) start)) [ goes t ↦ 0 | ends number ↦ 0 | refuses number ↦ number ]
+
+full-stack : map pushed-on (16383 ∷ 16384 ∷ []) ≡ 0 ∷ 19 ∷ []
+unfolding push room standing wordsBelow pushed-on replicate
+full-stack = refl

@@ -19,7 +19,7 @@ use Rattle.refusal.specs.declared.Refusal.{Refusal}
 use Rattle.refusal.specs.declared.Refusal.the-variants.{FuelUsedUp}
 use Rattle.refusal.specs.declared.Verdict.the-variants.{Passed, Refused}
 use Rattle.meaning.specs.Performing.{Setting, State, start, goes, ends, refuses, step, numberKept}
-use Rattle.meaning.specs.Running.{Run, Stop, refused, Ran, ranTo, tooShort, ofCode, outcomeOf, numberOf, valueWords, returnWords, streamRun}
+use Rattle.meaning.specs.Running.{Run, Stop, refused, Ran, ranTo, tooShort, ofCode, outcomeOf, numberTold, valueWords, returnWords, streamRun}
 use Rattle.meaning.specs.StreamRun.{StepRefusal, ended-there, no-tag, full, too-many, cannot, Stops, used-up, returned, stuck, here, on}
 use Rattle.meaning.specs.StreamRun.{Steps as Led}
 use Rattle.meaning.proofs.Steps.{one-step}
@@ -245,7 +245,7 @@ module _ (code input : List ℕ) (fuel : ℕ) (output₀ values₀ places₀ : L
           (done : List ℕ) (why : Stop) (output′ values′ places′ : List ℕ) (a : Answer)
           → Stops m fuel start (record { performed = done; last = state; stop = why })
           → answered a
-          ≡ record { outcome = outcomeOf why (s .read); units = length done; bytesRead = s .read; bytesWritten = s .written; number = numberOf why }
+          ≡ record { outcome = outcomeOf why (s .read); units = length done; bytesRead = s .read; bytesWritten = s .written; number = numberTold why }
           → output′ ≡ output
           → length values′ ≡ length values
           → length places′ ≡ length places
@@ -268,7 +268,7 @@ module _ (code input : List ℕ) (fuel : ℕ) (output₀ values₀ places₀ : L
           fuel ≤ units
           → Performed due output values₀ values places₀ places
           (record { verdict = Refused FuelUsedUp (s .read); units = fuel; read = s .read; written = s .written; number = 0 })
-      unfolding outcomeOf numberOf
+      unfolding outcomeOf numberTold
       stops-unfuelled none =
           let all : length (h .past) ≡ fuel = omega (arith, h .counted, h .fuelled) in
           stops-here (h .past) (refused fuelUsedUp) output values places _ (used-up (h .led) all) (rw all refl) refl refl refl
@@ -320,7 +320,7 @@ module _ (code input : List ℕ) (fuel : ℕ) (output₀ values₀ places₀ : L
 
           -- it stops
           pub turned-stops : (a : Answer) → r .stop ≢ goesOn → Tells values′ units r a → Performed due output′ values₀ values′ places₀ places′ a
-          unfolding outcomeOf numberOf dueAt
+          unfolding outcomeOf numberTold dueAt
           turned-stops a stops t =
               let still = did .still stops in
               let fuel-left : length (h .past) < fuel = omega (arith, h .counted) in

@@ -15,7 +15,7 @@ use Rattle.formats.specs.Written.{written}
 use Rattle.formats.proofs.Results.{done-not}
 use Rattle.formats.proofs.Written.{front-written, behind-written, wrote}
 use Rattle.meaning.specs.Performing.{Setting, State, start, wordsBelow, standing, opened}
-use Rattle.meaning.specs.Running.{Stop, ended, refused, Run, run, outcomeOf, numberOf, valueWords, returnWords, ofCode, ranTo, tooShort, streamRun}
+use Rattle.meaning.specs.Running.{Stop, ended, refused, Run, run, outcomeOf, numberTold, valueWords, returnWords, ofCode, ranTo, tooShort, streamRun}
 use Rattle.meaning.specs.StreamRun.{writtenBy, Within, Runs, Calls}
 use Rattle.meaning.proofs.Inputs.{run-same}
 
@@ -34,11 +34,11 @@ module _ (s vs : List ℕ) (fits : length vs ≤ length s) where
 record Refuses (why place read : ℕ) (w : Stop) : Type 0 where
   stops : w ≡ refused why
   there : place ≡ read
-  none : numberOf w ≡ 0
+  none : numberTold w ≡ 0
 
 -- it says so of every stop
 refuses-so : (w : Stop) (why place read : ℕ) → outcomeOf w read ≡ refusal why place → Refuses why place read w
-unfolding outcomeOf numberOf
+unfolding outcomeOf numberTold
 refuses-so (ended number) why place read e = done-not refl e
 refuses-so (refused number) why place read e = record { stops = cc; there = cc; none = refl }
 

@@ -57,9 +57,9 @@ unfoldable pub outcomeOf : Stop → ℕ → Result (Unit {0})
 outcomeOf (ended number) read = done tt
 outcomeOf (refused number) read = refusal number read
 
-unfoldable pub numberOf : Stop → ℕ
-numberOf (ended number) = number
-numberOf (refused number) = 0
+unfoldable pub numberTold : Stop → ℕ
+numberTold (ended number) = number
+numberTold (refused number) = 0
 
 abbrev pub answerOf : Run → Answer
 answerOf r =
@@ -68,7 +68,7 @@ answerOf r =
       units = unitsOf r;
       bytesRead = r .last .read;
       bytesWritten = length (r .last .output);
-      number = numberOf (r .stop);
+      number = numberTold (r .stop);
     }
 
 -- 01: "Both runs lend 16,384 value words and 1,024 return places of two words." "a call with 1,024 open".

@@ -79,6 +79,29 @@ fn trouble(output: Output) -> String {
     message
 }
 
+/// These words, with these bytes on standard input, say that standard output
+/// is closed.
+fn assert_closed_pipe_is_told(words: &[&str], input: &[u8]) {
+    let mut child = piped(words);
+    drop(child.stdout.take());
+    child.stdin.take().unwrap().write_all(input).unwrap();
+    let message = trouble(child.wait_with_output().unwrap());
+    assert!(message.contains("standard output"), "{message}");
+}
+
+/// These words say that standard output, the file of `--out` or standard
+/// error is full.
+#[cfg(target_os = "linux")]
+fn assert_full_device_is_told(words: &[&str]) {
+    let full = || File::options().write(true).open("/dev/full").unwrap();
+    let message = trouble(command(words).stdout(full()).output().unwrap());
+    assert!(message.contains("standard output"), "{message}");
+    let message = trouble(run(&[words, &["--out", "/dev/full"]].concat()));
+    assert!(message.contains("/dev/full"), "{message}");
+    let output = command(words).stderr(full()).output().unwrap();
+    assert_eq!(output.status.code(), Some(2));
+}
+
 /// Where a sample is.
 fn sample(name: &str) -> String {
     let root = Path::new(env!("CARGO_MANIFEST_DIR")).join("../..");

@@ -548,29 +548,16 @@ fn files_that_cannot_be_written_are_told() {
 #[test]
 fn a_closed_pipe_is_told() {
     for fuel in ["25", "24"] {
-        let mut child = piped(&["perform", &grow(), "--partial", "--fuel", fuel]);
-        drop(child.stdout.take());
-        let mut input = child.stdin.take().unwrap();
-        input.write_all(&T).unwrap();
-        drop(input);
-        let message = trouble(child.wait_with_output().unwrap());
-        assert!(message.contains("standard output"), "{message}");
+        let words = ["perform", &grow(), "--partial", "--fuel", fuel];
+        assert_closed_pipe_is_told(&words, &T);
     }
 }
 
 #[cfg(target_os = "linux")]
 #[test]
 fn a_full_device_is_told() {
-    let full = || File::options().write(true).open("/dev/full").unwrap();
     for fuel in ["25", "24"] {
         let words = ["perform", &grow(), &small(), "--fuel", fuel, "--partial"];
-        let mut on_output = command(&words);
-        let message = trouble(on_output.stdout(full()).output().unwrap());
-        assert!(message.contains("standard output"), "{message}");
-        let options = ["--fuel", fuel, "--partial", "--out", "/dev/full"];
-        let message = trouble(run_grow(&options));
-        assert!(message.contains("/dev/full"), "{message}");
-        let output = command(&words).stderr(full()).output().unwrap();
-        assert_eq!(output.status.code(), Some(2));
+        assert_full_device_is_told(&words);
     }
 }

@@ -215,29 +215,14 @@ fn files_that_cannot_be_written_are_told() {
 #[test]
 fn a_closed_pipe_is_told() {
     for verb in BOTH {
-        let mut child = piped(&[verb.name]);
-        drop(child.stdout.take());
-        let mut input = child.stdin.take().unwrap();
-        input.write_all(&bytes(verb.from)).unwrap();
-        drop(input);
-        let message = trouble(child.wait_with_output().unwrap());
-        assert!(message.contains("standard output"), "{message}");
+        assert_closed_pipe_is_told(&[verb.name], &bytes(verb.from));
     }
 }
 
 #[cfg(target_os = "linux")]
 #[test]
 fn a_full_device_is_told() {
-    let full = || File::options().write(true).open("/dev/full").unwrap();
     for verb in BOTH {
-        let from = sample(verb.from);
-        let mut on_output = command(&[verb.name, &from]);
-        let message = trouble(on_output.stdout(full()).output().unwrap());
-        assert!(message.contains("standard output"), "{message}");
-        let message = trouble(run(&[verb.name, &from, "--out", "/dev/full"]));
-        assert!(message.contains("/dev/full"), "{message}");
-        let mut on_error = command(&[verb.name, &from]);
-        let output = on_error.stderr(full()).output().unwrap();
-        assert_eq!(output.status.code(), Some(2));
+        assert_full_device_is_told(&[verb.name, &sample(verb.from)]);
     }
 }

@@ -34,6 +34,17 @@ pub struct Instruction {
 }
 
 impl Instruction {
+    /// The words above the base that it looks at, removes or hands on.
+    pub fn words_needed(self) -> usize {
+        match self.opcode {
+            opcode::GET => usize::from(self.operand) + 1,
+            opcode::ADD | opcode::SLIDE => 2,
+            opcode::IFNOT | opcode::DROP | opcode::WRITE_NUMBER => 1,
+            opcode::CALL | opcode::RETURN => usize::from(self.byte1),
+            _ => 0,
+        }
+    }
+
     /// "Numbers of several bytes stand low byte first."
     pub fn from_bytes(bytes: [u8; INSTRUCTION_BYTES]) -> Instruction {
         let [opcode, byte1, b2, b3, b4, b5, b6, b7] = bytes;

@@ -120,7 +120,7 @@ impl<'a> Machine<'a> {
     /// 19 for "return byte, missing or surplus words"; "words are missing
     /// above the frame's base, surplus above 16,384".
     fn test_words(&self, instruction: Instruction) -> Option<Cause> {
-        let needed = words_needed(instruction);
+        let needed = instruction.words_needed();
         if instruction.opcode == opcode::RETURN && instruction.byte1 > 1 {
             Some(Cause::ReturnByte)
         } else if needed > self.words() {
@@ -308,18 +308,6 @@ impl<'a> Machine<'a> {
             open: self.open(),
             stop,
         }
-    }
-}
-
-/// The words above the base that an instruction looks at, removes or hands
-/// on.
-fn words_needed(instruction: Instruction) -> usize {
-    match instruction.opcode {
-        opcode::GET => usize::from(instruction.operand) + 1,
-        opcode::ADD | opcode::SLIDE => 2,
-        opcode::IFNOT | opcode::DROP | opcode::WRITE_NUMBER => 1,
-        opcode::CALL | opcode::RETURN => usize::from(instruction.byte1),
-        _ => 0,
     }
 }
 

@@ -84,17 +84,6 @@ pub fn any_operand(random: &mut Random) -> u16 {
     random.pick(&[any, any & 0xff, any & 0xff00, u16::MAX])
 }
 
-/// The words that an instruction needs above the frame's base.
-pub fn words_needed(instruction: Instruction) -> usize {
-    match instruction.opcode {
-        opcode::GET => usize::from(instruction.operand) + 1,
-        opcode::ADD | opcode::SLIDE => 2,
-        opcode::IFNOT | opcode::DROP | opcode::WRITE_NUMBER => 1,
-        opcode::CALL | opcode::RETURN => usize::from(instruction.byte1),
-        _ => 0,
-    }
-}
-
 /// The bytes of the instructions; half of the time the unused fields hold
 /// anything, "Unused fields are … not looked at".
 pub fn assembled(random: &mut Random, instructions: &[Instruction]) -> Vec<u8> {

@@ -8,7 +8,7 @@ use crate::tree::{LEAF_TAG, NODE_TAG};
 use super::fuel::moderate;
 use super::inputs::stray;
 use super::instructions::{any_instruction, any_opcode, assembled};
-use super::instructions::{instruction, number, words_needed};
+use super::instructions::{instruction, number};
 
 /// So many steps are drawn at most.
 const STEPS: usize = 400;
@@ -88,7 +88,7 @@ impl Walk {
         let instruction = there.unwrap_or_else(|| self.drawn(random));
         self.code[self.address] = Some(instruction);
         let full = self.words.len() > ROOM || self.callers.len() > ROOM;
-        if full || words_needed(instruction) > self.above() {
+        if full || instruction.words_needed() > self.above() {
             return None;
         }
         self.address = self.follow(random, instruction)?;
@@ -111,7 +111,7 @@ impl Walk {
                 opcode::RETURN => made.byte1 = random.below(2) as u8,
                 _ => (),
             }
-            if words_needed(made) <= self.above() && self.goes_on(random, made) {
+            if made.words_needed() <= self.above() && self.goes_on(random, made) {
                 return made;
             }
         }

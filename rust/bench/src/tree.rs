@@ -3,8 +3,8 @@
 #![forbid(unsafe_code)]
 
 use std::hint::black_box;
-use std::time::Instant;
 
+use bench::{in_turn, Spread};
 use hogvax::Refused;
 use reference::{generate, Random};
 
@@ -78,34 +78,21 @@ fn shapes() -> Vec<Shape> {
     ]
 }
 
-/// Reads all trees of an input in turn; the seconds that it took.
-fn seconds(reader: Reader, shape: &Shape) -> f64 {
-    let start = Instant::now();
+/// Reads all trees of an input in turn.
+fn read(reader: Reader, shape: &Shape) {
     let mut at = 0;
     for _ in 0..shape.trees {
         let length = reader(black_box(&shape.bytes[at..])).expect("the input is trees");
         at += black_box(length);
     }
-    let took = start.elapsed().as_secs_f64();
     assert_eq!(at, shape.bytes.len());
-    took
 }
 
-fn median(mut times: Vec<f64>) -> f64 {
-    times.sort_by(f64::total_cmp);
-    times[times.len() / 2]
-}
-
-/// The median times of both readers, run in turn so that both meet the same
-/// load of the machine.
+/// The median times of both readers.
 fn measure(shape: &Shape) -> [f64; 2] {
     let readers: [Reader; 2] = [hogvax::tree, plain::tree];
-    let mut times = [Vec::new(), Vec::new()];
-    for round in 0..2 * ROUNDS {
-        let which = round % 2;
-        times[which].push(seconds(readers[which], shape));
-    }
-    times.map(median)
+    let times = in_turn(ROUNDS, readers, |reader| read(reader, shape));
+    [0, 1].map(|which| Spread::of(times.iter().map(|round| round[which])).median)
 }
 
 fn main() {

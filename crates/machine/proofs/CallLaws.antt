@@ -1,20 +1,17 @@
--- Calls, returns and the fetch of an instruction: a law for each way out of the functions on them.
-use Prim.Native.Nat.{ℕ, zero, suc, _+_, _-_, _*_, _≤_, _<_}
+-- Calls and returns: a law for each way out of the functions on them.
+use Prim.Native.Nat.{ℕ, zero, suc, _+_, _-_, _≤_, _<_}
 use mathlib.Core.List.{List, [], _∷_, _++_, append-nil}
 use mathlib.Core.Option.{none, some}
 use mathlib.Core.Logic.{_≢_}
-use mathlib.Core.Path.{_≡_, refl, sym, ap, ap₂, _∙_}
-use native.Mathlib.Nat.{le-refl, add-zero, add-assoc}
+use mathlib.Core.Path.{_≡_, refl, sym, ap, _∙_}
+use native.Mathlib.Nat.{le-refl}
 use native.Mathlib.Omega.{arith}
 use native.Mathlib.Numerals.{towards-suc}
 use borrow.Author.Tests.{le-leb, lt-leb, le-ltb, lt-ltb}
 use lib.Dec.{lit<}
 use lib.ListN.{length, getD, set, take, drop, length-set}
-use Rattle.formats.specs.Numbers.{numberOf}
-use Rattle.formats.specs.Records.{fields, recordAt}
 use Rattle.formats.specs.Refusals.{tooManyCalls, cannotPerform}
-use Rattle.formats.proofs.Numbers.{number-read}
-use Rattle.meaning.specs.Instructions.{instructionBytes, Call, Return}
+use Rattle.meaning.specs.Instructions.{Call, Return}
 use Rattle.meaning.specs.Performing.{Setting, opened, ends, call, kept, numberKept, leave, operate}
 use Rattle.meaning.specs.Running.{valueWords, returnWords}
 use Rattle.machine.specs.declared.Machine.{Machine}
@@ -279,21 +276,3 @@ module _ (k : ℕ) (places values : List ℕ) (s r : Machine) where
       (cut-to-one values (s .base) x (omega arith) lent) e
 
 pub ruleset returns = (return-none, return-more, return-empty, return-one)
-
--- ---- `fetch`
-
-module _ (code : List ℕ) (address operand number : ℕ) where
-  abbrev byte : ℕ → ℕ
-  byte k = getD code (instructionBytes * address + k) 0
-
-  pub fetched :
-      instructionBytes * address + instructionBytes ≤ length code
-      → operand ≡ numberOf (byte 2 ∷ byte 3 ∷ [])
-      → number ≡ numberOf (byte 4 ∷ byte 5 ∷ byte 6 ∷ byte 7 ∷ [])
-      → fields (getD code (instructionBytes * address) 0) (byte 1) operand number ≡ recordAt code address
-  unfolding recordAt
-  fetched whole low high =
-      let p : ℕ = instructionBytes * address in
-      ap₂ (fields (getD code p 0) (byte 1))
-      (number-read 2 code (p + 2) _ operand (omega arith) (omega arith) low (simp (add-zero, add-assoc)))
-      (number-read 4 code (p + 4) _ number (omega arith) (omega arith) high (simp (add-zero, add-assoc)))

@@ -4,5 +4,6 @@ pub mod Doing
 pub mod StackLaws
 pub mod StreamLaws
 pub mod CallLaws
+pub mod Fields
 pub mod StepLaws
 pub mod RunLaws

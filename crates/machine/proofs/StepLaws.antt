@@ -10,8 +10,9 @@ use native.Mathlib.Nat.{le-of-suc-le-suc}
 use native.Mathlib.Omega.{arith}
 use borrow.Author.Tests.{lt-ltb, le-leb, lt-leb, ltb-true}
 use lib.Dec.{ltb}
-use lib.ListN.{length}
-use Rattle.formats.specs.Records.{fields, recordAt, nth}
+use lib.ListN.{length, getD}
+use Rattle.formats.specs.Numbers.{numberAt}
+use Rattle.formats.specs.Records.{recordAt, nth}
 use Rattle.formats.specs.Refusals.{cannotPerform}
 use Rattle.formats.specs.Tokens.{leafTag, nodeTag}
 use Rattle.meaning.specs.Instructions.{Instruction, instructionBytes, mostInstructions, heldBy, Operation, operations, operationOf}
@@ -45,55 +46,68 @@ but m n h e = omega arith
 
 -- ---- `step`
 
-module _ (x b o n : ℕ) (input values places output : List ℕ) (s r : Machine) where
-  -- the instruction with these fields leaves these buffers
+module _ (i input values places output : List ℕ) (s r : Machine) where
+  -- the instruction's fields
+  abbrev x : ℕ
+  x = getD i 0 0
+
+  abbrev b : ℕ
+  b = getD i 1 0
+
+  abbrev operand : ℕ
+  operand = numberAt 2 i 2
+
+  abbrev number : ℕ
+  number = numberAt 4 i 4
+
+  -- the instruction of these bytes leaves these buffers
   abbrev pub Leaves : (values′ places′ output′ : List ℕ) → Type 0
-  Leaves values′ places′ output′ = Performs (fields x b o n) input values places output values′ places′ output′ s r
+  Leaves values′ places′ output′ = Performs (recordAt i 0) input values places output values′ places′ output′ s r
 
   -- the operation at the opcode's place
-  placed : (k : ℕ) → x ≡ k → operationOf (fields x b o n) ≡ nth (operations b o n) k
-  unfolding operationOf
-  placed k e = ap (nth (operations b o n)) e
+  placed : (k : ℕ) → x ≡ k → operationOf (recordAt i 0) ≡ nth (operations b operand number) k
+  unfolding operationOf recordAt
+  placed k e = ap (nth (operations b operand number)) e
 
   -- the instruction does what its operation does
   as-named :
       (op : Operation) (values′ places′ output′ : List ℕ)
-      → operationOf (fields x b o n) ≡ some op
+      → operationOf (recordAt i 0) ≡ some op
       → ((m : Setting)
       → m .input ≡ input
       → Held m values places output s
       → Does m (operate m (stateOf values places output s) op) values places output values′ places′ output′ s r)
       → Leaves values′ places′ output′
   as-named op values′ places′ output′ e d =
-      record { does = λ m i h. rw (performs-named m (stateOf values places output s) _ op e) (d m i h) }
+      record { does = λ m given h. rw (performs-named m (stateOf values places output s) _ op e) (d m given h) }
 
   on-values :
       (op : Operation) (values′ : List ℕ)
-      → operationOf (fields x b o n) ≡ some op
+      → operationOf (recordAt i 0) ≡ some op
       → OnValues op values values′ s r
       → Leaves values′ places output
-  on-values op values′ e d = as-named op values′ places output e (λ m i h. d .does m places output h)
+  on-values op values′ e d = as-named op values′ places output e (λ m given h. d .does m places output h)
 
-  pub pushes : (values′ : List ℕ) → x ≡ 0 → OnValues (Push n) values values′ s r → Leaves values′ places output
+  pub pushes : (n : ℕ) (values′ : List ℕ) → x ≡ 0 → n ≡ number → OnValues (Push n) values values′ s r → Leaves values′ places output
   unfolding operations nth
-  pushes values′ e d = on-values (Push n) values′ (placed 0 e) d
+  pushes n values′ e is d = on-values (Push n) values′ (placed 0 e ∙ ap (λ k. some (Push k)) (sym is)) d
 
-  pub gets : (values′ : List ℕ) → x ≡ 1 → OnValues (Get o) values values′ s r → Leaves values′ places output
+  pub gets : (o : ℕ) (values′ : List ℕ) → x ≡ 1 → o ≡ operand → OnValues (Get o) values values′ s r → Leaves values′ places output
   unfolding operations nth
-  gets values′ e d = on-values (Get o) values′ (placed 1 e) d
+  gets o values′ e is d = on-values (Get o) values′ (placed 1 e ∙ ap (λ k. some (Get k)) (sym is)) d
 
   pub adds : (values′ : List ℕ) → x ≡ 2 → OnValues Add values values′ s r → Leaves values′ places output
   unfolding operations nth
   adds values′ e d = on-values Add values′ (placed 2 e) d
 
-  pub ifnots : x ≡ 3 → OnValues (Ifnot o) values values s r → Leaves values places output
+  pub ifnots : (o : ℕ) → x ≡ 3 → o ≡ operand → OnValues (Ifnot o) values values s r → Leaves values places output
   unfolding operations nth
-  ifnots e d = on-values (Ifnot o) values (placed 3 e) d
+  ifnots o e is d = on-values (Ifnot o) values (placed 3 e ∙ ap (λ k. some (Ifnot k)) (sym is)) d
 
-  pub jumps : x ≡ 4 → Sound s → r ≡ jumpTo o s → Leaves values places output
+  pub jumps : (o : ℕ) → x ≡ 4 → o ≡ operand → Sound s → r ≡ jumpTo o s → Leaves values places output
   unfolding operations nth operate
-  jumps e sound is =
-      as-named (Jump o) values places output (placed 4 e) (λ m i h. rw is
+  jumps o e is sound jumped =
+      as-named (Jump o) values places output (placed 4 e ∙ ap (λ k. some (Jump k)) (sym is)) (λ m given h. rw jumped
       (let held =
       held-moved m values places output values output s o (s .top) (s .read) (s .written) h refl refl
       (h .based) (h .topped) (h .read-there) (h .written-there) in
@@ -105,47 +119,50 @@ module _ (x b o n : ℕ) (input values places output : List ℕ) (s r : Machine)
 
   pub drops : x ≡ 6 → OnNumbers Drop s r → Leaves values places output
   unfolding operations nth
-  drops e d = as-named Drop values places output (placed 6 e) (λ m i h. d .does m values places output h)
+  drops e d = as-named Drop values places output (placed 6 e) (λ m given h. d .does m values places output h)
 
   pub writes-leaf : (output′ : List ℕ) → x ≡ 7 → WritesTag leafTag output output′ s r → Leaves values places output′
   unfolding operations nth operate
-  writes-leaf output′ e d = as-named LeafTag values places output′ (placed 7 e) (λ m i h. d .does m values places h)
+  writes-leaf output′ e d = as-named LeafTag values places output′ (placed 7 e) (λ m given h. d .does m values places h)
 
   pub writes-node : (output′ : List ℕ) → x ≡ 8 → WritesTag nodeTag output output′ s r → Leaves values places output′
   unfolding operations nth operate
-  writes-node output′ e d = as-named NodeTag values places output′ (placed 8 e) (λ m i h. d .does m values places h)
+  writes-node output′ e d = as-named NodeTag values places output′ (placed 8 e) (λ m given h. d .does m values places h)
 
   pub writes-number : (output′ : List ℕ) → x ≡ 9 → OnOutput WriteNumber values output output′ s r → Leaves values places output′
   unfolding operations nth
-  writes-number output′ e d = as-named WriteNumber values places output′ (placed 9 e) (λ m i h. d .does m places h)
+  writes-number output′ e d = as-named WriteNumber values places output′ (placed 9 e) (λ m given h. d .does m places h)
 
-  pub reads-tag : x ≡ 10 → OnInput (ReadTag o) input s r → Leaves values places output
+  pub reads-tag : (o : ℕ) → x ≡ 10 → o ≡ operand → OnInput (ReadTag o) input s r → Leaves values places output
   unfolding operations nth
-  reads-tag e d = as-named (ReadTag o) values places output (placed 10 e) (λ m i h. d .does values .does m places output i h)
+  reads-tag o e is d =
+      as-named (ReadTag o) values places output (placed 10 e ∙ ap (λ k. some (ReadTag k)) (sym is))
+      (λ m given h. d .does values .does m places output given h)
 
   pub reads-number : (values′ : List ℕ) → x ≡ 11 → FromInput ReadNumber input values values′ s r → Leaves values′ places output
   unfolding operations nth
-  reads-number values′ e d = as-named ReadNumber values′ places output (placed 11 e) (λ m i h. d .does m places output i h)
+  reads-number values′ e d = as-named ReadNumber values′ places output (placed 11 e) (λ m given h. d .does m places output given h)
 
-  pub calls : (places′ : List ℕ) → x ≡ 12 → OnPlaces (Call o b) places places′ s r → Leaves values places′ output
+  pub calls : (o : ℕ) (places′ : List ℕ) → x ≡ 12 → o ≡ operand → OnPlaces (Call o b) places places′ s r → Leaves values places′ output
   unfolding operations nth
-  calls places′ e d = as-named (Call o b) values places′ output (placed 12 e) (λ m i h. d .does m values output h)
+  calls o places′ e is d =
+      as-named (Call o b) values places′ output (placed 12 e ∙ ap (λ k. some (Call k b)) (sym is)) (λ m given h. d .does m values output h)
 
   pub returns : (values′ : List ℕ) → x ≡ 13 → FromPlaces (Return b) places values values′ s r → Leaves values′ places output
   unfolding operations nth
-  returns values′ e d = as-named (Return b) values′ places output (placed 13 e) (λ m i h. d .does m output h)
+  returns values′ e d = as-named (Return b) values′ places output (placed 13 e) (λ m given h. d .does m output h)
 
   -- any other opcode
   pub names-none :
       x ≢ 0 → x ≢ 1 → x ≢ 2 → x ≢ 3 → x ≢ 4 → x ≢ 5 → x ≢ 6 → x ≢ 7 → x ≢ 8 → x ≢ 9 → x ≢ 10 → x ≢ 11 → x ≢ 12 → x ≢ 13
       → r ≡ stoppedBy cannotPerform s
       → Leaves values places output
-  unfolding operationOf operations
+  unfolding operationOf recordAt operations
   names-none n0 n1 n2 n3 n4 n5 n6 n7 n8 n9 n10 n11 n12 n13 is =
       let from-7 : 7 ≤ x = but 6 x (but 5 x (but 4 x (but 3 x (but 2 x (but 1 x (but 0 x (omega arith) n0) n1) n2) n3) n4) n5) n6 in
       let from-14 : 14 ≤ x = but 13 x (but 12 x (but 11 x (but 10 x (but 9 x (but 8 x (but 7 x from-7 n7) n8) n9) n10) n11) n12) n13 in
-      let unnamed : operationOf (fields x b o n) ≡ none = none-past (operations b o n) x from-14 in
-      record { does = λ m i h. refused-so m _ values places output s r cannotPerform is (performs-none m _ _ unnamed) (omega arith) h }
+      let unnamed : operationOf (recordAt i 0) ≡ none = none-past (operations b operand number) x from-14 in
+      record { does = λ m given h. refused-so m _ values places output s r cannotPerform is (performs-none m _ _ unnamed) (omega arith) h }
 
 -- ---- `turn`
 

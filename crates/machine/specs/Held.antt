@@ -5,16 +5,10 @@ use mathlib.Core.List.{List, [], _∷_}
 use mathlib.Core.Path.{_≡_}
 use lib.Dec.{eqb, ltb}
 use lib.ListN.{length, getD, take}
-use Rattle.formats.specs.Records.{fields}
-use Rattle.meaning.specs.Instructions.{Instruction, instructionBytes, mostInstructions}
+use Rattle.meaning.specs.Instructions.{instructionBytes, mostInstructions}
 use Rattle.meaning.specs.Performing.{Setting, Caller, State, Step, goes, ends, refuses, numberKept}
 use Rattle.meaning.specs.Running.{valueWords, returnWords, mostCalls}
-use Rattle.machine.specs.declared.Instruction.{Instruction as Fetched}
 use Rattle.machine.specs.declared.Machine.{Machine}
-
--- The fields of an instruction.
-abbrev pub fieldsOf : Fetched → Instruction
-fieldsOf i = fields (i .opcode) (i .byte1) (i .operand) (i .number)
 
 -- So many of the lent words, from a base up, the top one first.
 unfoldable pub wordsFrom : List ℕ → ℕ → ℕ → List ℕ

@@ -4,12 +4,13 @@ use refusal::Verdict;
 ghost use Prim.Native.Nat.{_+_, _*_, _^_, _≤_, _<_};
 ghost use mathlib.Core.Path.{_≡_};
 ghost use lib.ListN.{length};
+ghost use Rattle.formats.specs.Numbers.{numberAt};
 ghost use Rattle.formats.specs.Records.{recordAt};
 ghost use Rattle.meaning.specs.Instructions.{instructionBytes, Push, Get, Add, Ifnot, Slide, Drop, WriteNumber, ReadTag, ReadNumber, Call, Return};
 ghost use Rattle.meaning.specs.Performing.{numberKept};
 ghost use Rattle.meaning.specs.Running.{valueWords, returnWords, streamRun};
 ghost use Rattle.refusal.specs.Number.{number};
-ghost use Rattle.machine.specs.Held.{fieldsOf, frameOf, Sound, Going, Lent, limitOf, stoppedBy, nextTo, jumpTo, left};
+ghost use Rattle.machine.specs.Held.{frameOf, Sound, Going, Lent, limitOf, stoppedBy, nextTo, jumpTo, left};
 ghost use Rattle.machine.specs.Does.{OnNumbers, OnValues, WritesTag, OnOutput, FromInput, OnInput, OnPlaces, FromPlaces, Performs, Steps};
 ghost use Rattle.machine.specs.Told.{answered, refusalNumber, Tells, noneDone, Performed};
 
@@ -46,14 +47,6 @@ const NODE_TAG: u8 = 2;
 
 const LABEL_BYTES: usize = 4;
 
-// An instruction's fields.
-struct Instruction {
-    opcode: u8,
-    byte1: u8,
-    operand: u16,
-    number: u32,
-}
-
 // The numbers of the machine: why it stops, the address, the ends of the frame's words, the words of the return places in use, the bytes read and
 // written. Flat, so that it stays in registers.
 struct Machine {
@@ -75,18 +68,29 @@ pub struct Answer {
     pub number: u32,
 }
 
-// The instruction at an address that holds one.
-fn fetch(code: &[u8], address: usize) -> Instruction
+// The bytes of the instruction at an address that holds one.
+fn fetch(code: &[u8], address: usize) -> &[u8]
     requires { ⌜ instructionBytes * address + instructionBytes ≤ length (now code) ⌝ }
-    ensures { λ r. ⌜ fieldsOf r ≡ recordAt (now (code .entry)) address ⌝ }
+    ensures { λ r. ⌜ (recordAt (now r) 0 ≡ recordAt (now (code .entry)) address) × (length (now r) ≡ instructionBytes) ⌝ }
 {
     let p = INSTRUCTION_BYTES * address;
-    Instruction {
-        opcode: code[p],
-        byte1: code[p + 1],
-        operand: words::word16(code[p + 2], code[p + 3]),
-        number: words32::word32(code[p + 4], code[p + 5], code[p + 6], code[p + 7]),
-    }
+    &code[p..p + INSTRUCTION_BYTES]
+}
+
+// An instruction's operand.
+fn operand_of(i: &[u8]) -> u16
+    requires { ⌜ instructionBytes ≤ length (now i) ⌝ }
+    ensures { λ r. ⌜ r ≡ numberAt 2 (now (i .entry)) 2 ⌝ }
+{
+    words::word16(i[2], i[3])
+}
+
+// An instruction's number.
+fn number_of(i: &[u8]) -> u32
+    requires { ⌜ instructionBytes ≤ length (now i) ⌝ }
+    ensures { λ r. ⌜ r ≡ numberAt 4 (now (i .entry)) 4 ⌝ }
+{
+    words32::word32(i[4], i[5], i[6], i[7])
 }
 
 // The machine unchanged, but stopped.
@@ -350,35 +354,36 @@ fn give_back(s: Machine, kept: u8, values: &mut [u32], places: &[u64]) -> Machin
     leave(s, base + 1, places)
 }
 
-// One instruction performed, by its opcode.
+// One instruction performed, by its opcode: an arm reads only the fields that it uses.
 fn step(
     s: Machine,
-    i: Instruction,
+    i: &[u8],
     input: &[u8],
     output: &mut [u8],
     values: &mut [u32],
     places: &mut [u64],
 ) -> Machine
     requires { ⌜ Sound s ⌝ }
+    requires { ⌜ instructionBytes ≤ length (now i) ⌝ }
     requires { ⌜ Lent s (now input) (now output) (now values) (now places) ⌝ }
-    ensures { λ r. ⌜ Performs (fieldsOf i) (now (input .entry)) (now (values .entry)) (now (places .entry)) (now (output .entry)) (now (values .exit)) (now (places .exit)) (now (output .exit)) s r ⌝ }
+    ensures { λ r. ⌜ Performs (recordAt (now (i .entry)) 0) (now (input .entry)) (now (values .entry)) (now (places .entry)) (now (output .entry)) (now (values .exit)) (now (places .exit)) (now (output .exit)) s r ⌝ }
 {
-    let opcode = i.opcode;
+    let opcode = i[0];
     match opcode {
-        0 => push(s, i.number, values),
-        1 => get(s, i.operand, values),
+        0 => push(s, number_of(i), values),
+        1 => get(s, operand_of(i), values),
         2 => add(s, values),
-        3 => ifnot(s, i.operand, values),
-        4 => jump(s, i.operand),
+        3 => ifnot(s, operand_of(i), values),
+        4 => jump(s, operand_of(i)),
         5 => slide(s, values),
         6 => drop(s),
         7 => write_tag(s, LEAF_TAG, output),
         8 => write_tag(s, NODE_TAG, output),
         9 => write_number(s, values, output),
-        10 => read_tag(s, i.operand, input),
+        10 => read_tag(s, operand_of(i), input),
         11 => read_number(s, values, input),
-        12 => call(s, i.operand, i.byte1, places),
-        13 => give_back(s, i.byte1, values, places),
+        12 => call(s, operand_of(i), i[1], places),
+        13 => give_back(s, i[1], values, places),
         _ => stopped(s, CANNOT_PERFORM),
     }
 }

@@ -1,6 +1,6 @@
--- `machine::fetch` meets its contract: the eight bytes are there, and are read as the fields of a record.
+-- `machine::fetch` meets its contract: the eight bytes are there, and hold the record at the address.
 use borrow.Author.Needs.{needs}
-use Rattle.machine.proofs.CallLaws.{fetched}
+use Rattle.machine.proofs.Fields.{fetched}
 use Rattle.machine.proofs.fetch.Statement.{statement}
 use Rattle.machine.proofs.fetch.Tie as tie
 
@@ -8,18 +8,7 @@ pub fetch-spec : {M : Type 1} → statement M
 fetch-spec =
     tie.close
     (tie.spec
-    -- the opcode and byte 1
-    (λ c. search needs) (λ c. search needs)
-    (λ c. search needs) (λ c. search needs)
-    -- the operand's two bytes
-    (λ c. search needs) (λ c. search needs)
-    (λ c. search needs) (λ c. search needs)
-    (λ c κs. search needs)
-    -- the number's four bytes
-    (λ c. search needs) (λ c. search needs)
-    (λ c. search needs) (λ c. search needs)
-    (λ c. search needs) (λ c. search needs)
-    (λ c. search needs) (λ c. search needs)
-    (λ c κs. search needs)
-    -- the fields
+    -- the part is within the code
+    (λ c. search needs) (λ c. search needs) (λ c. search needs) (λ c. search needs) (λ c. search needs)
+    -- what it holds
     (λ c. search fetched))

@@ -3,6 +3,7 @@ use Prim.Native.Nat.{ℕ}
 use mathlib.Core.Bool.{Bool, true, false, not}
 use mathlib.Core.List.{List}
 use mathlib.Core.Path.{_≡_, refl, sym, _∙_}
+use native.Mathlib.Omega.{arith}
 use borrow.Author.Tests.{not-true, not-false, leb-true, leb-false, lt-ltb, le-ltb}
 use lib.Dec.{leb}
 use lib.ListN.{length}
@@ -62,6 +63,7 @@ module _ (due : Ran) (output values returns before : List ℕ) (r : ℕ) (room :
       record {
         answers = run-too-few (due .answer) before r h e;
         holds = rw (lt-ltb _ _ h) refl;
+        not-run = λ few. (refl, refl);
         values-length = refl;
         returns-length = refl;
       }
@@ -78,6 +80,7 @@ module _ (due : Ran) (output values returns before : List ℕ) (r : ℕ) (room :
       record {
         answers = rw (← (p .answer)) a;
         holds = rw (le-ltb _ _ h) (p .output);
+        not-run = λ few. absurd (omega arith);
         values-length = p .values-length;
         returns-length = p .places-length;
       }

@@ -1,5 +1,5 @@
 -- What an exported stream run answers, and what its buffers then hold.
-use Prim.Native.Nat.{ℕ}
+use Prim.Native.Nat.{ℕ, _<_}
 use mathlib.Core.Bool.{true, false}
 use mathlib.Core.List.{List}
 use mathlib.Core.Path.{_≡_}
@@ -8,10 +8,11 @@ use lib.ListN.{length}
 use Rattle.meaning.specs.Running.{Ran}
 use Rattle.run_answers.specs.RunAnswer.{runPlaces, Answers}
 
--- The answer's places, and every byte of the output. Where the answer has too few places, the output is untouched. Of the work words only their
--- number is said.
+-- The answer's places, and every byte of the output. Where the answer has too few places there is no run, and all buffers are untouched. Of the work
+-- words after a run only their number is said.
 pub record Runs (due : Ran) (output output′ values values′ returns returns′ before after : List ℕ) (r : ℕ) : Type 0 where
   pub answers : Answers (due .answer) before after r
   pub holds : output′ ≡ elim (ltb (length before) runPlaces) [ true ↦ output | false ↦ due .output ]
+  pub not-run : length before < runPlaces → (values′ ≡ values) × (returns′ ≡ returns)
   pub values-length : length values′ ≡ length values
   pub returns-length : length returns′ ≡ length returns

@@ -2,9 +2,10 @@
 use Prim.Native.Nat.{ℕ, zero, suc, _+_, _*_, _^_, _≤_, _<_}
 use mathlib.Core.Bool.{true, _&&_}
 use mathlib.Core.List.{List, [], _∷_, _++_, append-assoc}
+use mathlib.Core.Logic.{_≢_}
 use mathlib.Core.Option.{Option, none, some}
 use mathlib.Core.Path.{_≡_, refl, sym, ap, ap₂, subst, _∙_}
-use native.Mathlib.Nat.{add-assoc, lt-of-lt-of-le}
+use native.Mathlib.Nat.{add-assoc, lt-of-lt-of-le, le-of-suc-le-suc}
 use native.Mathlib.Numerals.{towards-suc}
 use native.Mathlib.Omega.{arith}
 use borrow.Author.Tests.{eqb-true, eq-eqb, ltb-true, lt-ltb}
@@ -19,6 +20,19 @@ use Rattle.formats.specs.Programs.{InRange, Every}
 use Rattle.formats.specs.Rows.{headerIn, nodeAt, nodeIn}
 use Rattle.formats.proofs.Numbers.{length-bytesOf, bytesOf-numberAt, bytes-append, bytes-bytesOf, numberAt-fits, numberAt-behind, numberAt-there}
 use Rattle.formats.proofs.Results.{done-not, check-inv, both-held}
+
+-- ---- numbers above the last, in a list of kinds or the like
+
+-- past the end of a list stands nothing
+pub none-past : {A : Type 0} (xs : List A) (n : ℕ) → length xs ≤ n → nth xs n ≡ none
+unfolding nth
+none-past [] n h = refl
+none-past (x ∷ xs) zero h = absurd (omega arith)
+none-past (x ∷ xs) (suc n) h = none-past xs n (le-of-suc-le-suc h)
+
+-- one number after the other is left out
+pub but : (m n : ℕ) → m ≤ n → n ≢ m → suc m ≤ n
+but m n h e = omega arith
 
 -- ---- flat records
 

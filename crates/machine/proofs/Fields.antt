@@ -1,4 +1,4 @@
--- An instruction's fields, read from its own bytes: they are those of the record that the code holds.
+-- The fields of an instruction, read from its own bytes: they are those of the record that the code holds at the address.
 use Prim.Native.Nat.{ℕ, zero, suc, _+_, _-_, _*_, _≤_, _<_}
 use mathlib.Core.List.{List, [], _∷_}
 use mathlib.Core.Path.{_≡_, refl, sym, ap, ap₂, _∙_}
@@ -7,12 +7,12 @@ use native.Mathlib.Omega.{arith}
 use lib.ListN.{length, getD, take, drop}
 use lib.Seq.{getD-take, getD-drop}
 use Rattle.formats.specs.Numbers.{numberOf, numberAt}
-use Rattle.formats.specs.Records.{fields, recordAt}
+use Rattle.formats.specs.Records.{recordAt}
 use Rattle.formats.proofs.Numbers.{bytesFrom, number-read}
 use Rattle.formats.proofs.Places.{part-inside, length-inside}
 use Rattle.meaning.specs.Instructions.{instructionBytes}
 
--- the number that a whole number's bytes stand for
+-- a number that is there whole is what its bytes stand for
 number-of : (width : ℕ) (s : List ℕ) (p : ℕ) → p + width ≤ length s → numberAt width s p ≡ numberOf (bytesFrom width s p 0)
 number-of width s p h = sym (number-read width s p _ _ (omega arith) (omega arith) refl refl)
 
@@ -22,10 +22,11 @@ module _ (code : List ℕ) (address : ℕ) (whole : instructionBytes * address +
   abbrev p : ℕ
   p = instructionBytes * address
 
-  -- the bytes of the instruction
+  -- the instruction's own bytes
   abbrev own : List ℕ
   own = take (p + instructionBytes - p) (drop p code)
 
+  -- a byte of them, bytes and a number are those of the code there
   byte-there : (k : ℕ) → k < instructionBytes → getD own k 0 ≡ getD code (p + k) 0
   byte-there k h =
       ap (λ l. getD l k 0) (part-inside code p instructionBytes) ∙ getD-take instructionBytes (drop p code) k 0 h ∙ getD-drop p code k 0
@@ -42,7 +43,7 @@ module _ (code : List ℕ) (address : ℕ) (whole : instructionBytes * address +
       let long = length-inside code p instructionBytes whole in
       number-of width own k (omega arith) ∙ ap numberOf (bytes-there width k 0 (omega arith)) ∙ sym (number-of width code (p + k) (omega arith))
 
-  -- the instruction's bytes hold the record at the address
+  -- they hold the record at the address
   pub record-there : recordAt own 0 ≡ recordAt code address
   unfolding recordAt
   record-there =
@@ -57,8 +58,8 @@ pub ruleset fetched = (record-there, length-inside)
 -- ---- `operand_of` and `number_of`
 
 module _ (i : List ℕ) (r : ℕ) (whole : instructionBytes ≤ length i) where
-  pub operand-read : r ≡ numberOf (getD i 2 0 ∷ getD i 3 0 ∷ []) → r ≡ numberAt 2 i 2
-  operand-read made = number-read 2 i 2 _ r (omega arith) (omega arith) made refl
+  pub operand-is : r ≡ numberOf (getD i 2 0 ∷ getD i 3 0 ∷ []) → r ≡ numberAt 2 i 2
+  operand-is made = number-read 2 i 2 _ r (omega arith) (omega arith) made refl
 
-  pub number-read-so : r ≡ numberOf (getD i 4 0 ∷ getD i 5 0 ∷ getD i 6 0 ∷ getD i 7 0 ∷ []) → r ≡ numberAt 4 i 4
-  number-read-so made = number-read 4 i 4 _ r (omega arith) (omega arith) made refl
+  pub number-is : r ≡ numberOf (getD i 4 0 ∷ getD i 5 0 ∷ getD i 6 0 ∷ getD i 7 0 ∷ []) → r ≡ numberAt 4 i 4
+  number-is made = number-read 4 i 4 _ r (omega arith) (omega arith) made refl

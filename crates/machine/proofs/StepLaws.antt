@@ -1,12 +1,11 @@
 -- A law for each way out of `step` and `turn`. An opcode names its operation, and what was done on some of the buffers leaves the others; an
 -- address below the limit holds its record, and any other holds none.
-use Prim.Native.Nat.{ℕ, zero, suc, _+_, _*_, _≤_, _<_}
+use Prim.Native.Nat.{ℕ, _+_, _*_, _≤_, _<_}
 use mathlib.Core.Bool.{Bool, true, false}
-use mathlib.Core.List.{List, [], _∷_}
+use mathlib.Core.List.{List}
 use mathlib.Core.Logic.{_≢_}
 use mathlib.Core.Option.{none, some}
 use mathlib.Core.Path.{_≡_, refl, sym, ap, _∙_}
-use native.Mathlib.Nat.{le-of-suc-le-suc}
 use native.Mathlib.Omega.{arith}
 use borrow.Author.Tests.{lt-ltb, le-leb, lt-leb, ltb-true}
 use lib.Dec.{ltb}
@@ -15,6 +14,7 @@ use Rattle.formats.specs.Numbers.{numberAt}
 use Rattle.formats.specs.Records.{recordAt, nth}
 use Rattle.formats.specs.Refusals.{cannotPerform}
 use Rattle.formats.specs.Tokens.{leafTag, nodeTag}
+use Rattle.formats.proofs.Records.{none-past, but}
 use Rattle.meaning.specs.Instructions.{Instruction, instructionBytes, mostInstructions, heldBy, Operation, operations, operationOf}
 use Rattle.meaning.specs.Instructions.{Push, Get, Add, Ifnot, Jump, Slide, Drop, LeafTag, NodeTag, WriteNumber, ReadTag, ReadNumber, Call, Return}
 use Rattle.meaning.specs.Performing.{Setting, State, refuses, operate, perform, step}
@@ -33,21 +33,10 @@ performs-none : (m : Setting) (s : State) (i : Instruction) → operationOf i �
 unfolding perform
 performs-none m s i e = rw (perform, e)
 
--- past the end of a list stands nothing
-none-past : {A : Type 0} (xs : List A) (n : ℕ) → length xs ≤ n → nth xs n ≡ none
-unfolding nth
-none-past [] n h = refl
-none-past (x ∷ xs) zero h = absurd (omega arith)
-none-past (x ∷ xs) (suc n) h = none-past xs n (le-of-suc-le-suc h)
-
--- one number after the other is left out
-but : (m n : ℕ) → m ≤ n → n ≢ m → suc m ≤ n
-but m n h e = omega arith
-
 -- ---- `step`
 
 module _ (i input values places output : List ℕ) (s r : Machine) where
-  -- the instruction's fields
+  -- the instruction's opcode, byte 1, operand and number
   abbrev x : ℕ
   x = getD i 0 0
 

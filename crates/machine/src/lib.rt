@@ -77,7 +77,7 @@ fn fetch(code: &[u8], address: usize) -> &[u8]
     &code[p..p + INSTRUCTION_BYTES]
 }
 
-// An instruction's operand.
+// The operand of an instruction's bytes.
 fn operand_of(i: &[u8]) -> u16
     requires { ⌜ instructionBytes ≤ length (now i) ⌝ }
     ensures { λ r. ⌜ r ≡ numberAt 2 (now (i .entry)) 2 ⌝ }
@@ -85,7 +85,7 @@ fn operand_of(i: &[u8]) -> u16
     words::word16(i[2], i[3])
 }
 
-// An instruction's number.
+// The number of an instruction's bytes.
 fn number_of(i: &[u8]) -> u32
     requires { ⌜ instructionBytes ≤ length (now i) ⌝ }
     ensures { λ r. ⌜ r ≡ numberAt 4 (now (i .entry)) 4 ⌝ }

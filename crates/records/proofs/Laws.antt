@@ -1,12 +1,12 @@
 -- A law for each way out of the functions over node records. A record read is the one of its kind number: the fields that the kind does not use
 -- sum to 0 exactly where the record is the one that its kind has.
-use Prim.Native.Nat.{ℕ, zero, suc, _+_, _*_, _/_, _≤_, _<_}
+use Prim.Native.Nat.{ℕ, zero, _+_, _*_, _/_, _≤_, _<_}
 use mathlib.Core.Bool.{Bool, true, false, _&&_, and-true, and-comm}
 use mathlib.Core.List.{List, [], _∷_}
 use mathlib.Core.Logic.{_≢_}
-use mathlib.Core.Option.{none, some}
+use mathlib.Core.Option.{some}
 use mathlib.Core.Path.{_≡_, refl, sym, ap, ap₂, _∙_}
-use native.Mathlib.Nat.{le-of-suc-le-suc, le-refl}
+use native.Mathlib.Nat.{le-refl}
 use native.Mathlib.Omega.{arith}
 use borrow.Author.Tests.{lt-ltb, le-ltb, eq-eqb, ne-eqb, eqb-true}
 use lib.Dec.{eqb, ltb}
@@ -19,6 +19,7 @@ use Rattle.formats.specs.Records.{aNumber, aTree, asWhole, these, argumentsOf, 
 use Rattle.formats.specs.Rows.{headerIn, nodeAt, nodeIn}
 use Rattle.formats.proofs.Numbers.{numberAt-cut}
 use Rattle.formats.proofs.Results.{both-held}
+use Rattle.formats.proofs.Records.{none-past, but}
 use Rattle.refusal.specs.declared.Refusal.the-variants.{NodeField}
 use Rattle.records.specs.declared.RecordRead.{RecordRead}
 use Rattle.records.specs.declared.RecordRead.the-variants.{Refused}
@@ -186,16 +187,6 @@ of-call functions place x a b i u r number sum told =
     told
 
 -- a kind number above the last
-none-past : (xs : List Kind) (n : ℕ) → length xs ≤ n → nth xs n ≡ none
-unfolding nth
-none-past [] n h = refl
-none-past (x ∷ xs) zero h = absurd (omega arith)
-none-past (x ∷ xs) (suc n) h = none-past xs n (le-of-suc-le-suc h)
-
--- one number after the other is left out
-next : (m n : ℕ) → m ≤ n → n ≢ m → suc m ≤ n
-next m n h e = omega arith
-
 pub of-none :
     (functions place x a b i : ℕ)
     → x ≢ 0
@@ -210,7 +201,7 @@ pub of-none :
     → OfKind functions place x a b i (Refused NodeField place)
 unfolding nodeRecord kindOf kinds
 of-none functions place x a b i n0 n1 n2 n3 n4 n5 n6 n7 n8 =
-    let above : 9 ≤ x = next 8 x (next 7 x (next 6 x (next 5 x (next 4 x (next 3 x (next 2 x (next 1 x (next 0 x (omega arith) n0) n1) n2) n3) n4) n5) n6) n7) n8 in
+    let above : 9 ≤ x = but 8 x (but 7 x (but 6 x (but 5 x (but 4 x (but 3 x (but 2 x (but 1 x (but 0 x (omega arith) n0) n1) n2) n3) n4) n5) n6) n7) n8 in
     record { is = λ edition. simp (nodeRecord, kindOf, none-past (kinds edition a b i) x above) }
 
 pub ruleset arms = (of-const, of-var, of-add, of-if-zero, of-let, of-leaf, of-node, of-case, of-call, of-none)

@@ -1,6 +1,6 @@
 -- `machine::number_of` meets its contract: its four bytes are there, and stand for the number at their place.
 use borrow.Author.Needs.{needs}
-use Rattle.machine.proofs.Fields.{number-read-so}
+use Rattle.machine.proofs.Fields.{number-is}
 use Rattle.machine.proofs.number_of.Statement.{statement}
 use Rattle.machine.proofs.number_of.Tie as tie
 
@@ -10,4 +10,4 @@ number-of-spec =
     (tie.spec
     (λ c. search needs) (λ c. search needs) (λ c. search needs) (λ c. search needs)
     (λ c κs. search needs)
-    (λ c. search number-read-so))
+    (λ c. search number-is))

@@ -1,6 +1,6 @@
 -- `machine::operand_of` meets its contract: its two bytes are there, and stand for the number at their place.
 use borrow.Author.Needs.{needs}
-use Rattle.machine.proofs.Fields.{operand-read}
+use Rattle.machine.proofs.Fields.{operand-is}
 use Rattle.machine.proofs.operand_of.Statement.{statement}
 use Rattle.machine.proofs.operand_of.Tie as tie
 
@@ -10,4 +10,4 @@ operand-of-spec =
     (tie.spec
     (λ c. search needs) (λ c. search needs)
     (λ c κs. search needs)
-    (λ c. search operand-read))
+    (λ c. search operand-is))

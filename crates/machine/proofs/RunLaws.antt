@@ -19,7 +19,7 @@ use Rattle.refusal.specs.declared.Refusal.{Refusal}
 use Rattle.refusal.specs.declared.Refusal.the-variants.{FuelUsedUp}
 use Rattle.refusal.specs.declared.Verdict.the-variants.{Passed, Refused}
 use Rattle.meaning.specs.Performing.{Setting, State, start, goes, ends, refuses, step, numberKept}
-use Rattle.meaning.specs.Running.{Run, Stop, refused, Ran, ranTo, tooShort, ofCode, outcomeOf, numberTold, valueWords, returnWords, streamRun}
+use Rattle.meaning.specs.Running.{Run, Stop, refused, Ran, ranTo, noneDone, tooShort, ofCode, outcomeOf, numberTold, valueWords, returnWords, streamRun}
 use Rattle.meaning.specs.StreamRun.{StepRefusal, ended-there, no-tag, full, too-many, cannot, Stops, used-up, returned, stuck, here, on}
 use Rattle.meaning.specs.StreamRun.{Steps as Led}
 use Rattle.meaning.proofs.Steps.{one-step}
@@ -29,7 +29,7 @@ use Rattle.machine.specs.declared.Answer.{Answer}
 use Rattle.machine.specs.Held.{wordsFrom, waiting, frameOf, stateOf, stepOf, goesOn, hasEnded, first, Going, Held, Lent}
 use Rattle.machine.specs.Does.{Does, Steps}
 use Rattle.machine.proofs.Frames.{words-top}
-use Rattle.machine.specs.Told.{answered, refusalNumber, dueAt, Tells, noneDone, Performed}
+use Rattle.machine.specs.Told.{answered, refusalNumber, dueAt, Tells, Performed}
 
 -- ---- `refusal_of`
 

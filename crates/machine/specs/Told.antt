@@ -5,7 +5,7 @@ use mathlib.Core.List.{List}
 use mathlib.Core.Path.{_≡_}
 use lib.Dec.{eqb, leb}
 use lib.ListN.{length}
-use Rattle.formats.specs.Refusals.{spaceTooShort, inputEnded, tooManyCalls, cannotPerform}
+use Rattle.formats.specs.Refusals.{inputEnded, tooManyCalls, cannotPerform}
 use Rattle.formats.specs.Results.{done, refusal}
 use Rattle.refusal.specs.Said.{said}
 use Rattle.meaning.specs.Performing.{numberKept}
@@ -35,10 +35,6 @@ dueAt values units s =
 
 pub record Tells (values : List ℕ) (units : ℕ) (s : Machine) (r : Answer) : Type 0 where
   pub tells : answered r ≡ dueAt values units s
-
--- 01: "A run refused before its first instruction .. answers 0 in every count."
-abbrev pub noneDone : Due
-noneDone = record { outcome = refusal spaceTooShort 0; units = 0; bytesRead = 0; bytesWritten = 0; number = 0 }
 
 -- A call of the stream run: its answer, every byte of the output, and the lengths of the work words, which are otherwise free.
 pub record Performed (due : Ran) (output′ values values′ places places′ : List ℕ) (r : Answer) : Type 0 where

@@ -8,11 +8,11 @@ ghost use Rattle.formats.specs.Numbers.{numberAt};
 ghost use Rattle.formats.specs.Records.{recordAt};
 ghost use Rattle.meaning.specs.Instructions.{instructionBytes, Push, Get, Add, Ifnot, Slide, Drop, WriteNumber, ReadTag, ReadNumber, Call, Return};
 ghost use Rattle.meaning.specs.Performing.{numberKept};
-ghost use Rattle.meaning.specs.Running.{valueWords, returnWords, streamRun};
+ghost use Rattle.meaning.specs.Running.{valueWords, returnWords, noneDone, streamRun};
 ghost use Rattle.refusal.specs.Number.{number};
 ghost use Rattle.machine.specs.Held.{frameOf, Sound, Going, Lent, limitOf, stoppedBy, nextTo, jumpTo, left};
 ghost use Rattle.machine.specs.Does.{OnNumbers, OnValues, WritesTag, OnOutput, FromInput, OnInput, OnPlaces, FromPlaces, Performs, Steps};
-ghost use Rattle.machine.specs.Told.{answered, refusalNumber, Tells, noneDone, Performed};
+ghost use Rattle.machine.specs.Told.{answered, refusalNumber, Tells, Performed};
 
 // Words that the value stack may hold, and those of the return places; one place is never used, since the first frame has none.
 const VALUE_WORDS: usize = 16384;

@@ -95,9 +95,11 @@ abbrev pub ranTo : List ℕ → Run → Ran
 ranTo output r = record { answer = answerOf r; output = written output 0 (r .last .output) }
 
 -- 01: "The runs test 13 before tree or fuel." "A run refused before its first instruction .. answers 0 in every count."
+abbrev pub noneDone : Answer
+noneDone = record { outcome = refusal spaceTooShort 0; units = 0; bytesRead = 0; bytesWritten = 0; number = 0 }
+
 abbrev pub tooShort : List ℕ → Ran
-tooShort output =
-    record { answer = record { outcome = refusal spaceTooShort 0; units = 0; bytesRead = 0; bytesWritten = 0; number = 0 }; output = output }
+tooShort output = record { answer = noneDone; output = output }
 
 -- 01: "Any buffer may be run as code". With so many value words and return words lent.
 unfoldable pub streamRun : (code input output : List ℕ) (fuel values returns : ℕ) → Ran

@@ -72,7 +72,7 @@ afterAll past r = record { performed = past ++ r .performed; last = r .last; sto
 
 -- Runs of one setting from one state on.
 pub record Runs (m : Setting) (s : State) : Type 0 where
-  -- "units never exceed fuel, and equal it at 14"
+  -- units never exceed the fuel, and equal it at 14
   pub within-fuel : (fuel : ℕ) → unitsOf (run m fuel s) ≤ fuel
   pub fuel-used : (fuel : ℕ) → run m fuel s .stop ≡ refused fuelUsedUp → unitsOf (run m fuel s) ≡ fuel
   -- a run is its steps, and nothing else is
@@ -110,7 +110,7 @@ untouchedBy r s = drop (r .answer .bytesWritten) s
 
 -- Calls of the stream run, each with its input and fuel, and with one code, one work space and one output.
 pub record Calls (output : List ℕ) (call : List ℕ → ℕ → Ran) : Type 0 where
-  -- "units never exceed fuel, and equal it at 14"
+  -- units never exceed the fuel, and equal it at 14
   pub within-fuel : (input : List ℕ) (fuel : ℕ) → call input fuel .answer .units ≤ fuel
   pub fuel-used : (input : List ℕ) (fuel place : ℕ) → call input fuel .answer .outcome ≡ refusal fuelUsedUp place → call input fuel .answer .units ≡ fuel
   -- a refusal's place is the bytes read, and its number 0
@@ -124,7 +124,7 @@ pub record Calls (output : List ℕ) (call : List ℕ → ℕ → Ran) : Type 0 
   -- with more fuel, bytes read and written only grow, and what was written is a prefix of what is written later
   pub reads-on : (input : List ℕ) (fuel more : ℕ) → fuel ≤ more → call input fuel .answer .bytesRead ≤ call input more .answer .bytesRead
   pub writes-on : (input : List ℕ) (fuel more : ℕ) → fuel ≤ more → Opens (writtenBy (call input fuel)) (writtenBy (call input more))
-  -- "a run that ends, ends for every larger fuel with the same answer"
+  -- a run that ends, ends with every larger fuel, with the same answer and output
   pub ended-stays : (input : List ℕ) (fuel more : ℕ) → call input fuel .answer .outcome ≡ done tt → fuel ≤ more → call input more ≡ call input fuel
   -- so does one that is refused, save where its fuel is used up
   pub stays :

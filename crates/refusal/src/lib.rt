@@ -46,7 +46,7 @@ pub enum Refusal {
     TooDeep,
 }
 
-// What a check says: passed, or the first refusal and its place.
+// What a check says: passed, or the first refusal and its place. What a run says: passed where it ended, or its refusal and the place.
 pub enum Verdict {
     Passed,
     Refused(Refusal, usize),

@@ -1,12 +1,13 @@
 //! Worked programs on trees about as deep as calls can be open.
 
 use reference::generate::{left_caterpillar, mixed_caterpillar, right_caterpillar};
+use reference::machine::known::computed::results;
 use reference::machine::known::programs::{FILL, GROW, SUM};
 use reference::machine::OPEN_LIMIT;
 use reference::{Random, Tree};
 
 use super::cases::worked;
-use super::computed::{check, results};
+use super::computed::check;
 use super::*;
 
 /// "18 a call with 1,024 open (the first frame counts)": a leaf under 1,023

@@ -1,11 +1,12 @@
 //! Worked programs on trees.
 
 use reference::generate;
+use reference::machine::known::computed::results;
 use reference::machine::known::programs::GROW;
 use reference::{Random, Token, Tree};
 
 use super::cases::worked;
-use super::computed::{check, results};
+use super::computed::check;
 use super::*;
 
 fn check_all(lent: &mut Lent, tree: &Tree, behind: &[u8]) {

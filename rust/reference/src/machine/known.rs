@@ -6,6 +6,7 @@ use super::{Ran, Stop, TestCase};
 mod addresses;
 mod before;
 mod calls;
+pub mod computed;
 mod effects;
 mod limits;
 pub mod programs;

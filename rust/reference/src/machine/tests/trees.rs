@@ -1,4 +1,5 @@
-use super::known::programs::{listed, FILL, GROW, SUM};
+use super::known::computed::results;
+use super::known::programs::{listed, GROW};
 use super::*;
 use crate::generate::{left_caterpillar, right_caterpillar, tree};
 use crate::tree::{tree_refusal, Token, Tree};
@@ -29,42 +30,6 @@ fn tree_and_more(random: &mut Random) -> (Tree, Vec<u8>) {
     (tree, input)
 }
 
-/// The labels in order, each with the number of nodes above it.
-fn labels(tree: &Tree) -> Vec<(i32, i32)> {
-    let mut pending = vec![0];
-    let mut labels = Vec::new();
-    for token in tree.prefix() {
-        let above = pending.pop().expect("a tree");
-        match token {
-            Token::Leaf(label) => labels.push((label, above)),
-            Token::Node => pending.extend([above + 1, above + 1]),
-        }
-    }
-    labels
-}
-
-/// The tokens of the tree with the labels changed.
-fn changed(tree: &Tree, change: fn((i32, i32)) -> i32) -> Vec<u8> {
-    let mut labels = labels(tree).into_iter().map(change);
-    let mut bytes = Vec::new();
-    for token in tree.prefix() {
-        let token = match token {
-            Token::Leaf(_) => Token::Leaf(labels.next().expect("a label")),
-            Token::Node => Token::Node,
-        };
-        token.write(&mut bytes);
-    }
-    bytes
-}
-
-/// The units column, added up: so many for each leaf, node and label 0, and
-/// for the run.
-fn units(tree: &Tree, leaf: usize, node: usize, zero: usize, run: usize) -> u64 {
-    let zeros = labels(tree).iter().filter(|label| label.0 == 0).count();
-    let tips = tree.tips();
-    (leaf * tips + node * (tips - 1) + zero * zeros + run) as u64
-}
-
 fn ends(case: &TestCase, tree: &Tree, units: u64, number: i32, wrote: &[u8]) {
     let (ran, _, bytes) = ran(case);
     let expected = Ran {
@@ -84,35 +49,9 @@ fn worked_programs_on_random_trees() {
     let mut random = Random::new(11);
     for _ in 0..300 {
         let (tree, input) = tree_and_more(&mut random);
-        let grown = changed(&tree, |(label, _)| label.wrapping_add(1));
-        ends(
-            &case(GROW, &input),
-            &tree,
-            units(&tree, 9, 6, 0, 1),
-            0,
-            &grown,
-        );
-        let sum = labels(&tree)
-            .iter()
-            .fold(0, |sum: i32, label| sum.wrapping_add(label.0));
-        ends(
-            &case(SUM, &input),
-            &tree,
-            units(&tree, 5, 6, 0, 1),
-            sum,
-            &[],
-        );
-        let filled = changed(&tree, |(label, above)| match label {
-            0 => 10 + above,
-            _ => label,
-        });
-        ends(
-            &case(FILL, &input),
-            &tree,
-            units(&tree, 9, 12, 1, 4),
-            0,
-            &filled,
-        );
+        for (listing, wrote, number, units) in results(&tree) {
+            ends(&case(listing, &input), &tree, units, number, &wrote);
+        }
     }
 }
 
@@ -144,9 +83,9 @@ fn deep_trees() {
     let mut random = Random::new(17);
     for caterpillar in [left_caterpillar, right_caterpillar] {
         let tree = caterpillar(&mut random, 1_023);
-        let grown = changed(&tree, |(label, _)| label.wrapping_add(1));
-        let deepest = case(GROW, &tree.tokens());
-        ends(&deepest, &tree, units(&tree, 9, 6, 0, 1), 0, &grown);
+        let [(listing, grown, number, units), ..] = results(&tree);
+        let deepest = case(listing, &tree.tokens());
+        ends(&deepest, &tree, units, number, &grown);
         let tree = caterpillar(&mut random, 1_024);
         let (ran, trace, _) = ran(&case(GROW, &tree.tokens()));
         assert_eq!(ran.refusal.map(|refusal| refusal.number), Some(18));

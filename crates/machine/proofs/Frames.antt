@@ -7,12 +7,14 @@ use mathlib.Core.Logic.{_≢_, _⊎_, inl, inr}
 use mathlib.Core.Path.{_≡_, refl, sym, ap, ap₂, _∙_}
 use native.Mathlib.Nat.{le-refl, le-trans}
 use native.Mathlib.Omega.{arith}
-use borrow.Author.Tests.{eq-eqb, ne-eqb, eqb-true, eqb-false}
+use borrow.Author.Tests.{eqb-true, eqb-false}
 use lib.Dec.{eqb}
 use lib.ListN.{length, getD, set, take, drop, length-set}
 use lib.Seq.{getD-set-same, getD-set-other}
 use Rattle.formats.specs.Refusals.{cannotPerform}
-use Rattle.meaning.specs.Performing.{Caller, wordsBelow, standing, wordAt, Step, refuses, one, two}
+use Rattle.meaning.specs.Levels.{atLevel}
+use Rattle.meaning.proofs.Levels.{level-newest, level-older}
+use Rattle.meaning.specs.Performing.{Caller, wordsBelow, standing, Step, refuses, one, two}
 use Rattle.machine.specs.declared.Machine.{Machine}
 use Rattle.machine.specs.Held.{wordsFrom, waiting, stateOf, Chained, first, above}
 
@@ -92,32 +94,24 @@ module _ (values : List ℕ) (base top : ℕ) (f : ℕ → ℕ → List ℕ → 
       ∙ ap (λ i. f (getD values (top - 1) 0) (getD values i 0) (wordsFrom values base (i - base))) less
 
 -- the word that stands k above the base
-word-top : (x k : ℕ) (xs : List ℕ) → k ≡ length xs → wordAt (x ∷ xs) k ≡ some x
-unfolding wordAt
-word-top x k xs e = rw (wordAt, eq-eqb _ _ e)
-
-word-under : (x k : ℕ) (xs : List ℕ) → k ≢ length xs → wordAt (x ∷ xs) k ≡ wordAt xs k
-unfolding wordAt
-word-under x k xs h = rw (wordAt, ne-eqb _ _ h)
-
-pub word-found : (values : List ℕ) (base n k : ℕ) → k < n → wordAt (wordsFrom values base n) k ≡ some (getD values (base + k) 0)
+pub word-found : (values : List ℕ) (base n k : ℕ) → k < n → atLevel (wordsFrom values base n) k ≡ some (getD values (base + k) 0)
 unfolding wordsFrom
 word-found values base zero k h = absurd (omega arith)
 word-found values base (suc n) k h =
     let counted = length-words values base n in
     elim (decide (eqb k n)) [
-      | inl e ↦ word-top _ k _ (eqb-true k n e ∙ sym counted) ∙ ap (λ j. some (getD values (base + j) 0)) (sym (eqb-true k n e))
+      | inl e ↦ level-newest _ k _ (eqb-true k n e ∙ sym counted) ∙ ap (λ j. some (getD values (base + j) 0)) (sym (eqb-true k n e))
       | inr e ↦
           let other : k ≢ n = eqb-false k n e in
-          word-under _ k _ (λ d. other (d ∙ counted)) ∙ word-found values base n k (omega arith)
+          level-older _ k _ (λ d. other (d ∙ counted)) ∙ word-found values base n k (omega arith)
     ]
 
-pub word-missing : (values : List ℕ) (base n k : ℕ) → n ≤ k → wordAt (wordsFrom values base n) k ≡ none
-unfolding wordsFrom wordAt
+pub word-missing : (values : List ℕ) (base n k : ℕ) → n ≤ k → atLevel (wordsFrom values base n) k ≡ none
+unfolding wordsFrom atLevel
 word-missing values base zero k h = refl
 word-missing values base (suc n) k h =
     let counted = length-words values base n in
-    word-under (getD values (base + n) 0) k (wordsFrom values base n) (λ d. let same : k ≡ n = d ∙ counted in absurd (omega arith)) ∙ word-missing values base n k (omega arith)
+    level-older (getD values (base + n) 0) k (wordsFrom values base n) (λ d. let same : k ≡ n = d ∙ counted in absurd (omega arith)) ∙ word-missing values base n k (omega arith)
 
 -- the topmost k of them, and those under these
 pub words-taken : (values : List ℕ) (base n lo k : ℕ) → base + n ≡ lo + k → base ≤ lo → take k (wordsFrom values base n) ≡ wordsFrom values lo k

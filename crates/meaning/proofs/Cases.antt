@@ -9,7 +9,8 @@ use Rattle.formats.specs.Records.{bytesOfRecord, flat, recordAt, nth}
 use Rattle.formats.specs.Tokens.{tagOf, tagAt}
 use Rattle.formats.specs.Written.{written}
 use Rattle.meaning.specs.Instructions.{Operation, Push, Get, Add, Ifnot, Jump, Slide, Drop, LeafTag, NodeTag, WriteNumber, ReadTag, ReadNumber, Call, Return, heldBy, operations, operationOf, instructionOf}
-use Rattle.meaning.specs.Performing.{Setting, start, goes, ends, refuses, holding, wordsBelow, standing, opened, wordAt, one, two, room, push, write, byTag, readNumber, call, kept, numberKept, leave, operate, perform, step}
+use Rattle.meaning.specs.Levels.{atLevel}
+use Rattle.meaning.specs.Performing.{Setting, start, goes, ends, refuses, holding, wordsBelow, standing, opened, one, two, room, push, write, byTag, readNumber, call, kept, numberKept, leave, operate, perform, step}
 use Rattle.meaning.specs.Running.{ofCode, Ran, Run, run, unitsOf, outcomeOf, numberTold, streamRun, valueWords, returnWords}
 
 -- A code's bytes.
@@ -152,7 +153,7 @@ cases : List Row
 cases = worked ++ (performed-well ++ (not-performed ++ at-ends))
 
 as-told : map ranOn cases ≡ map (λ r. r .gives) cases
-unfolding streamRun run step perform operate heldBy operationOf operations instructionOf nth recordAt flat bytesOfRecord bytesOf numberOf numberAt sum32 tagAt tagOf written standing wordsBelow opened wordAt one two room push write byTag readNumber call kept numberKept leave outcomeOf numberTold cases worked performed-well not-performed at-ends grow two-leaves grown blank codeOf ranOn ended-with refused-with ends-with stuck on-grow bare
+unfolding streamRun run step perform operate heldBy operationOf operations instructionOf nth recordAt flat bytesOfRecord bytesOf numberOf numberAt sum32 tagAt tagOf written standing wordsBelow opened atLevel one two room push write byTag readNumber call kept numberKept leave outcomeOf numberTold cases worked performed-well not-performed at-ends grow two-leaves grown blank codeOf ranOn ended-with refused-with ends-with stuck on-grow bare
 as-told = refl
 
 -- ---- the limits, on a machine that has room for 2 words and 2 open calls
@@ -182,7 +183,7 @@ limits = map stops
 within-limits :
     limits
     ≡ done 3 ∷ refusal 19 2 ∷ refusal 19 2 ∷ refusal 19 2 ∷ refusal 15 1 ∷ refusal 19 3 ∷ done 3 ∷ refusal 18 1 ∷ refusal 19 1 ∷ refusal 19 1 ∷ []
-unfolding streamRun run step perform operate heldBy operationOf operations instructionOf nth recordAt flat bytesOfRecord bytesOf numberOf numberAt sum32 tagAt tagOf written standing wordsBelow opened wordAt one two room push write byTag readNumber call kept numberKept leave outcomeOf numberTold limits stops small codeOf
+unfolding streamRun run step perform operate heldBy operationOf operations instructionOf nth recordAt flat bytesOfRecord bytesOf numberOf numberAt sum32 tagAt tagOf written standing wordsBelow opened atLevel one two room push write byTag readNumber call kept numberKept leave outcomeOf numberTold limits stops small codeOf
 within-limits = refl
 
 -- ---- the limit of 16,384 words

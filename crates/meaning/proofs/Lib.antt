@@ -1,4 +1,5 @@
 -- Proofs about stream runs.
+pub mod Levels
 pub mod Steps
 pub mod Runs
 pub mod Inputs

@@ -14,7 +14,8 @@ use Rattle.formats.specs.Refusals.{cannotPerform}
 use Rattle.formats.specs.Tokens.{labelBytes, Tag, ended, aLeaf, aNode, other}
 use Rattle.formats.proofs.Tokens.{Look, at-leaf, at-node, look}
 use Rattle.meaning.specs.Instructions.{Instruction, Operation, Push, Get, Add, Ifnot, Jump, Slide, Drop, LeafTag, NodeTag, WriteNumber, ReadTag, ReadNumber, Call, Return, operationOf}
-use Rattle.meaning.specs.Performing.{Setting, Caller, State, wordsBelow, standing, opened, wordAt, Step, goes, ends, refuses, to, holding, reading, writing}
+use Rattle.meaning.specs.Levels.{atLevel}
+use Rattle.meaning.specs.Performing.{Setting, Caller, State, wordsBelow, standing, opened, Step, goes, ends, refuses, to, holding, reading, writing}
 use Rattle.meaning.specs.Performing.{one, two, room, push, write, byTag, readNumber, call, kept, leave, operate, perform, step}
 use Rattle.meaning.specs.StreamRun.{StepRefusal, ended-there, no-tag, full, too-many, cannot, Within, Grows, OneStep}
 
@@ -198,7 +199,7 @@ module _ (m : Setting) (s : State) where
   sound-operate : (op : Operation) → Sound m s (operate m s op)
   unfolding operate
   sound-operate (Push x) = sound-push x
-  sound-operate (Get k) = sound-some (wordAt (s .frame) k) _ sound-push
+  sound-operate (Get k) = sound-some (atLevel (s .frame) k) _ sound-push
   sound-operate Add = sound-two _ _ (λ q p rest h. follows-fewer m s _ (sum32 p q ∷ rest) (omega arith))
   sound-operate (Ifnot a) = sound-one _ _ (λ x rest h. follows-fewer m s _ rest (omega arith))
   sound-operate (Jump a) = follows-fewer m s a (s .frame) (le-refl _)

@@ -1,4 +1,5 @@
 -- What stream code does.
+pub mod Levels
 pub mod Instructions
 pub mod Performing
 pub mod Running

@@ -8,6 +8,7 @@ use lib.Dec.{leb, ltb, eqb}
 use Rattle.formats.specs.Numbers.{bytesOf, numberAt, sum32}
 use Rattle.formats.specs.Refusals.{inputEnded, notATag, outputFull, tooManyCalls, cannotPerform}
 use Rattle.formats.specs.Tokens.{leafTag, nodeTag, labelBytes, Tag, ended, aLeaf, aNode, other, tagAt}
+use Rattle.meaning.specs.Levels.{atLevel}
 use Rattle.meaning.specs.Instructions.{Instruction, Operation, Push, Get, Add, Ifnot, Jump, Slide, Drop, LeafTag, NodeTag, WriteNumber, ReadTag, ReadNumber, Call, Return, operationOf}
 
 -- What a run is given: what each address holds, the input, the output's length; and its limits.
@@ -53,11 +54,6 @@ standing s = length (s .frame) + wordsBelow (s .callers)
 -- 01: "18 a call with 1,024 open (the first frame counts)". The calls open.
 unfoldable pub opened : State → ℕ
 opened s = suc (length (s .callers))
-
--- The word that stands so many words above the frame's base, if there is one.
-unfoldable pub wordAt : List ℕ → ℕ → Option ℕ
-wordAt [] k = none
-wordAt (x ∷ xs) k = elim (eqb k (length xs)) [ true ↦ some x | false ↦ wordAt xs k ]
 
 -- What becomes of an instruction. 01: "A refused instruction counts nothing and changes nothing." 01: "The run ends at the return of the first frame.
 -- Its answer gives .. the number (0 for a tree ..)".
@@ -165,7 +161,7 @@ leave (c ∷ cs) words s = goes (returning words c cs s)
 -- One line for each opcode, 0 to 13. 01: "At one instruction 19 comes before 15 to 18".
 unfoldable pub operate : Setting → State → Operation → Step
 operate m s (Push x) = push m x s
-operate m s (Get k) = elim (wordAt (s .frame) k) [ some x ↦ push m x s | none ↦ refuses cannotPerform ]
+operate m s (Get k) = elim (atLevel (s .frame) k) [ some x ↦ push m x s | none ↦ refuses cannotPerform ]
 operate m s Add = two (s .frame) (λ q p rest. goes (next (holding (sum32 p q ∷ rest) s)))
 operate m s (Ifnot a) = one (s .frame) (λ x rest. goes (to (elim (eqb x 0) [ true ↦ suc (s .address) | false ↦ a ]) (holding rest s)))
 operate m s (Jump a) = goes (to a s)

@@ -1,4 +1,4 @@
--- Proofs about stream runs.
+-- Proofs about stream runs and about what a program means.
 pub mod Levels
 pub mod Steps
 pub mod Runs
@@ -6,3 +6,22 @@ pub mod Inputs
 pub mod Calls
 pub mod StreamRun
 pub mod Cases
+pub mod Outcomes
+pub mod Evaluation
+pub mod Proper
+pub mod Sorts
+pub mod Further
+pub mod StopRecords
+pub mod OpenCalls
+pub mod OneWay
+pub mod Substitution
+pub mod Leads
+pub mod Simulation
+pub mod Agrees
+pub mod SourceChecks
+pub mod SourceRun
+pub mod Meaning
+pub mod MeaningCases
+pub mod ReductionCases
+pub mod SourceCases
+pub mod Witnesses

@@ -1,6 +1,11 @@
--- What stream code does.
+-- What stream code does, and what a program means.
 pub mod Levels
 pub mod Instructions
 pub mod Performing
 pub mod Running
 pub mod StreamRun
+pub mod Evaluation
+pub mod OpenCalls
+pub mod Reductions
+pub mod SourceRun
+pub mod Meaning

@@ -1,1 +1,2 @@
-// Definitions and theorems, and no code: what stream code does, document 01's "Code and the stream run". See specs/.
+// Definitions and theorems, and no code: what stream code does, document 01's "Code and the stream run"; and what a program means, its "The source
+// evaluation", beside document 000's reductions. See specs/.

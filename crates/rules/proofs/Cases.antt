@@ -19,24 +19,24 @@ use Rattle.rules.proofs.OrderChecker.{order-checker}
 
 -- ---- programs
 
-numbered : Expr → Function
+unfoldable pub numbered : Expr → Function
 numbered body = record { sort = numberValued; parameters = 0; body = body }
 
-treed : Expr → Function
+unfoldable pub treed : Expr → Function
 treed body = record { sort = treeValued; parameters = 0; body = body }
 
 -- A function with one number parameter.
-taking : Expr → Function
+unfoldable pub taking : Expr → Function
 taking body = record { sort = numberValued; parameters = 1; body = body }
 
-programOf : List Function → Program
+unfoldable pub programOf : List Function → Program
 programOf fs = record { edition = 1; functions = fs }
 
 -- Function b on tree a, with no numbers; with one.
-on : ℕ → ℕ → Expr
+unfoldable pub on : ℕ → ℕ → Expr
 on b a = call a b noArgs
 
-with-one : ℕ → ℕ → Expr → Expr
+unfoldable pub with-one : ℕ → ℕ → Expr → Expr
 with-one b a x = call a b (arg x noArgs)
 
 -- So many Lets around a body; so many Cases, each in the node part of the one before it, on the tree at the head.
@@ -158,7 +158,7 @@ left-typed (suc k) g n a =
 -- ---- witnesses
 
 -- Grow is within the limits and passes: what is proved of such programs is not empty.
-grow-passes : order grow ≡ done tt
+pub grow-passes : order grow ≡ done tt
 unfolding order passOne passOver atEntry roomy wordsTested bareNumber typed named enteredAll entered enteredArgs inside startOf passTwo walkAll noneLeft walk walkArgs joined sameNames takeHead resultType isInt isTree fits size prefix prefixes nth signatureOf grow
 grow-passes = refl
 
@@ -166,10 +166,10 @@ grow-admitted : Admitted grow
 grow-admitted = order-checker .passes grow grow-lawful .0 grow-passes
 
 -- Its parts exchanged, it is within the limits and passes pass one; the first fault is the first Call, 11 at record 6.
-swap : Program
+unfoldable pub swap : Program
 swap = programOf (treed (caseOf 0 (leafOf (var 0)) (nodeOf (on 0 2) (on 0 1))) ∷ [])
 
-swap-lawful : Lawful swap
+pub swap-lawful : Lawful swap
 unfolding swap programOf treed on total signatureOf size prefix prefixes arityOf nth mostParameters countArgs
 swap-lawful = record {
   edition = refl;
@@ -186,7 +186,7 @@ swap-lawful = record {
   );
 }
 
-swap-verdicts : (passOne swap ≡ done tt) × (passTwo swap ≡ refusal 11 6)
+pub swap-verdicts : (passOne swap ≡ done tt) × (passTwo swap ≡ refusal 11 6)
 unfolding passOne passOver atEntry roomy wordsTested bareNumber typed named enteredAll entered enteredArgs inside startOf passTwo walkAll noneLeft walk walkArgs joined sameNames takeHead resultType isInt isTree fits size prefix prefixes nth signatureOf swap programOf treed on
 swap-verdicts = (refl, refl)
 

@@ -1,0 +1,29 @@
+-- What holds of a program's meaning (Meaning), put together.
+use Rattle.meaning.specs.Meaning.{Meaning}
+use Rattle.meaning.proofs.Evaluation.{one-value, one-result, rules-begun, least-open}
+use Rattle.meaning.proofs.Proper.{proper}
+use Rattle.meaning.proofs.OpenCalls.{of-sort, held}
+use Rattle.meaning.proofs.OneWay.{one-way, at-end, one-function}
+use Rattle.meaning.proofs.Agrees.{agrees}
+use Rattle.meaning.proofs.SourceRun.{cut, source-runs, behind-tree}
+
+pub meaning : Meaning
+meaning = record {
+  evaluations = λ program. record {
+    one-value = one-value program;
+    one-result = one-result program;
+    rules-begun = rules-begun program;
+    least-open = least-open program;
+    of-sort = λ t first o n v p. of-sort program t (proper program p) first o n v;
+  };
+  held = λ program t p. held program t (proper program p);
+  cut = cut;
+  reductions = λ program. record {
+    one-way = one-way program;
+    at-end = at-end program;
+    one-function = one-function program;
+    agrees = λ first t p. agrees program first t (proper program p);
+  };
+  source-runs = source-runs;
+  behind-tree = behind-tree;
+}

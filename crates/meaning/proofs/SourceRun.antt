@@ -1,0 +1,305 @@
+-- What holds of every call of the source run, from what holds of the evaluation and of the reductions.
+--
+-- What the checks before the evaluation refuse, the call refuses. Where they pass, it tells the evaluation's outcome, cut by the fuel. The evaluation
+-- ends or stops at a call too many: n expressions begin, then there is a value or a stop. With fuel for n expressions the value or the stop is told,
+-- with less 14. So each call has ended with a value that the evaluation itself gives, or it is refused: what holds of every call is shown of both.
+use Prim.Native.Nat.{ℕ, zero, suc, _+_, _^_, _≤_, _<_, zero-le}
+use mathlib.Core.List.{List, _++_}
+use mathlib.Core.Logic.{inl, inr}
+use mathlib.Core.Path.{_≡_, refl, sym, ap, ap₂, _∙_}
+use native.Mathlib.Decide.{decLe}
+use native.Mathlib.Nat.{add-zero, add-suc, zero-add, suc-add, le-of-suc-le-suc}
+use native.Mathlib.Omega.{arith}
+use borrow.Author.Tests.{le-leb, lt-leb}
+use lib.Dec.{lit<}
+use lib.ListN.{length, drop, length-append, length-drop, take-append-drop}
+use Rattle.formats.specs.Numbers.{Bytes}
+use Rattle.formats.specs.Refusals.{spaceTooShort, fuelUsedUp, outputFull, tooManyCalls}
+use Rattle.formats.specs.Results.{done, refusal}
+use Rattle.formats.specs.Tokens.{Tree, firstTree}
+use Rattle.formats.specs.Programs.{Sort, numberValued, treeValued, Program}
+use Rattle.formats.proofs.Results.{done-injective, done-not, then-refused, byResult}
+use Rattle.formats.proofs.Reader.{tree-reader}
+use Rattle.formats.proofs.Written.{front-written, behind-written}
+use Rattle.meaning.specs.Running.{mostCalls}
+use Rattle.meaning.specs.Evaluation.{Value, Ends, resultBytes, resultNumber}
+use Rattle.meaning.specs.OpenCalls.{Outcome, gives, stops, begins, begun, after, evaluation, within}
+use Rattle.meaning.specs.SourceRun.{SourceRan, refusedAfter, endedAfter, told, tellFrom, sourceRun}
+use Rattle.meaning.specs.Meaning.{OfSort, TooMany, Cut, Passed, EndedWith, RefusedWith, ByReductions, Refuses18, SourceRuns}
+use Rattle.meaning.proofs.Outcomes.{begun-after}
+use Rattle.meaning.proofs.Proper.{ProperProgram, proper}
+use Rattle.meaning.proofs.OpenCalls.{of-sort, held}
+use Rattle.meaning.proofs.Agrees.{agrees}
+use Rattle.meaning.proofs.SourceChecks.{checked, file-stops, pass-one-stops, space-stops, tree-left}
+use Rattle.meaning.proofs.SourceChecks.{passed-done, done-passed, passed-passes, checks-behind}
+
+-- ---- fuel
+
+-- fuel cuts an outcome short, and does nothing else
+pub cut : (o : Outcome Value) (fuel : ℕ) → Cut o fuel
+unfolding begun within after
+cut (gives v) fuel = record { enough = λ h. refl; short = λ h. absurd (omega arith) }
+cut (stops why r) fuel = record { enough = λ h. refl; short = λ h. absurd (omega arith) }
+cut (begins o) zero = record { enough = λ h. absurd (omega arith); short = λ h. refl }
+cut (begins o) (suc fuel) =
+    record {
+      enough = λ h. ap begins (cut o fuel .enough (le-of-suc-le-suc h));
+      short = λ h. ap begins (cut o fuel .short (le-of-suc-le-suc h));
+    }
+
+-- ---- what an outcome is told as
+
+-- expressions begun are counted with those before
+tell-after : (k n : ℕ) (o : Outcome Value) (output : List ℕ) → tellFrom k (after n o) output ≡ tellFrom (k + n) o output
+unfolding after tellFrom
+tell-after k zero o output = rw add-zero
+tell-after k (suc n) o output = tell-after (suc k) n o output ∙ ap (λ m. tellFrom m o output) (suc-add k n ∙ sym (add-suc k n))
+
+-- with none before
+tell-all : (n : ℕ) (o : Outcome Value) (output : List ℕ) → tellFrom 0 (after n o) output ≡ tellFrom n o output
+tell-all n o output = tell-after 0 n o output ∙ ap (λ m. tellFrom m o output) (zero-add n)
+
+-- a value
+module _ (n : ℕ) (v : Value) (output : List ℕ) where
+  -- with space for it
+  told-whole : length (resultBytes v) ≤ length output → told n v output ≡ endedAfter n v output
+  unfolding told
+  told-whole h = rw (told, le-leb _ _ h)
+
+  -- with less
+  told-short : length output < length (resultBytes v) → told n v output ≡ refusedAfter n outputFull 0 output
+  unfolding told
+  told-short h = rw (told, lt-leb _ _ h)
+
+-- an outcome where n expressions begin, cut by fuel
+module _ (o last : Outcome Value) (n fuel : ℕ) (output : List ℕ) (is : o ≡ after n last) (no-more : begun last ≡ 0) where
+  -- n is their count
+  begins-all : begun o ≡ n
+  begins-all = ap begun is ∙ begun-after n last ∙ ap (λ m. n + m) no-more ∙ add-zero n
+
+  -- with fuel for all of them
+  tell-enough : n ≤ fuel → tellFrom 0 (within fuel o) output ≡ tellFrom n last output
+  tell-enough h = ap (λ p. tellFrom 0 p output) (cut o fuel .enough (omega (arith, begins-all)) ∙ is) ∙ tell-all n last output
+
+  -- with less
+  tell-short : fuel < n → tellFrom 0 (within fuel o) output ≡ refusedAfter fuel fuelUsedUp 0 output
+  unfolding tellFrom
+  tell-short h = ap (λ p. tellFrom 0 p output) (cut o fuel .short (omega (arith, begins-all))) ∙ tell-all fuel (stops fuelUsedUp 0) output
+
+-- ---- answers, field by field
+
+module _ {n : ℕ} {output : List ℕ} {ran : SourceRan} where
+  -- of a refusal
+  refused-with : {number place : ℕ} → ran ≡ refusedAfter n number place output → RefusedWith n number place output ran
+  refused-with e = rw e (record { outcome = refl; expressions = refl; no-bytes = refl; no-number = refl; untouched = refl })
+
+  -- of a value that has space
+  module _ (v : Value) (space : length (resultBytes v) ≤ length output) where
+    -- its bytes stand at the output's start, and behind them all is as it was
+    ended-with : ran ≡ endedAfter n v output → EndedWith n v output ran
+    ended-with e = rw e (record {
+      outcome = refl;
+      expressions = refl;
+      bytes = refl;
+      number = refl;
+      result = rw zero-add at (front-written output 0 (resultBytes v) (rw zero-add space));
+      rest = rw zero-add at (behind-written output 0 (resultBytes v) (rw zero-add space));
+    })
+
+    -- so the output keeps its length
+    ended-length : EndedWith n v output ran → length (ran .output) ≡ length output
+    ended-length e =
+        let k : ℕ = length (resultBytes v) in
+        let parts : ran .output ≡ resultBytes v ++ drop k output = sym (take-append-drop k (ran .output)) ∙ ap₂ _++_ (e .result) (e .rest) in
+        ap length parts ∙ length-append (resultBytes v) (drop k output) ∙ omega (arith, length-drop k output)
+
+-- a value of either sort tells a number of 32 bits
+sort-fits : (s : Sort) (v : Value) → OfSort s v → resultNumber v < 2 ^ 32
+unfolding resultNumber
+sort-fits numberValued (Value.number i) fits = fits
+sort-fits numberValued (Value.tree t) fits = absurd fits
+sort-fits treeValued (Value.number i) fits = absurd fits
+sort-fits treeValued (Value.tree t) fits = lit< tt
+
+-- ---- calls
+
+-- by whether a number is at most another
+by-bound : {A : Type 0} (m n : ℕ) → (m ≤ n → A) → (n < m → A) → A
+by-bound m n enough less = elim (decLe m n) [ yes h ↦ enough h | no h ↦ less (omega arith) ]
+
+module _ (file input output : List ℕ) (values returns : ℕ) (bs : Bytes file) where
+  -- The call with so much fuel.
+  abbrev ran : ℕ → SourceRan
+  ran fuel = sourceRun file input output fuel values returns
+
+  -- what the checks refuse, it refuses
+  call-refused : (number place fuel : ℕ) → checked file input values returns ≡ refusal number place → RefusedWith 0 number place output (ran fuel)
+  unfolding sourceRun
+  call-refused number place fuel e = refused-with (rw (sourceRun, e))
+
+  -- they pass
+  module _ (program : Program) (t : Tree) (p : Passed file input values returns program t) where
+    -- so the program is proper
+    proper-passed : ProperProgram program
+    proper-passed = proper program (passed-passes file input values returns program t bs p)
+
+    -- the call tells the evaluation's outcome
+    call-tells : (fuel : ℕ) → ran fuel ≡ tellFrom 0 (within fuel (evaluation program mostCalls t)) output
+    unfolding sourceRun
+    call-tells fuel = rw (sourceRun, passed-done file input values returns program t p)
+
+    -- an evaluation that ends
+    module _ (n : ℕ) (v : Value) (fuel : ℕ) (ends : Ends program t mostCalls n v) where
+      -- gives its value
+      value-given : evaluation program mostCalls t ≡ after n (gives v)
+      value-given = held program t proper-passed .gives-value mostCalls n v .1 ends
+
+      -- which is told with fuel for it
+      value-told : n ≤ fuel → ran fuel ≡ told n v output
+      unfolding tellFrom begun
+      value-told h = call-tells fuel ∙ tell-enough _ (gives v) n fuel output value-given refl h
+
+      -- and space
+      call-ends : n ≤ fuel → length (resultBytes v) ≤ length output → EndedWith n v output (ran fuel)
+      call-ends h space = ended-with v space (value-told h ∙ told-whole n v output space)
+
+      -- not with less space
+      call-full : n ≤ fuel → length output < length (resultBytes v) → RefusedWith n outputFull 0 output (ran fuel)
+      call-full h less = refused-with (value-told h ∙ told-short n v output less)
+
+      -- nor with less fuel
+      call-short : fuel < n → RefusedWith fuel fuelUsedUp 0 output (ran fuel)
+      unfolding begun
+      call-short less = refused-with (call-tells fuel ∙ tell-short _ (gives v) n fuel output value-given refl less)
+
+    -- an evaluation that stops at a call too many
+    call-stops : TooMany program t mostCalls → Refuses18 output ran
+    unfolding tellFrom begun
+    call-stops s =
+        let last : Outcome Value = stops tooManyCalls (s .place) in
+        record {
+          expressions = s .expressions;
+          enough = λ fuel h. refused-with (call-tells fuel ∙ tell-enough _ last (s .expressions) fuel output (s .stopped) refl h);
+          short = λ fuel less. refused-with (call-tells fuel ∙ tell-short _ last (s .expressions) fuel output (s .stopped) refl less);
+        }
+
+  -- What a call comes to: it has ended with the value of an evaluation that ends, or it is refused.
+  data Answers (fuel : ℕ) : Type 0 where
+    has-ended :
+        (program : Program) (t : Tree) (n : ℕ) (v : Value)
+        → Passed file input values returns program t
+        → Ends program t mostCalls n v
+        → n ≤ fuel
+        → length (resultBytes v) ≤ length output
+        → EndedWith n v output (ran fuel)
+        → Answers fuel
+    is-refused : (n number place : ℕ) → n ≤ fuel → RefusedWith n number place output (ran fuel) → Answers fuel
+
+  -- it comes to that where the checks pass ..
+  answers-passed : (program : Program) (t : Tree) (fuel : ℕ) → Passed file input values returns program t → Answers fuel
+  answers-passed program t fuel p = elim (held program t (proper-passed program t p) .ends-or-stops mostCalls) [
+    | inl e ↦
+        let n : ℕ = e .expressions in
+        let v : Value = e .value in
+        by-bound n fuel
+        (λ h. by-bound (length (resultBytes v)) (length output)
+        (λ space. has-ended program t n v p (e .ends) h space (call-ends program t p n v fuel (e .ends) h space))
+        (λ less. is-refused n outputFull 0 h (call-full program t p n v fuel (e .ends) h less)))
+        (λ less. is-refused fuel fuelUsedUp 0 (omega arith) (call-short program t p n v fuel (e .ends) less))
+    | inr s ↦
+        let r = call-stops program t p s in
+        by-bound (r .expressions) fuel
+        (λ h. is-refused (r .expressions) tooManyCalls 0 h (r .enough fuel h))
+        (λ less. is-refused fuel fuelUsedUp 0 (omega arith) (r .short fuel less))
+  ]
+
+  -- .. and where they refuse
+  answers : (fuel : ℕ) → Answers fuel
+  answers fuel =
+      byResult (checked file input values returns)
+      (λ c e. answers-passed (c .program) (c .tree) fuel (done-passed file input values returns c e))
+      (λ number place e. is-refused 0 number place zero-le (call-refused number place fuel e))
+
+  -- a refusal leaves the output
+  answers-untouched :
+      (number place fuel : ℕ)
+      → Answers fuel
+      → ran fuel .answer .outcome ≡ refusal number place
+      → RefusedWith (ran fuel .answer .begun) number place output (ran fuel)
+  answers-untouched number place fuel (has-ended program t n v p ends h space r) e = done-not (r .outcome) e
+  answers-untouched number place fuel (is-refused n why q h r) e =
+      record { outcome = e; expressions = refl; no-bytes = r .no-bytes; no-number = r .no-number; untouched = r .untouched }
+
+  -- the reductions lead to the value of a call that ended
+  answers-reached :
+      (program : Program) (t : Tree) (fuel : ℕ)
+      → Passed file input values returns program t
+      → Answers fuel
+      → ran fuel .answer .outcome ≡ done tt
+      → ByReductions program t output (ran fuel)
+  answers-reached program t fuel p (has-ended other u n v q d h space r) e =
+      let same-program : other ≡ program = done-injective (sym (q .holds) ∙ p .holds) in
+      let same-tree : u ≡ t = done-injective (sym (q .reads) ∙ p .reads) in
+      let ends : Ends program t mostCalls n v = rw (same-program, same-tree) at d in
+      record {
+        expressions = n;
+        value = v;
+        gives = r;
+        ends = ends;
+        first = ends .first;
+        is-first = ends .is-first;
+        leads = agrees program (ends .first) t (proper-passed program t p) (ends .is-first) .leads mostCalls n v ends;
+      }
+  answers-reached program t fuel p (is-refused n why q h r) e = done-not e (r .outcome)
+
+  -- no more expressions begin than there is fuel
+  answers-within : (fuel : ℕ) → Answers fuel → ran fuel .answer .begun ≤ fuel
+  answers-within fuel (has-ended program t n v p ends h space r) = rw (r .expressions) h
+  answers-within fuel (is-refused n why q h r) = rw (r .expressions) h
+
+  -- the number is one of 32 bits, since the tree's labels are
+  answers-fits : (fuel : ℕ) → Bytes input → Answers fuel → ran fuel .answer .number < 2 ^ 32
+  answers-fits fuel bytes (has-ended program t n v p ends h space r) =
+      let labelled = tree-reader .gives input t bytes (p .reads) .labelled in
+      let first = ends .first in
+      let fits = of-sort program t (proper-passed program t p) first mostCalls n v labelled (ends .is-first) ends in
+      rw (r .number) (sort-fits (first .sort) v fits)
+  answers-fits fuel bytes (is-refused n why q h r) = rw (r .no-number) (lit< tt)
+
+  -- the output keeps its length
+  answers-length : (fuel : ℕ) → Answers fuel → length (ran fuel .output) ≡ length output
+  answers-length fuel (has-ended program t n v p ends h space r) = ended-length v space r
+  answers-length fuel (is-refused n why q h r) = ap length (r .untouched)
+
+  -- every answer of a call
+  pub source-runs : SourceRuns file input output values returns ran
+  source-runs =
+      record {
+        file-refused = λ number place fuel e. call-refused number place fuel (file-stops file input values returns number place e);
+        pass-one-refused = λ program number place fuel h e.
+            call-refused number place fuel (pass-one-stops file input values returns program h number place e);
+        space-too-short = λ program fuel h one short. call-refused spaceTooShort 0 fuel (space-stops file input values returns program h one short);
+        tree-refused = λ program number place fuel h one v r e.
+            call-refused number place fuel (tree-left file input values returns program h one v r ∙ then-refused _ e);
+        ends = λ program t n v fuel p. call-ends program t p n v fuel;
+        output-short = λ program t n v fuel p. call-full program t p n v fuel;
+        fuel-short = λ program t n v fuel p. call-short program t p n v fuel;
+        too-many = λ program t p none. elim (held program t (proper-passed program t p) .ends-or-stops mostCalls) [
+          | inl e ↦ absurd (none (e .expressions) (e .value) (e .ends))
+          | inr s ↦ call-stops program t p s
+        ];
+        untouched = λ number place fuel. answers-untouched number place fuel (answers fuel);
+        by-reductions = λ program t fuel p. answers-reached program t fuel p (answers fuel);
+        within-fuel = λ fuel. answers-within fuel (answers fuel);
+        number-fits = λ fuel bytes. answers-fits fuel bytes (answers fuel);
+        same-length = λ fuel. answers-length fuel (answers fuel);
+      }
+
+-- the source run looks at no byte behind the tree
+pub behind-tree :
+    (file input rest output : List ℕ) (fuel values returns : ℕ) (t : Tree)
+    → Bytes input
+    → firstTree input ≡ done t
+    → sourceRun file (input ++ rest) output fuel values returns ≡ sourceRun file input output fuel values returns
+unfolding sourceRun
+behind-tree file input rest output fuel values returns t bs e = rw (sourceRun, checks-behind file input rest values returns t bs e)

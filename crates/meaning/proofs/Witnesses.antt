@@ -1,0 +1,100 @@
+-- Witnesses: programs that pass pass one, in and out of order, whose evaluation ends, and one whose evaluation is endless. So what is proved of such
+-- programs (Meaning) is not empty.
+use Prim.Native.Nat.{ℕ, zero, suc}
+use mathlib.Core.List.{[]}
+use mathlib.Core.Option.{some}
+use mathlib.Core.Path.{_≡_, refl, sym, ap, _∙_}
+use lib.Dec.{lit<, lit≤}
+use Rattle.formats.specs.Numbers.{sum32}
+use Rattle.formats.specs.Refusals.{tooManyCalls}
+use Rattle.formats.specs.Tokens.{Tree, leaf, node}
+use Rattle.formats.specs.Records.{nth}
+use Rattle.formats.specs.Programs.{prefix, prefixes, size, arityOf, countArgs, signatureOf, total, Function, Program, mostParameters}
+use Rattle.formats.proofs.Results.{then-inv}
+use Rattle.formats.proofs.ProgramCases.{grow, grow-lawful}
+use Rattle.rules.specs.Types.{isInt, isTree, fits, resultType}
+use Rattle.rules.specs.Scopes.{inside, startOf, entered, enteredArgs, enteredAll}
+use Rattle.rules.specs.PassOne.{named, typed, bareNumber, wordsTested, roomy, atEntry, passOver, passOne}
+use Rattle.rules.specs.PassTwo.{order}
+use Rattle.rules.proofs.Cases.{numbered, treed, programOf, on, grow-passes, swap, swap-lawful, swap-verdicts}
+use Rattle.meaning.specs.Levels.{atLevel}
+use Rattle.meaning.specs.Evaluation.{Value, tree, Ends, resultNumber}
+use Rattle.meaning.specs.OpenCalls.{gives, stops, begins, after, next, numberOr, treeOr, resultTree, evaluate, evaluateArgs, firstRecord, called, evaluation}
+use Rattle.meaning.specs.Reductions.{valueTerm, applied}
+use Rattle.meaning.specs.Meaning.{PassesOne, Endless, Reaches}
+use Rattle.meaning.proofs.Outcomes.{gives-not}
+use Rattle.meaning.proofs.Meaning.{meaning}
+use Rattle.meaning.proofs.MeaningCases.{two-leaves, again}
+
+-- ---- two that end
+
+-- A program whose evaluation on tree T ends, and whose reductions lead to the same value.
+record Witness (program : Program) (calls begun : ℕ) (v : Value) : Type 0 where
+  passes : PassesOne program
+  first : Function
+  is-first : nth (program .functions) 0 ≡ some first
+  ends : Ends program two-leaves calls begun v
+  leads : Reaches program (applied first two-leaves) (valueTerm v)
+
+-- by the theorem, from what the evaluation held to so many calls gives
+witness : (program : Program) (calls begun : ℕ) (v : Value) (first : Function)
+    → PassesOne program
+    → nth (program .functions) 0 ≡ some first
+    → evaluation program calls two-leaves ≡ after begun (gives v)
+    → Witness program calls begun v
+witness program calls begun v first passes is-first gives-it =
+    let ends = meaning .held program two-leaves passes .gives-value calls begun v .0 gives-it in
+    record {
+      passes = passes;
+      first = first;
+      is-first = is-first;
+      ends = ends;
+      leads = meaning .reductions program .agrees first two-leaves passes is-first .leads calls begun v ends;
+    }
+
+-- Grow, which passes both passes
+grow-witness : Witness grow 2 14 (tree (node (leaf 6) (leaf 8)))
+unfolding order evaluation called evaluate evaluateArgs next after resultNumber resultTree numberOr treeOr atLevel sum32 nth firstRecord total signatureOf size prefix prefixes grow two-leaves
+grow-witness =
+    witness grow 2 14 _ _ (record { lawful = grow-lawful; passes = then-inv (passOne grow) _ tt grow-passes .first }) refl refl
+
+-- its parts exchanged, which pass two refuses
+swap-witness : Witness swap 2 10 (tree (node (leaf 7) (leaf 5)))
+unfolding evaluation called evaluate evaluateArgs next after resultNumber resultTree numberOr treeOr atLevel nth firstRecord total signatureOf size prefix prefixes swap treed programOf on two-leaves
+swap-witness = witness swap 2 10 _ _ (record { lawful = swap-lawful; passes = swap-verdicts .0 }) refl refl
+
+-- ---- one that is endless
+
+-- Call 0 on 0 is within the limits and passes
+again-passes : PassesOne again
+unfolding passOne passOver atEntry roomy wordsTested bareNumber typed named enteredAll entered enteredArgs inside startOf resultType isInt isTree fits size prefix prefixes nth signatureOf total arityOf countArgs mostParameters again numbered programOf on
+again-passes = record {
+  lawful = record {
+    edition = refl;
+    some-function = lit≤ tt;
+    few-functions = lit≤ tt;
+    few-nodes = lit≤ tt;
+    functions = (record { few-parameters = lit≤ tt; in-range = ((lit< tt, lit< tt), tt); applied = (refl, tt) }, tt);
+  };
+  passes = refl;
+}
+
+-- a call of it where so many may be open
+record Stopped (calls r : ℕ) (t : Tree) : Type 0 where
+  at-call : ℕ
+  stopped : called again calls r 0 [] t ≡ after calls (stops tooManyCalls at-call)
+
+-- stops, however many
+again-stops : (calls r : ℕ) (t : Tree) → Stopped calls r t
+unfolding called evaluate evaluateArgs next after nth atLevel treeOr again numbered programOf on
+again-stops zero r t = record { at-call = r; stopped = refl }
+again-stops (suc calls) r t =
+    let deeper = again-stops calls _ t in
+    record { at-call = deeper .at-call; stopped = ap begins (deeper .stopped) }
+
+-- so its evaluation does not end, on any tree
+again-endless : (t : Tree) → Endless again t
+unfolding evaluation
+again-endless t o n v ends =
+    let given = meaning .held again t again-passes .gives-value o n v .1 ends in
+    gives-not n o tooManyCalls _ v (sym given ∙ again-stops o 0 t .stopped)

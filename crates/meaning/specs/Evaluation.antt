@@ -1,0 +1,159 @@
+-- Document 01, "The source evaluation": what a program means. "This is document 000's, without fuel or limits; it is fed a program's records and a
+-- tree." "Nothing is refused."
+--
+-- What holds of it stands in Meaning.antt: among others that it gives the value that document 000's reductions (Reductions.antt) lead to.
+use Prim.Native.Nat.{ℕ, zero, suc, _+_, max}
+use mathlib.Core.List.{List, [], _∷_}
+use mathlib.Core.Option.{Option, some}
+use mathlib.Core.Path.{_≡_}
+use Rattle.formats.specs.Numbers.{sum32}
+use Rattle.formats.specs.Tokens.{Tree, leaf, node, tokens}
+use Rattle.formats.specs.Records.{nth}
+use Rattle.formats.specs.Programs.{Expr, const, var, add, ifZero, letIn, leafOf, nodeOf, caseOf, call, Args, noArgs, arg, Function, Program}
+use Rattle.meaning.specs.Levels.{atLevel}
+
+pub data Value : Type 0 where
+  number : ℕ → Value
+  tree : Tree → Value
+
+-- What names stand for: the numbers and the trees named so far, the newest first.
+pub record Environment : Type 0 where
+  pub numbers : List ℕ
+  pub trees : List Tree
+
+-- 01: "Names count from 0 along the path".
+abbrev pub numberNamed : Environment → ℕ → Option ℕ
+numberNamed E a = atLevel (E .numbers) a
+
+abbrev pub treeNamed : Environment → ℕ → Option Tree
+treeNamed E a = atLevel (E .trees) a
+
+-- 01: "Let's body and Case's leaf part add one number name".
+abbrev pub withNumber : ℕ → Environment → Environment
+withNumber i E = record { numbers = i ∷ E .numbers; trees = E .trees }
+
+-- 01: "Case's node part two tree names, left first".
+abbrev pub withTrees : Tree → Tree → Environment → Environment
+withTrees l r E = record { numbers = E .numbers; trees = r ∷ (l ∷ E .trees) }
+
+-- 01: "with these numbers and the named tree alone".
+abbrev pub inCall : List ℕ → Tree → Environment
+inCall numbers t = record { numbers = numbers; trees = t ∷ [] }
+
+-- 01: "IfZero takes its zero part on 0, else the other".
+unfoldable pub picked : ℕ → Expr → Expr → Expr
+picked zero z o = z
+picked (suc i) z o = o
+
+-- 01: "Case, by its tree, takes the leaf part with the label named, or the node part with the two trees named."
+unfoldable pub branch : Tree → Expr → Expr → Expr
+branch (leaf x) p q = p
+branch (node l r) p q = q
+
+unfoldable pub inBranch : Tree → Environment → Environment
+inBranch (leaf x) E = withNumber x E
+inBranch (node l r) E = withTrees l r E
+
+-- `Takes program E e o n v`: in the environment E, e has the value v; n expressions begin, e among them; at most o calls are open at once, the one that
+-- e stands in among them. 01: "Each expression begun adds 1; to take a part is to begin it and find its value." A rule for each kind of record:
+mutual
+  pub data Takes (program : Program) : Environment → Expr → ℕ → ℕ → Value → Type 0 where
+    -- "Const gives i"
+    Const : {E : Environment} {i o : ℕ} → Takes program E (const i) (suc o) 1 (number i)
+    -- "Var its name's number."
+    Var : {E : Environment} {a i o : ℕ} → numberNamed E a ≡ some i → Takes program E (var a) (suc o) 1 (number i)
+    -- "Add takes its parts in order and gives their sum modulo 2^32."
+    Add :
+        {E : Environment} {p q : Expr} {o n m i j : ℕ}
+        → Takes program E p o n (number i)
+        → Takes program E q o m (number j)
+        → Takes program E (add p q) o (suc (n + m)) (number (sum32 i j))
+    -- "IfZero takes its test, then the part it picks."
+    IfZero :
+        {E : Environment} {t zero-part other-part : Expr} {o n m i : ℕ} {v : Value}
+        → Takes program E t o n (number i)
+        → Takes program E (picked i zero-part other-part) o m v
+        → Takes program E (ifZero t zero-part other-part) o (suc (n + m)) v
+    -- "Let takes and names its number, then takes its body."
+    Let :
+        {E : Environment} {p body : Expr} {o n m i : ℕ} {v : Value}
+        → Takes program E p o n (number i)
+        → Takes program (withNumber i E) body o m v
+        → Takes program E (letIn p body) o (suc (n + m)) v
+    -- "Leaf takes its number and gives that leaf"
+    Leaf : {E : Environment} {p : Expr} {o n i : ℕ} → Takes program E p o n (number i) → Takes program E (leafOf p) o (suc n) (tree (leaf i))
+    -- "Node takes left, then right, and gives that node."
+    Node :
+        {E : Environment} {p q : Expr} {o n m : ℕ} {l r : Tree}
+        → Takes program E p o n (tree l)
+        → Takes program E q o m (tree r)
+        → Takes program E (nodeOf p q) o (suc (n + m)) (tree (node l r))
+    -- "Case, by its tree, takes the leaf part .., or the node part .."
+    Case :
+        {E : Environment} {a : ℕ} {p q : Expr} {o n : ℕ} {t : Tree} {v : Value}
+        → treeNamed E a ≡ some t
+        → Takes program (inBranch t E) (branch t p q) o n v
+        → Takes program E (caseOf a p q) o (suc n) v
+    -- "Call takes its arguments, then opens a call: b's body, with these numbers and the named tree alone; its value closes it and is the Call's."
+    Call :
+        {E : Environment} {a b : ℕ} {xs : Args} {o n m : ℕ} {numbers : List ℕ} {t : Tree} {f : Function} {v : Value}
+        → TakesArgs program E xs (suc o) n [] numbers
+        → treeNamed E a ≡ some t
+        → nth (program .functions) b ≡ some f
+        → Takes program (inCall numbers t) (f .body) o m v
+        → Takes program E (call a b xs) (suc o) (suc (n + m)) v
+
+  -- The arguments of a Call, in order: each one's number is the next that the function's names stand for.
+  pub data TakesArgs (program : Program) : Environment → Args → ℕ → ℕ → List ℕ → List ℕ → Type 0 where
+    no-more : {E : Environment} {o : ℕ} {numbers : List ℕ} → TakesArgs program E noArgs o 0 numbers numbers
+    one-more :
+        {E : Environment} {x : Expr} {xs : Args} {o n m i : ℕ} {before after : List ℕ}
+        → Takes program E x o n (number i)
+        → TakesArgs program E xs o m (i ∷ before) after
+        → TakesArgs program E (arg x xs) o (n + m) before after
+
+-- 01: "It starts in function 0's body, the tree being tree 0, with 0 expressions begun and 1 call open." "It ends where finitely many expressions
+-- begin, n in all; the result is function 0's value". With at most o calls open at once, the first included.
+pub record Ends (program : Program) (t : Tree) (o n : ℕ) (v : Value) : Type 0 where
+  pub first : Function
+  pub is-first : nth (program .functions) 0 ≡ some first
+  pub takes : Takes program (inCall [] t) (first .body) o n v
+
+-- 01: "its bytes the tokens, none for a number".
+unfoldable pub resultBytes : Value → List ℕ
+resultBytes (number i) = []
+resultBytes (tree t) = tokens t
+
+-- 01: "the number (0 for a tree ..)".
+unfoldable pub resultNumber : Value → ℕ
+resultNumber (number i) = i
+resultNumber (tree t) = 0
+
+-- ---- counted along a derivation
+
+-- `begin` is applied at each rule, `enter` at the body that a Call opens; `join` joins what two premises count.
+unfoldable pub counted :
+    {program : Program} {E : Environment} {e : Expr} {o n : ℕ} {v : Value} (begin enter : ℕ → ℕ) (join : ℕ → ℕ → ℕ)
+    → Takes program E e o n v
+    → ℕ
+counted begin enter join d = elim d as (λ E e o n v d. ℕ) (λ E xs o n before after ds. ℕ) [
+  | Const ↦ begin 0
+  | Var named ↦ begin 0
+  | Add (d₁ → n) (d₂ → m) ↦ begin (join n m)
+  | IfZero (d₁ → n) (d₂ → m) ↦ begin (join n m)
+  | Let (d₁ → n) (d₂ → m) ↦ begin (join n m)
+  | Leaf (d → n) ↦ begin n
+  | Node (d₁ → n) (d₂ → m) ↦ begin (join n m)
+  | Case named (d → n) ↦ begin n
+  | Call (ds → n) named known (d → m) ↦ begin (join n (enter m))
+  | no-more ↦ 0
+  | one-more (d → n) (ds → m) ↦ join n m
+]
+
+-- How many rules it has: one for each expression begun.
+abbrev pub rulesIn : {program : Program} {E : Environment} {e : Expr} {o n : ℕ} {v : Value} → Takes program E e o n v → ℕ
+rulesIn d = counted suc (λ m. m) _+_ d
+
+-- How deep its Call rules are nested: a call is open while its body is taken, and no longer.
+abbrev pub nestingIn : {program : Program} {E : Environment} {e : Expr} {o n : ℕ} {v : Value} → Takes program E e o n v → ℕ
+nestingIn d = counted (λ m. m) suc max d

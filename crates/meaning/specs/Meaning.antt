@@ -1,0 +1,292 @@
+-- What holds of a program's meaning: the statements. They are proved in proofs/Meaning.antt.
+--
+-- Demand 2: "the source run gives what document 000's reductions give, with sums modulo 2^32".
+use Prim.Native.Nat.{ℕ, suc, _+_, _^_, _≤_, _<_}
+use mathlib.Core.List.{List, [], _∷_, _++_}
+use mathlib.Core.Logic.{_↔_, _⊎_}
+use mathlib.Core.Option.{some}
+use mathlib.Core.Path.{_≡_}
+use lib.ListN.{length, take, drop}
+use Rattle.formats.specs.Numbers.{Bytes}
+use Rattle.formats.specs.Refusals.{spaceTooShort, fuelUsedUp, outputFull, tooManyCalls}
+use Rattle.formats.specs.Results.{done, refusal}
+use Rattle.formats.specs.Tokens.{Tree, Labelled, firstTree}
+use Rattle.formats.specs.Records.{Call, nth}
+use Rattle.formats.specs.Programs.{Expr, Sort, numberValued, treeValued, Function, Program, nodes, Lawful}
+use Rattle.formats.specs.Blocks.{programIn}
+use Rattle.rules.specs.Printed.{Term, fix, function}
+use Rattle.rules.specs.PassOne.{passOne}
+use Rattle.meaning.specs.Running.{valueWords, returnWords, mostCalls}
+use Rattle.meaning.specs.Evaluation.{Value, number, tree, Environment, Takes, Ends, resultBytes, resultNumber, rulesIn, nestingIn}
+use Rattle.meaning.specs.OpenCalls.{Outcome, gives, stops, begins, begun, after, evaluation, within}
+use Rattle.meaning.specs.SourceRun.{SourceRan, sourceRun}
+use Rattle.meaning.specs.Reductions.{IsValue, only, substitute, Redex, Reduces, Leads, valueTerm, applied}
+
+-- A program within the limits of "Program file" that passes pass one. Pass two is not asked for.
+pub record PassesOne (program : Program) : Type 0 where
+  pub lawful : Lawful program
+  pub passes : passOne program ≡ done tt
+
+-- There is no derivation, under any bound.
+abbrev pub Endless : Program → Tree → Type 0
+Endless program t = (o n : ℕ) (v : Value) → Ends program t o n v → ⊥
+
+-- ---- the evaluation
+
+-- A value is of the sort that the function says; its numbers fit 32 bits.
+abbrev pub OfSort : Sort → Value → Type 0
+OfSort numberValued (number i) = i < 2 ^ 32
+OfSort numberValued (tree t) = ⊥
+OfSort treeValued (number i) = ⊥
+OfSort treeValued (tree t) = Labelled t
+
+pub record Evaluations (program : Program) : Type 0 where
+  -- the value and the expressions begun are determined
+  pub one-value :
+      (E : Environment) (e : Expr) (o n o′ n′ : ℕ) (v v′ : Value)
+      → Takes program E e o n v
+      → Takes program E e o′ n′ v′
+      → (n ≡ n′) × (v ≡ v′)
+  -- so are those of the whole
+  pub one-result :
+      (t : Tree) (o n o′ n′ : ℕ) (v v′ : Value)
+      → Ends program t o n v
+      → Ends program t o′ n′ v′
+      → (n ≡ n′) × (v ≡ v′)
+  -- n is the number of rules, one for each expression
+  pub rules-begun : (E : Environment) (e : Expr) (o n : ℕ) (v : Value) (d : Takes program E e o n v) → rulesIn d ≡ n
+  -- o′ bounds the calls open exactly where it is above the nesting of Call rules: the least bound is one more than that
+  pub least-open :
+      (E : Environment) (e : Expr) (o n : ℕ) (v : Value) (d : Takes program E e o n v) (o′ : ℕ)
+      → Takes program E e o′ n v ↔ (nestingIn d < o′)
+  -- the result is of function 0's sort
+  pub of-sort :
+      (t : Tree) (first : Function) (o n : ℕ) (v : Value)
+      → PassesOne program
+      → Labelled t
+      → nth (program .functions) 0 ≡ some first
+      → Ends program t o n v
+      → OfSort (first .sort) v
+
+-- ---- held to a number of open calls
+
+-- An evaluation that ends within the bound.
+pub record EndsWithin (program : Program) (t : Tree) (o : ℕ) : Type 0 where
+  pub expressions : ℕ
+  pub value : Value
+  pub ends : Ends program t o expressions value
+
+-- The record at which a call is one too many, where o may be open: a Call's; where none may be open, no Call opens the first, and it is 0.
+pub data AtCall (program : Program) : ℕ → ℕ → Type 0 where
+  none-open : AtCall program 0 0
+  a-call :
+      {o : ℕ} (k a b : ℕ)
+      → nth (nodes (program .functions)) k ≡ some (Call a b)
+      → AtCall program (suc o) (suc (length (program .functions)) + k)
+
+-- Stopped at a call too many, after so many expressions begun.
+pub record TooMany (program : Program) (t : Tree) (o : ℕ) : Type 0 where
+  pub expressions : ℕ
+  pub place : ℕ
+  pub stopped : evaluation program o t ≡ after expressions (stops tooManyCalls place)
+  pub is-call : AtCall program o place
+
+-- The second is the first, or goes on where the first stops at a call too many.
+pub data Further {A : Type 0} : Outcome A → Outcome A → Type 0 where
+  the-same : {o : Outcome A} → Further o o
+  goes-on : {r : ℕ} {p : Outcome A} → Further (stops tooManyCalls r) p
+  both-begin : {o p : Outcome A} → Further o p → Further (begins o) (begins p)
+
+pub record HeldTo (program : Program) (t : Tree) : Type 0 where
+  -- the function gives a value exactly where the evaluation ends within the bound
+  pub gives-value : (o n : ℕ) (v : Value) → (evaluation program o t ≡ after n (gives v)) ↔ Ends program t o n v
+  -- the evaluation ends within the bound, or a call is one too many, and never both
+  pub ends-or-stops : (o : ℕ) → EndsWithin program t o ⊎ TooMany program t o
+  pub never-both : (o n : ℕ) (v : Value) → Ends program t o n v → TooMany program t o → ⊥
+  -- an endless evaluation opens more than any number of calls
+  pub endless : Endless program t → (o : ℕ) → TooMany program t o
+  -- under a larger bound the same expressions begin, and it goes on
+  pub further : (o o′ : ℕ) → o ≤ o′ → Further (evaluation program o t) (evaluation program o′ t)
+
+-- Fuel looked at before each expression cuts an evaluation short, and does nothing else.
+pub record Cut (o : Outcome Value) (fuel : ℕ) : Type 0 where
+  pub enough : begun o ≤ fuel → within fuel o ≡ o
+  pub short : fuel < begun o → within fuel o ≡ after fuel (stops fuelUsedUp 0)
+
+-- ---- the reductions
+
+-- A term reduces to some other.
+pub record Goes (program : Program) (M : Term) : Type 0 where
+  pub to : Term
+  pub reduces : Reduces program M to
+
+-- So many reductions can be made.
+pub record Makes (program : Program) (k : ℕ) (M : Term) : Type 0 where
+  pub last : Term
+  pub leads : Leads program k M last
+
+-- They lead to this term.
+pub record Reaches (program : Program) (M N : Term) : Type 0 where
+  pub steps : ℕ
+  pub leads : Leads program steps M N
+
+-- An evaluation that ends with this value.
+pub record Taken (program : Program) (t : Tree) (v : Value) : Type 0 where
+  pub calls : ℕ
+  pub expressions : ℕ
+  pub ends : Ends program t calls expressions v
+
+-- A term of a number or of a tree.
+pub record ValueReached (M : Term) : Type 0 where
+  pub value : Value
+  pub is-term : M ≡ valueTerm value
+
+-- The program, whose function 0 is `first`, applied to the tree.
+pub record Agrees (program : Program) (first : Function) (t : Tree) : Type 0 where
+  -- the evaluation gives the value v exactly where the reductions lead to v
+  pub leads : (o n : ℕ) (v : Value) → Ends program t o n v → Reaches program (applied first t) (valueTerm v)
+  pub taken : (v : Value) → Reaches program (applied first t) (valueTerm v) → Taken program t v
+  -- the reductions lead to no other values than numbers and trees
+  pub values : (k : ℕ) (M : Term) → Leads program k (applied first t) M → IsValue M → ValueReached M
+  -- each term that they lead to is a value or reduces
+  pub progress : (k : ℕ) (M : Term) → Leads program k (applied first t) M → IsValue M ⊎ Goes program M
+  -- where the evaluation is endless, so are the reductions
+  pub endless : Endless program t → (k : ℕ) → Makes program k (applied first t)
+
+pub record Reductions (program : Program) : Type 0 where
+  -- a term reduces to at most one other
+  pub one-way : (M N N′ : Term) → Reduces program M N → Reduces program M N′ → N ≡ N′
+  -- a value does not reduce
+  pub at-end : (M N : Term) → IsValue M → Reduces program M N → ⊥
+  -- where there is one function, Es-Fix is the paper's own: fix f.M ⟶ [fix f.M/f]M
+  pub one-function :
+      (f : Function) (M : Term)
+      → program .functions ≡ f ∷ []
+      → Redex program (fix (function 0) M) (substitute (only (function 0) (fix (function 0) M)) M)
+  pub agrees : (first : Function) (t : Tree) → PassesOne program → nth (program .functions) 0 ≡ some first → Agrees program first t
+
+-- ---- the source run
+
+-- All that comes before the evaluation passes.
+pub record Passed (file input : List ℕ) (values returns : ℕ) (program : Program) (t : Tree) : Type 0 where
+  pub holds : programIn file ≡ done program
+  pub passes : passOne program ≡ done tt
+  pub value-space : valueWords ≤ values
+  pub return-space : returnWords ≤ returns
+  pub reads : firstTree input ≡ done t
+
+-- A call that ended: every field of its answer, and every byte of the output.
+pub record EndedWith (n : ℕ) (v : Value) (output : List ℕ) (ran : SourceRan) : Type 0 where
+  pub outcome : ran .answer .outcome ≡ done tt
+  pub expressions : ran .answer .begun ≡ n
+  pub bytes : ran .answer .bytesWritten ≡ length (resultBytes v)
+  pub number : ran .answer .number ≡ resultNumber v
+  pub result : take (length (resultBytes v)) (ran .output) ≡ resultBytes v
+  pub rest : drop (length (resultBytes v)) (ran .output) ≡ drop (length (resultBytes v)) output
+
+-- A call that was refused.
+pub record RefusedWith (n number place : ℕ) (output : List ℕ) (ran : SourceRan) : Type 0 where
+  pub outcome : ran .answer .outcome ≡ refusal number place
+  pub expressions : ran .answer .begun ≡ n
+  pub no-bytes : ran .answer .bytesWritten ≡ 0
+  pub no-number : ran .answer .number ≡ 0
+  pub untouched : ran .output ≡ output
+
+-- What the evaluation and the reductions say of a call that ended.
+pub record ByReductions (program : Program) (t : Tree) (output : List ℕ) (ran : SourceRan) : Type 0 where
+  pub expressions : ℕ
+  pub value : Value
+  pub gives : EndedWith expressions value output ran
+  pub ends : Ends program t mostCalls expressions value
+  pub first : Function
+  pub is-first : nth (program .functions) 0 ≡ some first
+  pub leads : Reaches program (applied first t) (valueTerm value)
+
+-- 18 once so many expressions have begun, 14 before.
+pub record Refuses18 (output : List ℕ) (call : ℕ → SourceRan) : Type 0 where
+  pub expressions : ℕ
+  pub enough : (fuel : ℕ) → expressions ≤ fuel → RefusedWith expressions tooManyCalls 0 output (call fuel)
+  pub short : (fuel : ℕ) → fuel < expressions → RefusedWith fuel fuelUsedUp 0 output (call fuel)
+
+-- Calls of the source run, each with its fuel, and with one file, one input, one output and one work space.
+pub record SourceRuns (file input output : List ℕ) (values returns : ℕ) (call : ℕ → SourceRan) : Type 0 where
+  -- what comes before the evaluation, the first refusal first
+  pub file-refused : (number place fuel : ℕ) → programIn file ≡ refusal number place → RefusedWith 0 number place output (call fuel)
+  pub pass-one-refused :
+      (program : Program) (number place fuel : ℕ)
+      → programIn file ≡ done program
+      → passOne program ≡ refusal number place
+      → RefusedWith 0 number place output (call fuel)
+  pub space-too-short :
+      (program : Program) (fuel : ℕ)
+      → programIn file ≡ done program
+      → passOne program ≡ done tt
+      → (values < valueWords) ⊎ (returns < returnWords)
+      → RefusedWith 0 spaceTooShort 0 output (call fuel)
+  pub tree-refused :
+      (program : Program) (number place fuel : ℕ)
+      → programIn file ≡ done program
+      → passOne program ≡ done tt
+      → valueWords ≤ values
+      → returnWords ≤ returns
+      → firstTree input ≡ refusal number place
+      → RefusedWith 0 number place output (call fuel)
+  -- the evaluation ends within 1,024 open calls: fuel for all its expressions and space for its result, or 17, or 14 before that
+  pub ends :
+      (program : Program) (t : Tree) (n : ℕ) (v : Value) (fuel : ℕ)
+      → Passed file input values returns program t
+      → Ends program t mostCalls n v
+      → n ≤ fuel
+      → length (resultBytes v) ≤ length output
+      → EndedWith n v output (call fuel)
+  pub output-short :
+      (program : Program) (t : Tree) (n : ℕ) (v : Value) (fuel : ℕ)
+      → Passed file input values returns program t
+      → Ends program t mostCalls n v
+      → n ≤ fuel
+      → length output < length (resultBytes v)
+      → RefusedWith n outputFull 0 output (call fuel)
+  pub fuel-short :
+      (program : Program) (t : Tree) (n : ℕ) (v : Value) (fuel : ℕ)
+      → Passed file input values returns program t
+      → Ends program t mostCalls n v
+      → fuel < n
+      → RefusedWith fuel fuelUsedUp 0 output (call fuel)
+  -- any other evaluation: 18, or 14 before that
+  pub too-many :
+      (program : Program) (t : Tree)
+      → Passed file input values returns program t
+      → ((n : ℕ) (v : Value) → Ends program t mostCalls n v → ⊥)
+      → Refuses18 output call
+  -- every refusal leaves the output, and tells neither bytes nor a number
+  pub untouched :
+      (number place fuel : ℕ)
+      → call fuel .answer .outcome ≡ refusal number place
+      → RefusedWith (call fuel .answer .begun) number place output (call fuel)
+  -- what a call gives, the evaluation and the reductions give
+  pub by-reductions :
+      (program : Program) (t : Tree) (fuel : ℕ)
+      → Passed file input values returns program t
+      → call fuel .answer .outcome ≡ done tt
+      → ByReductions program t output (call fuel)
+  -- no more expressions begin than there is fuel, the number is one of 32 bits, and the output keeps its length
+  pub within-fuel : (fuel : ℕ) → call fuel .answer .begun ≤ fuel
+  pub number-fits : (fuel : ℕ) → Bytes input → call fuel .answer .number < 2 ^ 32
+  pub same-length : (fuel : ℕ) → length (call fuel .output) ≡ length output
+
+-- Of any program.
+pub record Meaning : Type 0 where
+  pub evaluations : (program : Program) → Evaluations program
+  pub held : (program : Program) (t : Tree) → PassesOne program → HeldTo program t
+  pub cut : (o : Outcome Value) (fuel : ℕ) → Cut o fuel
+  pub reductions : (program : Program) → Reductions program
+  pub source-runs :
+      (file input output : List ℕ) (values returns : ℕ)
+      → Bytes file
+      → SourceRuns file input output values returns (λ fuel. sourceRun file input output fuel values returns)
+  -- the source run looks at no byte behind the tree
+  pub behind-tree :
+      (file input rest output : List ℕ) (fuel values returns : ℕ) (t : Tree)
+      → Bytes input
+      → firstTree input ≡ done t
+      → sourceRun file (input ++ rest) output fuel values returns ≡ sourceRun file input output fuel values returns

@@ -1,0 +1,110 @@
+-- The source evaluation held to a number of open calls. A body has no loop, so it always comes to an end: with a value, or at a call too many. It is a
+-- function by recursion on the calls that may still be opened and, inside a body, on the expression.
+use Prim.Native.Nat.{ℕ, zero, suc, _+_}
+use mathlib.Core.List.{List, [], _∷_}
+use mathlib.Core.Option.{Option, none, some}
+use lib.ListN.{length, take}
+use Rattle.formats.specs.Numbers.{sum32}
+use Rattle.formats.specs.Refusals.{fuelUsedUp, tooManyCalls}
+use Rattle.formats.specs.Tokens.{Tree, leaf, node}
+use Rattle.formats.specs.Records.{nth}
+use Rattle.formats.specs.Programs.{Expr, const, var, add, ifZero, letIn, leafOf, nodeOf, caseOf, call, Args, noArgs, arg, size, total, Program, signatures}
+use Rattle.meaning.specs.Evaluation.{Value, number, tree, Environment, numberNamed, treeNamed, withNumber, withTrees, inCall, resultNumber}
+
+-- What an evaluation comes to: a mark for each expression begun, then its value, or the number of a refusal with its record (0 where it has none).
+pub data Outcome (A : Type 0) : Type 0 where
+  gives : A → Outcome A
+  stops : ℕ → ℕ → Outcome A
+  begins : Outcome A → Outcome A
+
+-- How many expressions begin.
+unfoldable pub begun : {A : Type 0} → Outcome A → ℕ
+begun (gives x) = 0
+begun (stops why r) = 0
+begun (begins o) = suc (begun o)
+
+-- So many expressions begin first.
+unfoldable pub after : {A : Type 0} → ℕ → Outcome A → Outcome A
+after zero o = o
+after (suc n) o = begins (after n o)
+
+-- A value goes on to what follows; a stop stays.
+unfoldable pub next : {A B : Type 0} → Outcome A → (A → Outcome B) → Outcome B
+next (gives x) f = f x
+next (stops why r) f = stops why r
+next (begins o) f = begins (next o f)
+
+-- What the rows of the file and pass one rule out is given a value too: an unbound name, a tree where a number is wanted or a number where a tree is, a
+-- function that is not there.
+unfoldable pub numberOr : Option ℕ → ℕ
+numberOr none = 0
+numberOr (some i) = i
+
+unfoldable pub treeOr : Option Tree → Tree
+treeOr none = leaf 0
+treeOr (some t) = t
+
+unfoldable pub resultTree : Value → Tree
+resultTree (number i) = leaf 0
+resultTree (tree t) = t
+
+-- What a call comes to, given the Call's record, the function, its numbers and its tree.
+abbrev pub Handler : Type 0
+Handler = ℕ → ℕ → List ℕ → Tree → Outcome Value
+
+-- The expression at record r, by kind. 01: "a call's depth is tested after its arguments".
+unfoldable mutual
+  pub evaluate : Handler → Environment → ℕ → Expr → Outcome Value
+  evaluate h E r (const i) = begins (gives (number i))
+  evaluate h E r (var a) = begins (gives (number (numberOr (numberNamed E a))))
+  evaluate h E r (add p q) =
+      begins
+      (next (evaluate h E (suc r) p) (λ x. next (evaluate h E (suc r + size p) q) (λ y. gives (number (sum32 (resultNumber x) (resultNumber y))))))
+  evaluate h E r (ifZero t z o) =
+      begins
+      (next (evaluate h E (suc r) t) (λ x. elim (resultNumber x) [
+        | zero ↦ evaluate h E (suc r + size t) z
+        | suc i ↦ evaluate h E (suc r + size t + size z) o
+      ]))
+  evaluate h E r (letIn p body) =
+      begins (next (evaluate h E (suc r) p) (λ x. evaluate h (withNumber (resultNumber x) E) (suc r + size p) body))
+  evaluate h E r (leafOf p) = begins (next (evaluate h E (suc r) p) (λ x. gives (tree (leaf (resultNumber x)))))
+  evaluate h E r (nodeOf p q) =
+      begins
+      (next (evaluate h E (suc r) p) (λ x. next (evaluate h E (suc r + size p) q) (λ y. gives (tree (node (resultTree x) (resultTree y))))))
+  evaluate h E r (caseOf a p q) =
+      begins
+      (elim (treeOr (treeNamed E a)) [
+        | leaf x ↦ evaluate h (withNumber x E) (suc r) p
+        | node left right ↦ evaluate h (withTrees left right E) (suc r + size p) q
+      ])
+  evaluate h E r (call a b xs) = begins (next (evaluateArgs h E (suc r) xs []) (λ numbers. h r b numbers (treeOr (treeNamed E a))))
+
+  -- A Call's arguments from record r on, behind the numbers found before.
+  pub evaluateArgs : Handler → Environment → ℕ → Args → List ℕ → Outcome (List ℕ)
+  evaluateArgs h E r noArgs numbers = gives numbers
+  evaluateArgs h E r (arg x xs) numbers = next (evaluate h E r x) (λ v. evaluateArgs h E (r + size x) xs (resultNumber v ∷ numbers))
+
+-- A function's first node.
+unfoldable pub firstRecord : Program → ℕ → ℕ
+firstRecord program b = suc (length (program .functions)) + total (take b (signatures program))
+
+-- A call where so many may be open, itself among them. 01: "18 a call with 1,024 open (the first frame counts)".
+unfoldable pub called : Program → ℕ → Handler
+called program zero r b numbers t = stops tooManyCalls r
+called program (suc calls) r b numbers t =
+    elim (nth (program .functions) b) [
+      | none ↦ gives (number 0)
+      | some f ↦ evaluate (called program calls) (inCall numbers t) (firstRecord program b) (f .body)
+    ]
+
+-- 01: "It starts in function 0's body, the tree being tree 0". No Call opens the first.
+unfoldable pub evaluation : Program → ℕ → Tree → Outcome Value
+evaluation program calls t = called program calls 0 0 [] t
+
+-- 01: "The source run's fuel is expressions begun, looked at before each".
+unfoldable pub within : {A : Type 0} → ℕ → Outcome A → Outcome A
+within fuel (gives x) = gives x
+within fuel (stops why r) = stops why r
+within zero (begins o) = stops fuelUsedUp 0
+within (suc fuel) (begins o) = begins (within fuel o)

@@ -1,0 +1,176 @@
+-- Document 000, Figure 3: the reductions of the source language, by substitution, with no environment and no counter. The terms are those that Figure 6
+-- types (rules, Printed.antt): "let x = M₁ in M₂" and IfZero, document 01's, stand beside the paper's own.
+use Prim.Native.Nat.{ℕ, zero, suc}
+use mathlib.Core.Bool.{Bool, true, false}
+use mathlib.Core.Option.{Option, none, some}
+use lib.Dec.{eqb}
+use Rattle.formats.specs.Numbers.{sum32}
+use Rattle.formats.specs.Tokens.{Tree, leaf as aLeaf, node as aNode}
+use Rattle.formats.specs.Records.{nth}
+use Rattle.formats.specs.Programs.{Function, Program}
+use Rattle.rules.specs.Printed.{Name, number, tree, function, Term, int, lam, name, app, plus, fix, leaf, node, case, let-01, ifZero-01, functionTerm}
+use Rattle.meaning.specs.Evaluation.{Value}
+
+-- ---- values
+
+-- 000: "V (tree values) ::= leaf i | node V₁ V₂".
+pub data TreeValue : Term → Type 0 where
+  leaf-value : {i : ℕ} → TreeValue (leaf (int i))
+  node-value : {V₁ V₂ : Term} → TreeValue V₁ → TreeValue V₂ → TreeValue (node V₁ V₂)
+
+-- 000: "W (values) ::= i | λx.M | V".
+pub data IsValue : Term → Type 0 where
+  an-integer : {i : ℕ} → IsValue (int i)
+  an-abstraction : {x : Name} {M : Term} → IsValue (lam x M)
+  a-tree : {V₁ : Term} → TreeValue V₁ → IsValue V₁
+
+-- ---- substitution
+
+-- What names are replaced by, all at once.
+abbrev pub Substitution : Type 0
+Substitution = Name → Option Term
+
+unfoldable pub sameName : Name → Name → Bool
+sameName (number j) (number k) = eqb j k
+sameName (tree j) (tree k) = eqb j k
+sameName (function j) (function k) = eqb j k
+sameName (number j) (tree k) = false
+sameName (number j) (function k) = false
+sameName (tree j) (number k) = false
+sameName (tree j) (function k) = false
+sameName (function j) (number k) = false
+sameName (function j) (tree k) = false
+
+-- W/x
+unfoldable pub only : Name → Term → Substitution
+only x W z = elim (sameName x z) [ true ↦ some W | false ↦ none ]
+
+-- V₁/x₁, V₂/x₂
+unfoldable pub both : Name → Term → Name → Term → Substitution
+both x₁ V₁ x₂ V₂ z = elim (sameName x₁ z) [ true ↦ some V₁ | false ↦ only x₂ V₂ z ]
+
+-- Under a binder of x, no x is replaced.
+unfoldable pub without : Name → Substitution → Substitution
+without x σ z = elim (sameName x z) [ true ↦ none | false ↦ σ z ]
+
+unfoldable pub replaced : Name → Option Term → Term
+replaced x none = name x
+replaced x (some W) = W
+
+-- [σ]M. No bound name is renamed: what programs put in for a name has no free name that could be bound there (numbers and trees have none, a fix has
+-- functions' names alone).
+unfoldable pub substitute : Substitution → Term → Term
+substitute σ (int i) = int i
+substitute σ (lam x M) = lam x (substitute (without x σ) M)
+substitute σ (name x) = replaced x (σ x)
+substitute σ (app M₁ M₂) = app (substitute σ M₁) (substitute σ M₂)
+substitute σ (plus M₁ M₂) = plus (substitute σ M₁) (substitute σ M₂)
+substitute σ (fix f M) = fix f (substitute (without f σ) M)
+substitute σ (leaf M) = leaf (substitute σ M)
+substitute σ (node M₁ M₂) = node (substitute σ M₁) (substitute σ M₂)
+substitute σ (case M x M₁ x₁ x₂ M₂) =
+    case (substitute σ M) x (substitute (without x σ) M₁) x₁ x₂ (substitute (without x₁ (without x₂ σ)) M₂)
+substitute σ (let-01 x M₁ M₂) = let-01 x (substitute σ M₁) (substitute (without x σ) M₂)
+substitute σ (ifZero-01 M M₁ M₂) = ifZero-01 (substitute σ M) (substitute σ M₁) (substitute σ M₂)
+
+-- ---- functions that call each other
+
+-- fix f.M, for function b.
+unfoldable pub fixOf : ℕ → Function → Term
+fixOf b f = fix (function b) (functionTerm f)
+
+-- Each function's name is replaced by its own fix.
+unfoldable pub fixes : Program → Substitution
+fixes program (number k) = none
+fixes program (tree k) = none
+fixes program (function b) = elim (nth (program .functions) b) [ none ↦ none | some f ↦ some (fixOf b f) ]
+
+-- fix f.M/f. 000's fix binds one function; where functions call each other, their names are bound all at once, and each is replaced by its own fix.
+unfoldable pub fixing : Program → Name → Term → Substitution
+fixing program f M z = elim (sameName f z) [ true ↦ some (fix f M) | false ↦ fixes program z ]
+
+-- ---- reductions
+
+-- What stands in the hole, and what it becomes.
+pub data Redex (program : Program) : Term → Term → Type 0 where
+  -- i₁ + i₂ ⟶ plus(i₁, i₂), modulo 2^32
+  Es-Plus : {i₁ i₂ : ℕ} → Redex program (plus (int i₁) (int i₂)) (int (sum32 i₁ i₂))
+  -- (λx.M) W ⟶ [W/x]M
+  Es-App : {x : Name} {M W : Term} → IsValue W → Redex program (app (lam x M) W) (substitute (only x W) M)
+  -- 000: "We write let x = M₁ in M₂ for (λx.M₂) M₁."
+  Es-App-let : {x : Name} {M W N : Term} → Redex program (app (lam x M) W) N → Redex program (let-01 x W M) N
+  -- fix f.M ⟶ [fix f.M/f]M
+  Es-Fix : {f : Name} {M : Term} → Redex program (fix f M) (substitute (fixing program f M) M)
+  -- case leaf i of leaf x ⇒ M₁ | node x₁ x₂ ⇒ M₂ ⟶ [i/x]M₁
+  Es-Case1 : {i : ℕ} {x x₁ x₂ : Name} {M₁ M₂ : Term} → Redex program (case (leaf (int i)) x M₁ x₁ x₂ M₂) (substitute (only x (int i)) M₁)
+  -- case node V₁ V₂ of leaf x ⇒ M₁ | node x₁ x₂ ⇒ M₂ ⟶ [V₁/x₁, V₂/x₂]M₂
+  Es-Case2 :
+      {V₁ V₂ : Term} {x x₁ x₂ : Name} {M₁ M₂ : Term}
+      → TreeValue V₁
+      → TreeValue V₂
+      → Redex program (case (node V₁ V₂) x M₁ x₁ x₂ M₂) (substitute (both x₁ V₁ x₂ V₂) M₂)
+  -- Document 01's own: "IfZero takes its zero part on 0, else the other, like document 003's `if`."
+  IfZero-zero : {M₁ M₂ : Term} → Redex program (ifZero-01 (int zero) M₁ M₂) M₁
+  IfZero-other : {i : ℕ} {M₁ M₂ : Term} → Redex program (ifZero-01 (int (suc i)) M₁ M₂) M₂
+
+-- 000: E_s, the evaluation contexts, in the order of Figure 3; then that of let, which is (λx.M) E_s, and that of document 01's IfZero.
+pub data Context : Type 0 where
+  -- []
+  hole : Context
+  -- E_s M
+  app-left : Context → Term → Context
+  -- (λx.M) E_s
+  app-right : Name → Term → Context → Context
+  -- E_s + M
+  plus-left : Context → Term → Context
+  -- i + E_s
+  plus-right : ℕ → Context → Context
+  -- leaf E_s
+  in-leaf : Context → Context
+  -- node E_s M
+  node-left : Context → Term → Context
+  -- node V E_s
+  node-right : {V₁ : Term} → TreeValue V₁ → Context → Context
+  -- case E_s of leaf x ⇒ M₁ | node x₁ x₂ ⇒ M₂
+  in-case : Context → Name → Term → Name → Name → Term → Context
+  -- let x = E_s in M
+  in-let : Name → Context → Term → Context
+  -- the test of IfZero
+  in-test : Context → Term → Term → Context
+
+-- E_s[M]
+unfoldable pub plug : Context → Term → Term
+plug hole M = M
+plug (app-left E N) M = app (plug E M) N
+plug (app-right x N E) M = app (lam x N) (plug E M)
+plug (plus-left E N) M = plus (plug E M) N
+plug (plus-right i E) M = plus (int i) (plug E M)
+plug (in-leaf E) M = leaf (plug E M)
+plug (node-left E N) M = node (plug E M) N
+plug (node-right {V₁ = V₁} v E) M = node V₁ (plug E M)
+plug (in-case E x M₁ x₁ x₂ M₂) M = case (plug E M) x M₁ x₁ x₂ M₂
+plug (in-let x E N) M = let-01 x (plug E M) N
+plug (in-test E M₁ M₂) M = ifZero-01 (plug E M) M₁ M₂
+
+-- M ⟶ N
+pub data Reduces (program : Program) : Term → Term → Type 0 where
+  in-context : {M N : Term} (E : Context) → Redex program M N → Reduces program (plug E M) (plug E N)
+
+-- So many reductions lead from a term to another.
+pub data Leads (program : Program) : ℕ → Term → Term → Type 0 where
+  none-made : {M : Term} → Leads program 0 M M
+  one-made : {k : ℕ} {L M N : Term} → Reduces program L M → Leads program k M N → Leads program (suc k) L N
+
+-- ---- programs and values as terms
+
+unfoldable pub treeTerm : Tree → Term
+treeTerm (aLeaf x) = leaf (int x)
+treeTerm (aNode l r) = node (treeTerm l) (treeTerm r)
+
+unfoldable pub valueTerm : Value → Term
+valueTerm (Value.number i) = int i
+valueTerm (Value.tree t) = treeTerm t
+
+-- The program applied to the tree: its function 0, a fixed point, on the tree's term.
+unfoldable pub applied : Function → Tree → Term
+applied first t = app (fixOf 0 first) (treeTerm t)

@@ -1,0 +1,82 @@
+-- Document 01: the source run, from a program file and token bytes to its answer and its output.
+use Prim.Native.Nat.{ℕ, suc}
+use mathlib.Core.Bool.{true, false, _&&_}
+use mathlib.Core.List.{List}
+use lib.ListN.{length}
+use lib.Dec.{leb}
+use Rattle.formats.specs.Refusals.{spaceTooShort, outputFull}
+use Rattle.formats.specs.Results.{Result, done, refusal, andThen, check}
+use Rattle.formats.specs.Tokens.{Tree, firstTree}
+use Rattle.formats.specs.Programs.{Program}
+use Rattle.formats.specs.Blocks.{programIn}
+use Rattle.formats.specs.Written.{written}
+use Rattle.rules.specs.PassOne.{passOne}
+use Rattle.meaning.specs.Running.{valueWords, returnWords, mostCalls}
+use Rattle.meaning.specs.Evaluation.{Value, resultBytes, resultNumber}
+use Rattle.meaning.specs.OpenCalls.{Outcome, gives, stops, begins, evaluation, within}
+
+-- 01: "The source run's gives expressions begun, bytes written and the number".
+pub record SourceAnswer : Type 0 where
+  -- ended, or the refusal's number and place
+  pub outcome : Result (Unit {0})
+  pub begun : ℕ
+  pub bytesWritten : ℕ
+  pub number : ℕ
+
+-- What a call of the source run gives: its answer, and every byte of the output.
+pub record SourceRan : Type 0 where
+  pub answer : SourceAnswer
+  pub output : List ℕ
+
+-- 01: "refused, the last two are 0". "A refusal leaves every output buffer untouched".
+abbrev pub refusedAfter : ℕ → ℕ → ℕ → List ℕ → SourceRan
+refusedAfter begun number place output =
+    record { answer = record { outcome = refusal number place; begun = begun; bytesWritten = 0; number = 0 }; output = output }
+
+-- The value's bytes written from the output's start, its number told.
+abbrev pub endedAfter : ℕ → Value → List ℕ → SourceRan
+endedAfter begun v output =
+    record {
+      answer = record { outcome = done tt; begun = begun; bytesWritten = length (resultBytes v); number = resultNumber v };
+      output = written output 0 (resultBytes v);
+    }
+
+-- 01: "17 output shorter than the result, after evaluation", at 0.
+unfoldable pub told : ℕ → Value → List ℕ → SourceRan
+told begun v output =
+    elim (leb (length (resultBytes v)) (length output)) [
+      | true ↦ endedAfter begun v output
+      | false ↦ refusedAfter begun outputFull 0 output
+    ]
+
+-- What an evaluation's outcome is told as, where so many expressions have begun before. 01: "either run: 14 fuel used up, 18 a call with 1,024 open",
+-- the place: "source run 0".
+unfoldable pub tellFrom : ℕ → Outcome Value → List ℕ → SourceRan
+tellFrom begun (gives v) output = told begun v output
+tellFrom begun (stops why r) output = refusedAfter begun why 0 output
+tellFrom begun (begins o) output = tellFrom (suc begun) o output
+
+-- A program that passes pass one, with a tree.
+pub record Checked : Type 0 where
+  pub program : Program
+  pub tree : Tree
+
+-- All that comes before the evaluation, in this order: the rows of the file, pass one, 13, the tree reader. 01: "The source run needs pass one only".
+-- "The runs test 13 before tree or fuel." "The source run applies the tree reader before it evaluates."
+unfoldable pub checkSource : (file input : List ℕ) (values returns : ℕ) → Result Checked
+checkSource file input values returns =
+    andThen
+    (programIn file)
+    (λ program. andThen
+    (passOne program)
+    (λ u. andThen
+    (check (leb valueWords values && leb returnWords returns) spaceTooShort 0 (tt {0}))
+    (λ w. andThen (firstTree input) (λ t. done (record { program = program; tree = t })))))
+
+-- The source run, with so many value words and return words lent. 01: "A run refused before its first .. expression answers 0 in every count."
+unfoldable pub sourceRun : (file input output : List ℕ) (fuel values returns : ℕ) → SourceRan
+sourceRun file input output fuel values returns =
+    elim (checkSource file input values returns) [
+      | done c ↦ tellFrom 0 (within fuel (evaluation (c .program) mostCalls (c .tree))) output
+      | refusal number place ↦ refusedAfter 0 number place output
+    ]

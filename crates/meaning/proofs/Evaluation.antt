@@ -16,30 +16,34 @@ use Rattle.formats.specs.Records.{nth}
 use Rattle.formats.specs.Programs.{Expr, const, var, add, ifZero, letIn, leafOf, nodeOf, caseOf, call, Args, noArgs, arg, Function, Program}
 use Rattle.meaning.specs.Evaluation.{Value, number, tree, Environment, numberNamed, treeNamed, withNumber, inCall, picked, branch, inBranch}
 use Rattle.meaning.specs.Evaluation.{Takes, Const, Var, Add, IfZero, Let, Leaf, Node, Case, Call, TakesArgs, no-more, one-more, Ends}
-use Rattle.meaning.specs.Evaluation.{counted, rulesIn, nestingIn}
+use Rattle.meaning.specs.Evaluation.{ifZeroUnits, caseUnits, counted, rulesIn, unitsIn, nestingIn}
 
 -- What `counted` counts along arguments.
-abbrev countedArgs :
-    {program : Program} {E : Environment} {xs : Args} {o n : ℕ} {before after : List ℕ} (begin enter : ℕ → ℕ) (join : ℕ → ℕ → ℕ)
+abbrev pub countedArgs :
+    {program : Program} {E : Environment} {xs : Args} {o n : ℕ} {before after : List ℕ} (begin : ℕ → ℕ → ℕ) (enter : ℕ → ℕ) (join : ℕ → ℕ → ℕ)
     → TakesArgs program E xs o n before after
     → ℕ
 countedArgs begin enter join ds = elim ds as (λ E e o n v d. ℕ) (λ E xs o n before after ds. ℕ) [
-  | Const ↦ begin 0
-  | Var named ↦ begin 0
-  | Add (d₁ → n) (d₂ → m) ↦ begin (join n m)
-  | IfZero (d₁ → n) (d₂ → m) ↦ begin (join n m)
-  | Let (d₁ → n) (d₂ → m) ↦ begin (join n m)
-  | Leaf (d → n) ↦ begin n
-  | Node (d₁ → n) (d₂ → m) ↦ begin (join n m)
-  | Case named (d → n) ↦ begin n
-  | Call (ds → n) named known (d → m) ↦ begin (join n (enter m))
+  | Const ↦ begin 1 0
+  | Var named ↦ begin 1 0
+  | Add (d₁ → n) (d₂ → m) ↦ begin 1 (join n m)
+  | IfZero {i = i} (d₁ → n) (d₂ → m) ↦ begin (ifZeroUnits i) (join n m)
+  | Let (d₁ → n) (d₂ → m) ↦ begin 1 (join n m)
+  | Leaf (d → n) ↦ begin 2 n
+  | Node (d₁ → n) (d₂ → m) ↦ begin 1 (join n m)
+  | Case {t = t} named (d → n) ↦ begin (caseUnits t) n
+  | Call (ds → n) named known (d → m) ↦ begin 2 (join n (enter m))
   | no-more ↦ 0
   | one-more (d → n) (ds → m) ↦ join n m
 ]
 
+-- The units column summed along arguments.
+abbrev pub unitsInArgs : {program : Program} {E : Environment} {xs : Args} {o n : ℕ} {before after : List ℕ} → TakesArgs program E xs o n before after → ℕ
+unitsInArgs ds = countedArgs _+_ (λ n. n) _+_ ds
+
 -- How deep Call rules are nested along arguments.
 abbrev nestingInArgs : {program : Program} {E : Environment} {xs : Args} {o n : ℕ} {before after : List ℕ} → TakesArgs program E xs o n before after → ℕ
-nestingInArgs ds = countedArgs (λ n. n) suc max ds
+nestingInArgs ds = countedArgs (λ units n. n) suc max ds
 
 -- ---- two derivations agree
 
@@ -178,7 +182,7 @@ rebuilt {program} d =
     elim d as
     (λ E e o n v d. (o′ : ℕ) → nestingIn d ≤ o′ → Takes program E e (suc o′) (rulesIn d) v)
     (λ E xs o n before after ds.
-    (o′ : ℕ) → nestingInArgs ds ≤ o′ → TakesArgs program E xs (suc o′) (countedArgs suc (λ n. n) _+_ ds) before after) [
+    (o′ : ℕ) → nestingInArgs ds ≤ o′ → TakesArgs program E xs (suc o′) (countedArgs (λ units n. suc n) (λ n. n) _+_ ds) before after) [
       | Const ↦ λ o h. Const
       | Var named ↦ λ o h. Var named
       | Add (d₁ → r₁) (d₂ → r₂) ↦ λ o h. Add (r₁ o (omega arith)) (r₂ o (omega arith))

@@ -131,29 +131,44 @@ resultNumber (tree t) = 0
 
 -- ---- counted along a derivation
 
--- `begin` is applied at each rule, `enter` at the body that a Call opens; `join` joins what two premises count.
+-- 01, the table's column "units": what a record spends by the part that it takes. IfZero: "2 zero, 1 other".
+unfoldable pub ifZeroUnits : ℕ → ℕ
+ifZeroUnits zero = 2
+ifZeroUnits (suc i) = 1
+
+-- Case: "4 leaf, 1 node".
+unfoldable pub caseUnits : Tree → ℕ
+caseUnits (leaf x) = 4
+caseUnits (node l r) = 1
+
+-- `begin` is applied at each rule, to the units of its record and to what its premises count; `enter` at the body that a Call opens; `join` joins what
+-- two premises count.
 unfoldable pub counted :
-    {program : Program} {E : Environment} {e : Expr} {o n : ℕ} {v : Value} (begin enter : ℕ → ℕ) (join : ℕ → ℕ → ℕ)
+    {program : Program} {E : Environment} {e : Expr} {o n : ℕ} {v : Value} (begin : ℕ → ℕ → ℕ) (enter : ℕ → ℕ) (join : ℕ → ℕ → ℕ)
     → Takes program E e o n v
     → ℕ
 counted begin enter join d = elim d as (λ E e o n v d. ℕ) (λ E xs o n before after ds. ℕ) [
-  | Const ↦ begin 0
-  | Var named ↦ begin 0
-  | Add (d₁ → n) (d₂ → m) ↦ begin (join n m)
-  | IfZero (d₁ → n) (d₂ → m) ↦ begin (join n m)
-  | Let (d₁ → n) (d₂ → m) ↦ begin (join n m)
-  | Leaf (d → n) ↦ begin n
-  | Node (d₁ → n) (d₂ → m) ↦ begin (join n m)
-  | Case named (d → n) ↦ begin n
-  | Call (ds → n) named known (d → m) ↦ begin (join n (enter m))
+  | Const ↦ begin 1 0
+  | Var named ↦ begin 1 0
+  | Add (d₁ → n) (d₂ → m) ↦ begin 1 (join n m)
+  | IfZero {i = i} (d₁ → n) (d₂ → m) ↦ begin (ifZeroUnits i) (join n m)
+  | Let (d₁ → n) (d₂ → m) ↦ begin 1 (join n m)
+  | Leaf (d → n) ↦ begin 2 n
+  | Node (d₁ → n) (d₂ → m) ↦ begin 1 (join n m)
+  | Case {t = t} named (d → n) ↦ begin (caseUnits t) n
+  | Call (ds → n) named known (d → m) ↦ begin 2 (join n (enter m))
   | no-more ↦ 0
   | one-more (d → n) (ds → m) ↦ join n m
 ]
 
 -- How many rules it has: one for each expression begun.
 abbrev pub rulesIn : {program : Program} {E : Environment} {e : Expr} {o n : ℕ} {v : Value} → Takes program E e o n v → ℕ
-rulesIn d = counted suc (λ m. m) _+_ d
+rulesIn d = counted (λ units n. suc n) (λ m. m) _+_ d
+
+-- The units column summed over the expressions begun.
+abbrev pub unitsIn : {program : Program} {E : Environment} {e : Expr} {o n : ℕ} {v : Value} → Takes program E e o n v → ℕ
+unitsIn d = counted _+_ (λ m. m) _+_ d
 
 -- How deep its Call rules are nested: a call is open while its body is taken, and no longer.
 abbrev pub nestingIn : {program : Program} {E : Environment} {e : Expr} {o n : ℕ} {v : Value} → Takes program E e o n v → ℕ
-nestingIn d = counted (λ m. m) suc max d
+nestingIn d = counted (λ units m. m) suc max d

@@ -1,0 +1,92 @@
+-- Where instructions stand: the code of an expression ends where `behind` says, so joined code stands part behind part.
+use Prim.Native.Nat.{ℕ, zero, suc, _+_}
+use mathlib.Core.List.{List, [], _∷_, _++_}
+use mathlib.Core.Option.{Option, some}
+use mathlib.Core.Path.{_≡_, refl, sym, ap, _∙_}
+use native.Mathlib.Nat.{add-zero, add-suc, add-assoc}
+use native.Mathlib.Omega.{arith}
+use lib.ListN.{length, length-append}
+use Rattle.formats.specs.Programs.{Expr, const, var, add, ifZero, letIn, leafOf, nodeOf, caseOf, call, Args, noArgs, arg, Sort, numberValued, treeValued}
+use Rattle.meaning.specs.Instructions.{Instruction, Operation, instructionOf}
+use Rattle.translation.specs.Templates.{behind, behindArgs, Words, code, codeArgs, endOf}
+
+-- ---- the address behind code
+
+-- These instructions, from address a on, end before address b.
+record Spans (a b : ℕ) (ops : List Operation) : Type 0 where
+  long : a + length ops ≡ b
+
+-- none, one before others, and joined ones
+no-span : (a : ℕ) → Spans a a []
+no-span a = record { long = add-zero a }
+
+one-span : {a b : ℕ} {op : Operation} {ops : List Operation} → Spans (suc a) b ops → Spans a b (op ∷ ops)
+one-span h = record { long = omega (arith, h .long) }
+
+join-spans : {a b c : ℕ} {xs ys : List Operation} → Spans a b xs → Spans b c ys → Spans a c (xs ++ ys)
+join-spans {xs = xs} {ys = ys} h k = record { long = omega (arith, length-append xs ys, h .long, k .long) }
+
+module _ (entries : ℕ → ℕ) where
+  mutual
+    unfolding code codeArgs behind behindArgs
+
+    span : (s : Sort) (words : Words) (w a : ℕ) (e : Expr) → Spans a (behind e a) (code entries s words w a e)
+    span s words w a (const i) = one-span (no-span _)
+    span s words w a (var k) = one-span (no-span _)
+    span s words w a (add p q) = join-spans (span _ _ _ _ p) (join-spans (span _ _ _ _ q) (one-span (no-span _)))
+    span s words w a (ifZero t z o) =
+        join-spans (span _ _ _ _ t) (one-span (join-spans (span _ _ _ _ z) (one-span (span _ _ _ _ o))))
+    span s words w a (letIn p body) = join-spans (span _ _ _ _ p) (join-spans (span _ _ _ _ body) (one-span (no-span _)))
+    span s words w a (leafOf p) = one-span (join-spans (span _ _ _ _ p) (one-span (no-span _)))
+    span s words w a (nodeOf p q) = one-span (join-spans (span _ _ _ _ p) (span _ _ _ _ q))
+    span s words w a (caseOf k p q) =
+        one-span (one-span (join-spans (span _ _ _ _ p) (one-span (one-span (span _ _ _ _ q)))))
+    span s words w a (call k b xs) = join-spans (span-args _ _ _ xs) (one-span (no-span _))
+
+    span-args : (words : Words) (w a : ℕ) (xs : Args) → Spans a (behindArgs xs a) (codeArgs entries words w a xs)
+    span-args words w a noArgs = no-span a
+    span-args words w a (arg x xs) = join-spans (span _ _ _ _ x) (span-args _ _ _ xs)
+
+  pub length-code : (s : Sort) (words : Words) (w a : ℕ) (e : Expr) → a + length (code entries s words w a e) ≡ behind e a
+  length-code s words w a e = span s words w a e .long
+
+  pub length-args : (words : Words) (w a : ℕ) (xs : Args) → a + length (codeArgs entries words w a xs) ≡ behindArgs xs a
+  length-args words w a xs = span-args words w a xs .long
+
+-- ---- instructions from an address on
+
+-- These stand there, one behind the other.
+abbrev pub At : (ℕ → Option Instruction) → ℕ → List Operation → Type 0
+At holds a [] = Unit {0}
+At holds a (op ∷ ops) = (holds a ≡ some (instructionOf op)) × At holds (suc a) ops
+
+module _ (holds : ℕ → Option Instruction) where
+  -- joined ones stand part behind part
+  at-left : (a : ℕ) (xs ys : List Operation) → At holds a (xs ++ ys) → At holds a xs
+  at-left a [] ys h = tt
+  at-left a (x ∷ xs) ys h = (h .0, at-left (suc a) xs ys (h .1))
+
+  at-right : (a b : ℕ) (xs ys : List Operation) → a + length xs ≡ b → At holds a (xs ++ ys) → At holds b ys
+  at-right a b [] ys e h = rw (sym e ∙ add-zero a) h
+  at-right a b (x ∷ xs) ys e h = at-right (suc a) b xs ys (omega arith) (h .1)
+
+  -- an expression's code, and what follows it
+  pub record Split (a b : ℕ) (xs ys : List Operation) : Type 0 where
+    pub first : At holds a xs
+    pub then : At holds b ys
+
+  pub at-code :
+      (entries : ℕ → ℕ) (s : Sort) (words : Words) (w a : ℕ) (e : Expr) (ys : List Operation)
+      → At holds a (code entries s words w a e ++ ys)
+      → Split a (behind e a) (code entries s words w a e) ys
+  at-code entries s words w a e ys h =
+      let xs = code entries s words w a e in
+      record { first = at-left a xs ys h; then = at-right a (behind e a) xs ys (length-code entries s words w a e) h }
+
+  pub at-args :
+      (entries : ℕ → ℕ) (words : Words) (w a : ℕ) (xs : Args) (ys : List Operation)
+      → At holds a (codeArgs entries words w a xs ++ ys)
+      → Split a (behindArgs xs a) (codeArgs entries words w a xs) ys
+  at-args entries words w a xs ys h =
+      let ops = codeArgs entries words w a xs in
+      record { first = at-left a ops ys h; then = at-right a (behindArgs xs a) ops ys (length-args entries words w a xs) h }

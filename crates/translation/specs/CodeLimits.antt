@@ -1,0 +1,88 @@
+-- The limits of a program's code: the statements. They are proved in proofs/CodeLimits.antt.
+use Prim.Native.Nat.{ℕ, zero, suc, _+_, _≤_, _<_}
+use mathlib.Core.Bool.{true}
+use mathlib.Core.List.{List}
+use mathlib.Core.Logic.{_↔_}
+use mathlib.Core.Option.{some}
+use mathlib.Core.Path.{_≡_}
+use lib.ListN.{length}
+use Rattle.formats.specs.Refusals.{tooManyWords}
+use Rattle.formats.specs.Results.{refusal}
+use Rattle.formats.specs.Records.{Ranged, nth}
+use Rattle.formats.specs.Programs.{Every, Function, Program, signatures, Signature, Lawful}
+use Rattle.rules.specs.Scopes.{Entry, entry, enteredAll}
+use Rattle.rules.specs.PassOne.{mostWords, named, typed, passOne}
+use Rattle.rules.specs.OrderChecker.{firstNode}
+use Rattle.meaning.specs.Instructions.{Operation, Push, Get, Add, Ifnot, Jump, Slide, Drop, LeafTag, NodeTag, WriteNumber, ReadTag, ReadNumber, Call, instructionOf, mostInstructions}
+use Rattle.translation.specs.Templates.{wordsKept, entryOf, operationsOf}
+use Rattle.translation.specs.Demand3.{Checked}
+
+-- ---- word counts in code, without running it
+
+-- A call of a function that begins at this address leaves so many words.
+pub record Leaves (program : Program) (entry words : ℕ) : Type 0 where
+  pub index : ℕ
+  pub function : Function
+  pub known : nth (program .functions) index ≡ some function
+  pub begins : entryOf program index ≡ entry
+  pub kept : wordsKept (function .sort) ≡ words
+
+-- `Leads program op a w b v`: an instruction at address a, with w words above the base before it, leads to address b with v words. A test leads both
+-- ways, as does a tag; a return leads to no other.
+pub data Leads (program : Program) : Operation → (a w b v : ℕ) → Type 0 where
+  push : {i a w : ℕ} → Leads program (Push i) a w (suc a) (suc w)
+  get : {k a w : ℕ} → Leads program (Get k) a w (suc a) (suc w)
+  add : {a w : ℕ} → Leads program Add a (suc (suc w)) (suc a) (suc w)
+  ifnot-zero : {b a w : ℕ} → Leads program (Ifnot b) a (suc w) (suc a) w
+  ifnot-other : {b a w : ℕ} → Leads program (Ifnot b) a (suc w) b w
+  jump : {b a w : ℕ} → Leads program (Jump b) a w b w
+  slide : {a w : ℕ} → Leads program Slide a (suc (suc w)) (suc a) (suc w)
+  drop : {a w : ℕ} → Leads program Drop a (suc w) (suc a) w
+  leaf-tag : {a w : ℕ} → Leads program LeafTag a w (suc a) w
+  node-tag : {a w : ℕ} → Leads program NodeTag a w (suc a) w
+  write-number : {a w : ℕ} → Leads program WriteNumber a (suc w) (suc a) w
+  read-leaf : {b a w : ℕ} → Leads program (ReadTag b) a w (suc a) w
+  read-node : {b a w : ℕ} → Leads program (ReadTag b) a w b w
+  read-number : {a w : ℕ} → Leads program ReadNumber a w (suc a) (suc w)
+  call : {b n a k : ℕ} (w : ℕ) → Leaves program b k → Leads program (Call b n) a (n + w) (suc a) (k + w)
+
+-- The word counts of a program's code: a function begins with its number parameters, and each instruction leads on.
+pub data Stands (program : Program) : ℕ → ℕ → Type 0 where
+  at-entry : {f : Function} (b : ℕ) → nth (program .functions) b ≡ some f → Stands program (entryOf program b) (f .parameters)
+  onward :
+      {a w b v : ℕ} {op : Operation}
+      → Stands program a w
+      → nth (operationsOf program) a ≡ some op
+      → Leads program op a w b v
+      → Stands program b v
+
+-- Some word count exceeds 16.
+pub record Exceeds (program : Program) : Type 0 where
+  pub address : ℕ
+  pub count : ℕ
+  pub stands : Stands program address count
+  pub above : mostWords < count
+
+-- Pass one finds no name that is not bound (9) and no wrong type (8), at any record.
+abbrev pub Sound : List Signature → Entry → Type 0
+Sound gs (entry sc r kind) = (named sc kind ≡ true) × (typed gs sc kind ≡ true)
+
+-- Pass one refuses with 10, at some record.
+pub record RefusedFor10 (program : Program) : Type 0 where
+  pub place : ℕ
+  pub refused : passOne program ≡ refusal tooManyWords place
+
+-- ---- the theorems
+
+pub record CodeLimits (program : Program) : Type 0 where
+  -- 01: "At most 4,128 instructions."
+  pub few : length (operationsOf program) ≤ mostInstructions
+  -- each field of each instruction fits its bytes
+  pub fit : Checked program → Every (λ op. Ranged (instructionOf op)) (operationsOf program)
+  -- for a program with no 9 or 8, pass one says 10 exactly where some word count in its code exceeds 16
+  pub words :
+      Every (Sound (signatures program)) (enteredAll (firstNode program) (program .functions))
+      → RefusedFor10 program ↔ Exceeds program
+
+abbrev pub CodeLimitsHold : Type 0
+CodeLimitsHold = (program : Program) → Lawful program → CodeLimits program

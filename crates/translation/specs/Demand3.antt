@@ -1,0 +1,76 @@
+-- Demand 3, sentence by sentence: the statement. It is proved in proofs/Demand3.antt.
+--
+-- Its words: a program's code is `codeOf` (Templates), by document 01's templates. The stream run is `streamRun` (meaning, Running): its answer, and
+-- every byte of the output. The source evaluation is `Ends` (meaning, Evaluation): `Ends program t o n v` says that it ends with the value v after n
+-- expressions, with at most o calls open at once; an evaluation is endless where there are no such o, n and v.
+use Prim.Native.Nat.{ℕ, suc, _+_, _*_, _≤_}
+use mathlib.Core.List.{List, _++_}
+use mathlib.Core.Logic.{_≢_}
+use mathlib.Core.Path.{_≡_}
+use lib.ListN.{length, take, drop}
+use Rattle.formats.specs.Places.{Opens}
+use Rattle.formats.specs.Results.{done}
+use Rattle.formats.specs.Tokens.{Tree, Labelled, tokens}
+use Rattle.formats.specs.Programs.{Program, Lawful}
+use Rattle.rules.specs.PassTwo.{order}
+use Rattle.meaning.specs.Running.{Ran, valueWords, returnWords, mostCalls, streamRun}
+use Rattle.meaning.specs.StreamRun.{writtenBy}
+use Rattle.meaning.specs.Evaluation.{Value, Ends, resultBytes, resultNumber}
+use Rattle.translation.specs.Templates.{codeOf}
+
+-- "any checked program": one within the limits of "Program file" that both passes accept.
+pub record Checked (program : Program) : Type 0 where
+  pub lawful : Lawful program
+  pub passes : order program ≡ done tt
+
+-- The bytes that a run has read of its input.
+abbrev pub readBy : Ran → List ℕ → List ℕ
+readBy ran input = take (ran .answer .bytesRead) input
+
+-- "the run ends unrefused, the whole tree has been read, nothing past it, and the whole result written, or the same number given and nothing written":
+-- of a tree t, a value v and the output at the start. (A number's `resultBytes` are none, a tree's `resultNumber` is 0.)
+pub record Whole (t : Tree) (v : Value) (output : List ℕ) (ran : Ran) : Type 0 where
+  pub unrefused : ran .answer .outcome ≡ done tt
+  pub whole-read : ran .answer .bytesRead ≡ length (tokens t)
+  pub whole-written : ran .answer .bytesWritten ≡ length (resultBytes v)
+  pub result : writtenBy ran ≡ resultBytes v
+  pub untouched : drop (length (resultBytes v)) (ran .output) ≡ drop (length (resultBytes v)) output
+  pub same-number : ran .answer .number ≡ resultNumber v
+
+-- "When any checked program is run over the stream on any tree's tokens, with anything after them, any fuel and any output length:" `run` is the run of
+-- the program's code on an input, with an output and a fuel.
+pub record Demand3 (program : Program) (t : Tree) (run : (input output : List ℕ) (fuel : ℕ) → Ran) : Type 0 where
+  -- "the bytes read are opening bytes of that tree, none or all included;"
+  pub read-opening : (rest output : List ℕ) (fuel : ℕ) → Opens (readBy (run (tokens t ++ rest) output fuel) (tokens t ++ rest)) (tokens t)
+  pub read-no-more : (rest output : List ℕ) (fuel : ℕ) → run (tokens t ++ rest) output fuel .answer .bytesRead ≤ length (tokens t)
+  -- "the bytes written are opening bytes of the source's result where it has one;" with however many calls open
+  pub written-opening :
+      (rest output : List ℕ) (fuel o n : ℕ) (v : Value)
+      → Ends program t o n v
+      → Opens (writtenBy (run (tokens t ++ rest) output fuel)) (resultBytes v)
+  -- "and neither answers nor output depend on what stands after the tree."
+  pub nothing-after : (rest rest′ output : List ℕ) (fuel : ℕ) → run (tokens t ++ rest) output fuel ≡ run (tokens t ++ rest′) output fuel
+  -- "If the source evaluation ends after n expressions with at most 1,024 calls open at once, every fuel from 4n + 1 up suffices, given output space for
+  -- the result: .."
+  pub suffices :
+      (n : ℕ) (v : Value)
+      → Ends program t mostCalls n v
+      → (rest output : List ℕ) (fuel : ℕ)
+      → 4 * n + 1 ≤ fuel
+      → length (resultBytes v) ≤ length output
+      → Whole t v output (run (tokens t ++ rest) output fuel)
+  -- "For every other evaluation, endless ones included, no fuel suffices." Nor does any space.
+  pub none-suffices :
+      ((n : ℕ) (v : Value) → Ends program t mostCalls n v → ⊥)
+      → (rest output : List ℕ) (fuel : ℕ)
+      → run (tokens t ++ rest) output fuel .answer .outcome ≢ done tt
+
+-- For every checked program and every tree of 32-bit labels, however deep; the code with anything behind it in its buffer, and work space lent.
+abbrev pub Demand3Holds : Type 0
+Demand3Holds =
+    (program : Program) (t : Tree) (after-code : List ℕ) (values returns : ℕ)
+    → Checked program
+    → Labelled t
+    → valueWords ≤ values
+    → returnWords ≤ returns
+    → Demand3 program t (λ input output fuel. streamRun (codeOf program ++ after-code) input output fuel values returns)

@@ -1,0 +1,4 @@
+-- The stream code of a program, and what its runs give.
+pub mod Templates
+pub mod Demand3
+pub mod CodeLimits

@@ -1,0 +1,132 @@
+-- Document 01: the code of a program. "the code is the one its templates give, with no optimiser: readers compare listings by eye".
+use Prim.Native.Nat.{ℕ, zero, suc}
+use mathlib.Core.List.{List, [], _∷_, _++_, map}
+use mathlib.Core.Option.{Option, none, some}
+use lib.ListN.{length}
+use Rattle.formats.specs.Records.{flat, nth}
+use Rattle.formats.specs.Programs.{Expr, const, var, add, ifZero, letIn, leafOf, nodeOf, caseOf, call, Args, noArgs, arg, countArgs}
+use Rattle.formats.specs.Programs.{Sort, numberValued, treeValued, Function, Program}
+use Rattle.meaning.specs.Levels.{atLevel}
+use Rattle.meaning.specs.Instructions.{Operation, Push, Get, Add, Ifnot, Jump, Slide, Drop, LeafTag, NodeTag, WriteNumber, ReadTag, ReadNumber, Call, Return, instructionOf}
+
+-- ---- addresses
+
+-- The address behind the code of an expression that begins at a.
+unfoldable mutual
+  pub behind : Expr → ℕ → ℕ
+  behind (const i) a = suc a
+  behind (var k) a = suc a
+  behind (add p q) a = suc (behind q (behind p a))
+  behind (ifZero t z o) a = behind o (suc (behind z (suc (behind t a))))
+  behind (letIn p body) a = suc (behind body (behind p a))
+  behind (leafOf p) a = suc (behind p (suc a))
+  behind (nodeOf p q) a = behind q (behind p (suc a))
+  behind (caseOf k p q) a = behind q (suc (suc (behind p (suc (suc a)))))
+  behind (call k b xs) a = suc (behindArgs xs a)
+
+  pub behindArgs : Args → ℕ → ℕ
+  behindArgs noArgs a = a
+  behindArgs (arg x xs) a = behindArgs xs (behind x a)
+
+-- ---- words
+
+-- The word that each number name stands on, the newest name first. 01: "get (operand: word above the base)". A name keeps its word, and a number found
+-- before it, but not named, has a word of its own below it: so a name's word may be higher than its number.
+abbrev pub Words : Type 0
+Words = List ℕ
+
+-- The word of a name; 0 where pass one finds it not bound.
+unfoldable pub wordOf : Words → ℕ → ℕ
+wordOf words a = elim (atLevel words a) [ none ↦ 0 | some w ↦ w ]
+
+-- 01: "the new frame's first words". The words of so many parameters: 0 and up, the newest first.
+unfoldable pub firstWords : ℕ → Words
+firstWords zero = []
+firstWords (suc k) = k ∷ firstWords k
+
+-- ---- templates
+
+-- 01: ""end" is slide where a number is expected, drop where a tree is."
+unfoldable pub endOf : Sort → Operation
+endOf numberValued = Slide
+endOf treeValued = Drop
+
+-- The code of an expression, by the table's column "code": in a program whose functions have these entries; a value of sort s is expected; the names
+-- stand on these words, and w words stand above the base on entering; the code begins at address a. A label of the table (L, M) is the address that it
+-- stands at.
+unfoldable mutual
+  pub code : (entries : ℕ → ℕ) (s : Sort) (words : Words) (w a : ℕ) → Expr → List Operation
+  -- "push i"
+  code entries s words w a (const i) = Push i ∷ []
+  -- "get"
+  code entries s words w a (var k) = Get (wordOf words k) ∷ []
+  -- "p, q, add"
+  code entries s words w a (add p q) =
+      code entries numberValued words w a p ++ (code entries numberValued words (suc w) (behind p a) q ++ (Add ∷ []))
+  -- "t, ifnot L, z, jump M, L: o, M:"
+  code entries s words w a (ifZero t z o) =
+      let atZ = suc (behind t a) in
+      let L = suc (behind z atZ) in
+      let M = behind o L in
+      code entries numberValued words w a t ++ (Ifnot L ∷ (code entries s words w atZ z ++ (Jump M ∷ code entries s words w L o)))
+  -- "p, body, end"
+  code entries s words w a (letIn p body) =
+      code entries numberValued words w a p ++ (code entries s (w ∷ words) (suc w) (behind p a) body ++ (endOf s ∷ []))
+  -- "leaf tag, p, write number"
+  code entries s words w a (leafOf p) = LeafTag ∷ (code entries numberValued words w (suc a) p ++ (WriteNumber ∷ []))
+  -- "node tag, p, q"
+  code entries s words w a (nodeOf p q) =
+      NodeTag ∷ (code entries treeValued words w (suc a) p ++ code entries treeValued words w (behind p (suc a)) q)
+  -- "read tag L, read number, p, end, jump M, L: q, M:"
+  code entries s words w a (caseOf k p q) =
+      let atP = suc (suc a) in
+      let L = suc (suc (behind p atP)) in
+      let M = behind q L in
+      ReadTag L ∷ (ReadNumber ∷ (code entries s (w ∷ words) (suc w) atP p ++ (endOf s ∷ (Jump M ∷ code entries s words w L q))))
+  -- "arguments, call"
+  code entries s words w a (call k b xs) = codeArgs entries words w a xs ++ (Call (entries b) (countArgs xs) ∷ [])
+
+  -- The arguments of a Call, one after the other.
+  pub codeArgs : (entries : ℕ → ℕ) (words : Words) (w a : ℕ) → Args → List Operation
+  codeArgs entries words w a noArgs = []
+  codeArgs entries words w a (arg x xs) = code entries numberValued words w a x ++ codeArgs entries words (suc w) (behind x a) xs
+
+-- ---- functions
+
+-- 01: "return (byte 1: 0 or 1 words kept ..)": a number is kept.
+unfoldable pub wordsKept : Sort → ℕ
+wordsKept numberValued = 1
+wordsKept treeValued = 0
+
+-- 01: "A function is its body, then return".
+unfoldable pub functionCode : (entries : ℕ → ℕ) → ℕ → Function → List Operation
+functionCode entries a f =
+    code entries (f .sort) (firstWords (f .parameters)) (f .parameters) a (f .body) ++ (Return (wordsKept (f .sort)) ∷ [])
+
+-- The address behind a function that begins at a.
+unfoldable pub behindFunction : Function → ℕ → ℕ
+behindFunction f a = suc (behind (f .body) a)
+
+-- 01: "Functions follow in order". Where function b begins, if the first of these begins at a.
+unfoldable pub entryFrom : ℕ → List Function → ℕ → ℕ
+entryFrom a [] b = a
+entryFrom a (f ∷ fs) zero = a
+entryFrom a (f ∷ fs) (suc b) = entryFrom (behindFunction f a) fs b
+
+-- Their code, if the first begins at a.
+unfoldable pub functionsCode : (entries : ℕ → ℕ) → ℕ → List Function → List Operation
+functionsCode entries a [] = []
+functionsCode entries a (f ∷ fs) = functionCode entries a f ++ functionsCode entries (behindFunction f a) fs
+
+-- ---- programs
+
+unfoldable pub entryOf : Program → ℕ → ℕ
+entryOf program b = entryFrom 0 (program .functions) b
+
+-- The instructions of a program, in order.
+unfoldable pub operationsOf : Program → List Operation
+operationsOf program = functionsCode (entryOf program) 0 (program .functions)
+
+-- The same as bytes. 01: "Unused fields are written zero".
+unfoldable pub codeOf : Program → List ℕ
+codeOf program = flat (map instructionOf (operationsOf program))

@@ -4,11 +4,11 @@
 -- Two derivations for one expression in one environment go by the same rules: they agree in number and value, and the second's bound is above the
 -- first's nesting (`agree`: by induction over the first; rule by rule, only the second is taken apart). A derivation can be built anew under any bound
 -- above its nesting, its rules counted (`rebuilt`); it agrees with the first, so that count is the number begun.
-use Prim.Native.Nat.{ℕ, zero, suc, _+_, _≤_, _<_, max}
+use Prim.Native.Nat.{ℕ, zero, suc, _+_, _*_, _≤_, _<_, max}
 use mathlib.Core.List.{List, [], _∷_}
 use mathlib.Core.Logic.{_↔_}
 use mathlib.Core.Option.{Option, some}
-use mathlib.Core.Path.{_≡_, refl, sym, ap}
+use mathlib.Core.Path.{_≡_, refl, sym, ap, subst}
 use native.Mathlib.Omega.{arith}
 use Rattle.formats.specs.Numbers.{sum32}
 use Rattle.formats.specs.Tokens.{Tree, leaf, node}
@@ -47,128 +47,171 @@ nestingInArgs ds = countedArgs (λ units n. n) suc max ds
 
 -- ---- two derivations agree
 
--- The same number of expressions begun, the same value, and the first's nesting below the second's bound.
-record Agree {A : Type 0} (n n′ : ℕ) (x x′ : A) (nesting bound : ℕ) : Type 0 where
+-- The same number of expressions begun and of units, the same value, and the first's nesting below the second's bound.
+record Agree {A : Type 0} (n n′ u u′ : ℕ) (x x′ : A) (nesting bound : ℕ) : Type 0 where
   begun : n ≡ n′
+  units : u ≡ u′
   value : x ≡ x′
   below : nesting < bound
 
 -- two parts one after the other, with the second's value; the second may depend on the first's
 both-agree :
-    {A B : Type 0} {n n′ m m′ k l o : ℕ} {x x′ : A} {y y′ : B}
-    → Agree n n′ x x′ k o
-    → (x ≡ x′ → Agree m m′ y y′ l o)
-    → Agree (n + m) (n′ + m′) y y′ (max k l) o
+    {A B : Type 0} {n n′ m m′ u u′ w w′ k l o : ℕ} {x x′ : A} {y y′ : B}
+    → Agree n n′ u u′ x x′ k o
+    → (x ≡ x′ → Agree m m′ w w′ y y′ l o)
+    → Agree (n + m) (n′ + m′) (u + w) (u′ + w′) y y′ (max k l) o
 both-agree first rest =
     let second = rest (first .value) in
-    record { begun = omega arith; value = second .value; below = omega arith }
+    record { begun = omega arith; units = omega arith; value = second .value; below = omega arith }
 
--- an expression around its parts: one more begins, and the value is made of theirs
-made-agrees : {A B : Type 0} {n n′ k o : ℕ} {x x′ : A} {y y′ : B} → Agree n n′ x x′ k o → y ≡ y′ → Agree (suc n) (suc n′) y y′ k o
-made-agrees parts e = record { begun = ap suc (parts .begun); value = e; below = parts .below }
+-- an expression around its parts: one more begins, with its units, and the value is made of theirs
+made-agrees :
+    {A B : Type 0} {n n′ u u′ c c′ k o : ℕ} {x x′ : A} {y y′ : B}
+    → Agree n n′ u u′ x x′ k o
+    → c ≡ c′
+    → y ≡ y′
+    → Agree (suc n) (suc n′) (c + u) (c′ + u′) y y′ k o
+made-agrees parts spends e = record { begun = ap suc (parts .begun); units = omega (arith, parts .units); value = e; below = parts .below }
 
--- an expression around its parts: one more begins, and the value is that of the last
-whole-agrees : {A : Type 0} {n n′ k o : ℕ} {x x′ : A} → Agree n n′ x x′ k o → Agree (suc n) (suc n′) x x′ k o
-whole-agrees parts = made-agrees parts (parts .value)
+-- an expression around its parts: one more begins, with its units, and the value is that of the last
+whole-agrees : {A : Type 0} {n n′ u u′ c c′ k o : ℕ} {x x′ : A} → Agree n n′ u u′ x x′ k o → c ≡ c′ → Agree (suc n) (suc n′) (c + u) (c′ + u′) x x′ k o
+whole-agrees parts spends = made-agrees parts spends (parts .value)
 
 -- a call's body, seen from the Call: one more Call is nested, and one more may be open
-body-agrees : {A : Type 0} {n n′ k o : ℕ} {x x′ : A} → Agree n n′ x x′ k o → Agree n n′ x x′ (suc k) (suc o)
-body-agrees body = record { begun = body .begun; value = body .value; below = omega arith }
+body-agrees : {A : Type 0} {n n′ u u′ k o : ℕ} {x x′ : A} → Agree n n′ u u′ x x′ k o → Agree n n′ u u′ x x′ (suc k) (suc o)
+body-agrees body = record { begun = body .begun; units = body .units; value = body .value; below = omega arith }
 
 -- numbers of equal values are equal
-same-number : {i j : ℕ} → number i ≡ number j → j ≡ i
+same-number : {i j : ℕ} → number i ≡ number j → i ≡ j
 same-number e = cc
 
 -- one option holds one entry
-same-entry : {A : Type 0} {o : Option A} {x y : A} → o ≡ some x → o ≡ some y → y ≡ x
+same-entry : {A : Type 0} {o : Option A} {x y : A} → o ≡ some x → o ≡ some y → x ≡ y
 same-entry e f = cc
 
 module _ (program : Program) where
-  -- What is to be shown of a derivation with this number, value and nesting: every other agrees with it.
-  abbrev Agrees : Environment → Expr → ℕ → Value → ℕ → Type 0
-  Agrees E e n v nesting = (o′ n′ : ℕ) (v′ : Value) → Takes program E e o′ n′ v′ → Agree n n′ v v′ nesting o′
+  -- What is to be shown of a derivation with this number, these units, this value and nesting: every other agrees with it.
+  abbrev Agrees : Environment → Expr → (n u : ℕ) → Value → ℕ → Type 0
+  Agrees E e n u v nesting = (o′ n′ : ℕ) (v′ : Value) (d′ : Takes program E e o′ n′ v′) → Agree n n′ u (unitsIn d′) v v′ nesting o′
 
   -- The same of arguments, where the other's bound is above 0, as a Call's is.
-  abbrev AgreesArgs : Environment → Args → ℕ → List ℕ → List ℕ → ℕ → Type 0
-  AgreesArgs E xs n before after nesting =
-      (o′ n′ : ℕ) (after′ : List ℕ) → TakesArgs program E xs (suc o′) n′ before after′ → Agree n n′ after after′ nesting (suc o′)
+  abbrev AgreesArgs : Environment → Args → (n u : ℕ) → List ℕ → List ℕ → ℕ → Type 0
+  AgreesArgs E xs n u before after nesting =
+      (o′ n′ : ℕ) (after′ : List ℕ) (d′ : TakesArgs program E xs (suc o′) n′ before after′)
+      → Agree n n′ u (unitsInArgs d′) after after′ nesting (suc o′)
 
   -- rule by rule, where it is shown of the premises: a constant is itself
-  agree-const : {E : Environment} {i : ℕ} → Agrees E (const i) 1 (number i) 0
-  agree-const o n v Const = record { begun = refl; value = refl; below = omega arith }
+  agree-const : {E : Environment} {i : ℕ} → Agrees E (const i) 1 1 (number i) 0
+  unfolding counted
+  agree-const o n v Const = record { begun = refl; units = refl; value = refl; below = omega arith }
 
   -- a name stands for one number
-  agree-var : {E : Environment} {a i : ℕ} → numberNamed E a ≡ some i → Agrees E (var a) 1 (number i) 0
-  agree-var named o n v (Var named′) = record { begun = refl; value = cc; below = omega arith }
+  agree-var : {E : Environment} {a i : ℕ} → numberNamed E a ≡ some i → Agrees E (var a) 1 1 (number i) 0
+  unfolding counted
+  agree-var named o n v (Var named′) = record { begun = refl; units = refl; value = cc; below = omega arith }
 
   -- equal numbers have one sum
-  agree-add : {E : Environment} {p q : Expr} {n m i j k l : ℕ} → Agrees E p n (number i) k → Agrees E q m (number j) l
-      → Agrees E (add p q) (suc (n + m)) (number (sum32 i j)) (max k l)
+  agree-add : {E : Environment} {p q : Expr} {n m u w i j k l : ℕ} → Agrees E p n u (number i) k → Agrees E q m w (number j) l
+      → Agrees E (add p q) (suc (n + m)) (1 + (u + w)) (number (sum32 i j)) (max k l)
+  unfolding counted
   agree-add f g o n v (Add d₁ d₂) =
-      made-agrees (both-agree (f _ _ _ d₁) (λ same. g _ _ _ d₂)) (cc (f _ _ _ d₁ .value, g _ _ _ d₂ .value))
+      made-agrees (both-agree (f _ _ _ d₁) (λ same. g _ _ _ d₂)) refl (cc (f _ _ _ d₁ .value, g _ _ _ d₂ .value))
 
   -- IfZero picks the same part
-  agree-ifZero : {E : Environment} {t z w : Expr} {n m i k l : ℕ} {v : Value} → Agrees E t n (number i) k → Agrees E (picked i z w) m v l
-      → Agrees E (ifZero t z w) (suc (n + m)) v (max k l)
-  agree-ifZero f g o n v (IfZero d₁ d₂) = whole-agrees (both-agree (f _ _ _ d₁) (λ same. g _ _ _ (rw (same-number same) at d₂)))
+  agree-ifZero : {E : Environment} {t z y : Expr} {n m u w i k l : ℕ} {v : Value} → Agrees E t n u (number i) k → Agrees E (picked i z y) m w v l
+      → Agrees E (ifZero t z y) (suc (n + m)) (ifZeroUnits i + (u + w)) v (max k l)
+  unfolding counted
+  agree-ifZero {E} {z = z} {y = y} {m = m} {w = w} {l = l} {v = v} f g o n v′ (IfZero {m = m′} d₁ d₂) =
+      let first = f _ _ _ d₁ in
+      let second = subst (λ j. (d : Takes program E (picked j z y) o m′ v′) → Agree m m′ w (unitsIn d) v v′ l o) (same-number (first .value)) (g _ _ _) in
+      whole-agrees (both-agree first (λ same. second d₂)) (ap ifZeroUnits (same-number (first .value)))
 
   -- Let names the same number
-  agree-let : {E : Environment} {p body : Expr} {n m i k l : ℕ} {v : Value} → Agrees E p n (number i) k → Agrees (withNumber i E) body m v l
-      → Agrees E (letIn p body) (suc (n + m)) v (max k l)
-  agree-let f g o n v (Let d₁ d₂) = whole-agrees (both-agree (f _ _ _ d₁) (λ same. g _ _ _ (rw (same-number same) at d₂)))
+  agree-let : {E : Environment} {p body : Expr} {n m u w i k l : ℕ} {v : Value} → Agrees E p n u (number i) k → Agrees (withNumber i E) body m w v l
+      → Agrees E (letIn p body) (suc (n + m)) (1 + (u + w)) v (max k l)
+  unfolding counted
+  agree-let {E} {body = body} {m = m} {w = w} {l = l} {v = v} f g o n v′ (Let {m = m′} d₁ d₂) =
+      let first = f _ _ _ d₁ in
+      let second =
+      subst (λ j. (d : Takes program (withNumber j E) body o m′ v′) → Agree m m′ w (unitsIn d) v v′ l o) (same-number (first .value)) (g _ _ _) in
+      whole-agrees (both-agree first (λ same. second d₂)) refl
 
   -- Leaf gives the same leaf
-  agree-leaf : {E : Environment} {p : Expr} {n i k : ℕ} → Agrees E p n (number i) k → Agrees E (leafOf p) (suc n) (tree (leaf i)) k
-  agree-leaf f o n v (Leaf d) = let part = f _ _ _ d in made-agrees part (cc)
+  agree-leaf : {E : Environment} {p : Expr} {n u i k : ℕ} → Agrees E p n u (number i) k → Agrees E (leafOf p) (suc n) (2 + u) (tree (leaf i)) k
+  unfolding counted
+  agree-leaf f o n v (Leaf d) = let part = f _ _ _ d in made-agrees part refl (cc (part .value))
 
   -- Node gives the same node
-  agree-node : {E : Environment} {p q : Expr} {n m k l : ℕ} {t u : Tree} → Agrees E p n (tree t) k → Agrees E q m (tree u) l
-      → Agrees E (nodeOf p q) (suc (n + m)) (tree (node t u)) (max k l)
+  agree-node : {E : Environment} {p q : Expr} {n m u w k l : ℕ} {x y : Tree} → Agrees E p n u (tree x) k → Agrees E q m w (tree y) l
+      → Agrees E (nodeOf p q) (suc (n + m)) (1 + (u + w)) (tree (node x y)) (max k l)
+  unfolding counted
   agree-node f g o n v (Node d₁ d₂) =
-      made-agrees (both-agree (f _ _ _ d₁) (λ same. g _ _ _ d₂)) (cc (f _ _ _ d₁ .value, g _ _ _ d₂ .value))
+      made-agrees (both-agree (f _ _ _ d₁) (λ same. g _ _ _ d₂)) refl (cc (f _ _ _ d₁ .value, g _ _ _ d₂ .value))
 
   -- Case goes by the same tree
-  agree-case : {E : Environment} {a n k : ℕ} {p q : Expr} {t : Tree} {v : Value} → treeNamed E a ≡ some t → Agrees (inBranch t E) (branch t p q) n v k
-      → Agrees E (caseOf a p q) (suc n) v k
-  agree-case named f o n v (Case named′ d) = whole-agrees (f _ _ _ (rw (same-entry named named′) at d))
+  agree-case :
+      {E : Environment} {a n u k : ℕ} {p q : Expr} {t : Tree} {v : Value} → treeNamed E a ≡ some t → Agrees (inBranch t E) (branch t p q) n u v k
+      → Agrees E (caseOf a p q) (suc n) (caseUnits t + u) v k
+  unfolding counted
+  agree-case {E} {n = n} {u = u} {k = k} {p = p} {q = q} {v = v} named f o n″ v′ (Case {n = n′} named′ d) =
+      let same = same-entry named named′ in
+      let part = subst (λ x. (d : Takes program (inBranch x E) (branch x p q) o n′ v′) → Agree n n′ u (unitsIn d) v v′ k o) same (f _ _ _) in
+      whole-agrees (part d) (ap caseUnits same)
 
   -- Call opens the same body, with the same numbers and the same tree
-  agree-call : {E : Environment} {a b n m k l : ℕ} {xs : Args} {numbers : List ℕ} {t : Tree} {f : Function} {v : Value}
-      → AgreesArgs E xs n [] numbers k
+  agree-call : {E : Environment} {a b n m u w k l : ℕ} {xs : Args} {numbers : List ℕ} {t : Tree} {f : Function} {v : Value}
+      → AgreesArgs E xs n u [] numbers k
       → treeNamed E a ≡ some t
       → nth (program .functions) b ≡ some f
-      → Agrees (inCall numbers t) (f .body) m v l
-      → Agrees E (call a b xs) (suc (n + m)) v (max k (suc l))
-  agree-call f named known g o n v (Call ds named′ known′ d) =
-      whole-agrees (both-agree (f _ _ _ ds) (λ same. body-agrees (g _ _ _ (rw (sym same, same-entry named named′, same-entry known known′) at d))))
+      → Agrees (inCall numbers t) (f .body) m w v l
+      → Agrees E (call a b xs) (suc (n + m)) (2 + (u + w)) v (max k (suc l))
+  unfolding counted
+  agree-call {m = m} {w = w} {l = l} {numbers = numbers} {t = t} {f = f} {v = v} args named known body o n v′
+      (Call {o = o′} {m = m′} {numbers = numbers′} {t = t′} {f = f′} ds named′ known′ d) =
+      let first = args _ _ _ ds in
+      let Body : List ℕ → Tree → Function → Type 0 = λ xs x h. (d : Takes program (inCall xs x) (h .body) o′ m′ v′) → Agree m m′ w (unitsIn d) v v′ l o′ in
+      let of-function : Body numbers t f′ = subst (λ h. Body numbers t h) (same-entry known known′) (body _ _ _) in
+      let on-tree : Body numbers t′ f′ = subst (λ x. Body numbers x f′) (same-entry named named′) of-function in
+      let with-numbers : Body numbers′ t′ f′ = subst (λ xs. Body xs t′ f′) (first .value) on-tree in
+      whole-agrees (both-agree first (λ same. body-agrees (with-numbers d))) refl
 
   -- where no argument is left the numbers stay
-  agree-none : {E : Environment} {numbers : List ℕ} → AgreesArgs E noArgs 0 numbers numbers 0
-  agree-none o n after no-more = record { begun = refl; value = refl; below = omega arith }
+  agree-none : {E : Environment} {numbers : List ℕ} → AgreesArgs E noArgs 0 0 numbers numbers 0
+  agree-none o n after no-more = record { begun = refl; units = refl; value = refl; below = omega arith }
 
   -- one more adds the same number
-  agree-arg : {E : Environment} {x : Expr} {xs : Args} {n m i k l : ℕ} {before after : List ℕ}
-      → Agrees E x n (number i) k
-      → AgreesArgs E xs m (i ∷ before) after l
-      → AgreesArgs E (arg x xs) (n + m) before after (max k l)
-  agree-arg f g o n after (one-more d ds) = both-agree (f _ _ _ d) (λ same. g _ _ _ (rw (same-number same) at ds))
+  agree-arg : {E : Environment} {x : Expr} {xs : Args} {n m u w i k l : ℕ} {before after : List ℕ}
+      → Agrees E x n u (number i) k
+      → AgreesArgs E xs m w (i ∷ before) after l
+      → AgreesArgs E (arg x xs) (n + m) (u + w) before after (max k l)
+  unfolding counted
+  agree-arg {E} {xs = xs} {m = m} {w = w} {l = l} {before = before} {after = after} f g o n after′ (one-more {m = m′} d ds) =
+      let first = f _ _ _ d in
+      let rest =
+      subst (λ j. (e : TakesArgs program E xs (suc o) m′ (j ∷ before) after′) → Agree m m′ w (unitsInArgs e) after after′ l (suc o))
+      (same-number (first .value))
+      (g _ _ _) in
+      both-agree first (λ same. rest ds)
 
   -- all rules: any two derivations agree
-  agree : {E : Environment} {e : Expr} {o n : ℕ} {v : Value} (d : Takes program E e o n v) → Agrees E e n v (nestingIn d)
+  agree : {E : Environment} {e : Expr} {o n : ℕ} {v : Value} (d : Takes program E e o n v) → Agrees E e n (unitsIn d) v (nestingIn d)
   unfolding counted
-  agree d = elim d as (λ E e o n v d. Agrees E e n v (nestingIn d)) (λ E xs o n before after ds. AgreesArgs E xs n before after (nestingInArgs ds)) [
-    | Const ↦ agree-const
-    | Var named ↦ agree-var named
-    | Add (d₁ → f) (d₂ → g) ↦ agree-add f g
-    | IfZero (d₁ → f) (d₂ → g) ↦ agree-ifZero f g
-    | Let (d₁ → f) (d₂ → g) ↦ agree-let f g
-    | Leaf (d → f) ↦ agree-leaf f
-    | Node (d₁ → f) (d₂ → g) ↦ agree-node f g
-    | Case named (d → f) ↦ agree-case named f
-    | Call (ds → f) named known (d → g) ↦ agree-call f named known g
-    | no-more ↦ agree-none
-    | one-more (d → f) (ds → g) ↦ agree-arg f g
-  ]
+  agree d =
+      elim d as
+      (λ E e o n v d. Agrees E e n (unitsIn d) v (nestingIn d))
+      (λ E xs o n before after ds. AgreesArgs E xs n (unitsInArgs ds) before after (nestingInArgs ds)) [
+        | Const ↦ agree-const
+        | Var named ↦ agree-var named
+        | Add (d₁ → f) (d₂ → g) ↦ agree-add f g
+        | IfZero (d₁ → f) (d₂ → g) ↦ agree-ifZero f g
+        | Let (d₁ → f) (d₂ → g) ↦ agree-let f g
+        | Leaf (d → f) ↦ agree-leaf f
+        | Node (d₁ → f) (d₂ → g) ↦ agree-node f g
+        | Case named (d → f) ↦ agree-case named f
+        | Call (ds → f) named known (d → g) ↦ agree-call f named known g
+        | no-more ↦ agree-none
+        | one-more (d → f) (ds → g) ↦ agree-arg f g
+      ]
 
 -- ---- a derivation built anew
 
@@ -216,7 +259,39 @@ pub one-result :
     → Ends program t o′ n′ v′
     → (n ≡ n′) × (v ≡ v′)
 one-result program t o n o′ n′ v v′ ends ends′ =
-    one-value program _ _ o n o′ n′ v v′ (ends .takes) (rw (same-entry (ends .is-first) (ends′ .is-first)) at (ends′ .takes))
+    one-value program _ _ o n o′ n′ v v′ (ends .takes) (rw (same-entry (ends′ .is-first) (ends .is-first)) at (ends′ .takes))
+
+-- and so are the units
+pub one-sum :
+    (program : Program) (E : Environment) (e : Expr) (o n o′ n′ : ℕ) (v v′ : Value) (d : Takes program E e o n v) (d′ : Takes program E e o′ n′ v′)
+    → unitsIn d ≡ unitsIn d′
+one-sum program E e o n o′ n′ v v′ d d′ = agree program d o′ n′ v′ d′ .units
+
+-- at most four for each expression begun
+pub four-each : (program : Program) (E : Environment) (e : Expr) (o n : ℕ) (v : Value) (d : Takes program E e o n v) → unitsIn d ≤ 4 * n
+unfolding counted ifZeroUnits caseUnits
+four-each program E e o n v d =
+    elim d as (λ E e o n v d. unitsIn d ≤ 4 * n) (λ E xs o n before after ds. unitsInArgs ds ≤ 4 * n) [
+      | Const ↦ omega arith
+      | Var named ↦ omega arith
+      | Add (d₁ → h₁) (d₂ → h₂) ↦ omega arith
+      | IfZero {i = i} (d₁ → h₁) (d₂ → h₂) ↦ let few = ifZero-few i in omega arith
+      | Let (d₁ → h₁) (d₂ → h₂) ↦ omega arith
+      | Leaf (d → h) ↦ omega arith
+      | Node (d₁ → h₁) (d₂ → h₂) ↦ omega arith
+      | Case {t = t} named (d → h) ↦ let few = case-few t in omega arith
+      | Call (ds → h₁) named known (d → h₂) ↦ omega arith
+      | no-more ↦ omega arith
+      | one-more (d → h₁) (ds → h₂) ↦ omega arith
+    ]
+  where
+    ifZero-few : (i : ℕ) → ifZeroUnits i ≤ 4
+    ifZero-few zero = omega arith
+    ifZero-few (suc i) = omega arith
+
+    case-few : (t : Tree) → caseUnits t ≤ 4
+    case-few (leaf x) = omega arith
+    case-few (node l r) = omega arith
 
 -- the number of expressions begun is that of the rules
 pub rules-begun : (program : Program) (E : Environment) (e : Expr) (o n : ℕ) (v : Value) (d : Takes program E e o n v) → rulesIn d ≡ n

@@ -38,6 +38,22 @@ level-found (x ∷ xs) k h = by-test (λ below. level-found xs k below) (eqb k (
         let found = older (omega arith) in
         record { entry = found .entry; is = level-older x k xs other ∙ found .is }
 
+-- and of no other
+pub level-below : {A : Type 0} (xs : List A) (k : ℕ) {x : A} → atLevel xs k ≡ some x → k < length xs
+unfolding atLevel
+level-below [] k {x} e = absurd (Option·none-ne-some x e)
+level-below (y ∷ xs) k {x} e = by-test (level-below xs k {x = x}) (eqb k (length xs)) refl e
+  where
+    by-test :
+        (atLevel xs k ≡ some x → k < length xs) → (b : Bool) → eqb k (length xs) ≡ b → elim b [ true ↦ some y | false ↦ atLevel xs k ] ≡ some x
+        → k < length (y ∷ xs)
+    by-test older true t e = let newest = eqb-true k (length xs) t in omega arith
+    by-test older false t e = let below = older e in omega arith
+
+-- an entry that is found keeps its number when a newer one comes
+pub level-kept : {A : Type 0} (y : A) (xs : List A) (k : ℕ) {x : A} → atLevel xs k ≡ some x → atLevel (y ∷ xs) k ≡ some x
+level-kept y xs k e = let below = level-below xs k e in level-older y k xs (λ same. absurd (omega arith)) ∙ e
+
 -- what holds of all entries holds of one that is found
 pub level-every : {A : Type 0} (P : A → Type 0) (xs : List A) (k : ℕ) {x : A} → Every P xs → atLevel xs k ≡ some x → P x
 unfolding atLevel

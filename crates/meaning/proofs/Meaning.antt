@@ -1,6 +1,6 @@
 -- What holds of a program's meaning (Meaning), put together.
 use Rattle.meaning.specs.Meaning.{Meaning}
-use Rattle.meaning.proofs.Evaluation.{one-value, one-result, rules-begun, least-open}
+use Rattle.meaning.proofs.Evaluation.{one-value, one-result, one-sum, four-each, rules-begun, least-open}
 use Rattle.meaning.proofs.Proper.{proper}
 use Rattle.meaning.proofs.OpenCalls.{of-sort, held}
 use Rattle.meaning.proofs.OneWay.{one-way, at-end, one-function}
@@ -12,6 +12,8 @@ meaning = record {
   evaluations = λ program. record {
     one-value = one-value program;
     one-result = one-result program;
+    one-sum = one-sum program;
+    four-each = four-each program;
     rules-begun = rules-begun program;
     least-open = least-open program;
     of-sort = λ t first o n v p. of-sort program t (proper program p) first o n v;

@@ -1,7 +1,7 @@
 -- What holds of a program's meaning: the statements. They are proved in proofs/Meaning.antt.
 --
 -- Demand 2: "the source run gives what document 000's reductions give, with sums modulo 2^32".
-use Prim.Native.Nat.{ℕ, suc, _+_, _^_, _≤_, _<_}
+use Prim.Native.Nat.{ℕ, suc, _+_, _*_, _^_, _≤_, _<_}
 use mathlib.Core.List.{List, [], _∷_, _++_}
 use mathlib.Core.Logic.{_↔_, _⊎_}
 use mathlib.Core.Option.{some}
@@ -17,7 +17,7 @@ use Rattle.formats.specs.Blocks.{programIn}
 use Rattle.rules.specs.Printed.{Term, fix, function}
 use Rattle.rules.specs.PassOne.{passOne}
 use Rattle.meaning.specs.Running.{valueWords, returnWords, mostCalls}
-use Rattle.meaning.specs.Evaluation.{Value, number, tree, Environment, Takes, Ends, resultBytes, resultNumber, rulesIn, nestingIn}
+use Rattle.meaning.specs.Evaluation.{Value, number, tree, Environment, Takes, Ends, resultBytes, resultNumber, rulesIn, unitsIn, nestingIn}
 use Rattle.meaning.specs.OpenCalls.{Outcome, gives, stops, begins, begun, after, evaluation, within}
 use Rattle.meaning.specs.SourceRun.{SourceRan, sourceRun}
 use Rattle.meaning.specs.Reductions.{IsValue, only, substitute, Redex, Reduces, Leads, valueTerm, applied}
@@ -53,6 +53,11 @@ pub record Evaluations (program : Program) : Type 0 where
       → Ends program t o n v
       → Ends program t o′ n′ v′
       → (n ≡ n′) × (v ≡ v′)
+  -- so are the units, at most four for each expression begun
+  pub one-sum :
+      (E : Environment) (e : Expr) (o n o′ n′ : ℕ) (v v′ : Value) (d : Takes program E e o n v) (d′ : Takes program E e o′ n′ v′)
+      → unitsIn d ≡ unitsIn d′
+  pub four-each : (E : Environment) (e : Expr) (o n : ℕ) (v : Value) (d : Takes program E e o n v) → unitsIn d ≤ 4 * n
   -- n is the number of rules, one for each expression
   pub rules-begun : (E : Environment) (e : Expr) (o n : ℕ) (v : Value) (d : Takes program E e o n v) → rulesIn d ≡ n
   -- o′ bounds the calls open exactly where it is above the nesting of Call rules: the least bound is one more than that

@@ -2,9 +2,9 @@
 use Prim.Native.Nat.{ℕ, suc, _+_, _≤_, _<_, max}
 use mathlib.Core.Bool.{true, false≢true}
 use mathlib.Core.List.{List, _∷_}
-use mathlib.Core.Option.{none, some}
+use mathlib.Core.Option.{Option, none, some}
 use mathlib.Core.Path.{_≡_, refl, sym, ap, _∙_}
-use native.Mathlib.Nat.{add-zero, add-suc, max-le}
+use native.Mathlib.Nat.{add-zero, add-suc, max-le, le-refl}
 use native.Mathlib.Omega.{arith}
 use borrow.Author.Tests.{ltb-true}
 use Rattle.formats.specs.Results.{done}
@@ -74,6 +74,29 @@ pub words-call : (gs : List Signature) (w a b : ℕ) (xs : Args) (s : Signature)
     → wordsOf gs w (call a b xs) ≡ max (valueWords (s .sort) w) (wordsOfArgs gs w xs)
 unfolding wordsOf
 words-call gs w a b xs s e = ap (λ o. elim o [ none ↦ w | some s ↦ max (valueWords (s .sort) w) (wordsOfArgs gs w xs) ]) e
+
+-- at least those that stand on entering
+mutual
+  unfolding wordsOf valueWords
+
+  pub words-least : (gs : List Signature) (w : ℕ) (e : Expr) → w ≤ wordsOf gs w e
+  words-least gs w (const i) = omega arith
+  words-least gs w (var a) = omega arith
+  words-least gs w (add p q) = omega (arith, words-least gs w p)
+  words-least gs w (ifZero t z o) = omega (arith, words-least gs w t)
+  words-least gs w (letIn p body) = omega (arith, words-least gs w p)
+  words-least gs w (leafOf p) = words-least gs w p
+  words-least gs w (nodeOf p q) = omega (arith, words-least gs w p)
+  words-least gs w (caseOf a p q) = omega (arith, words-least gs w q)
+  words-least gs w (call a b xs) = known (words-least-args gs w xs) (nth gs b)
+    where
+      known : w ≤ wordsOfArgs gs w xs → (o : Option Signature) → w ≤ elim o [ none ↦ w | some s ↦ max (valueWords (s .sort) w) (wordsOfArgs gs w xs) ]
+      known least none = le-refl w
+      known least (some s) = omega arith
+
+  pub words-least-args : (gs : List Signature) (w : ℕ) (xs : Args) → w ≤ wordsOfArgs gs w xs
+  words-least-args gs w noArgs = le-refl w
+  words-least-args gs w (arg x xs) = omega (arith, words-least gs w x)
 
 -- the words stay within the limit
 mutual

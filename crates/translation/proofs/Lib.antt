@@ -1,3 +1,19 @@
 -- Proofs about the stream code of programs.
 pub mod Addresses
+pub mod Bodies
+pub mod Operands
+pub mod Laid
+pub mod CodeStands
+pub mod Coded
+pub mod WordWays
+pub mod WordCounts
+pub mod InOrder
 pub mod Paths
+pub mod Wider
+pub mod Meets
+pub mod Courses
+pub mod Carried
+pub mod Performed
+pub mod Goes
+pub mod Simulation
+pub mod Evaluated

@@ -109,8 +109,8 @@ behindFunction f a = suc (behind (f .body) a)
 
 -- 01: "Functions follow in order". Where function b begins, if the first of these begins at a.
 unfoldable pub entryFrom : ℕ → List Function → ℕ → ℕ
-entryFrom a [] b = a
-entryFrom a (f ∷ fs) zero = a
+entryFrom a fs zero = a
+entryFrom a [] (suc b) = a
 entryFrom a (f ∷ fs) (suc b) = entryFrom (behindFunction f a) fs b
 
 -- Their code, if the first begins at a.

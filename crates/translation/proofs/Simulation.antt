@@ -1,0 +1,620 @@
+-- The code of an expression keeps up with its evaluation.
+--
+-- From a state at the code's first instruction whose frame holds the named numbers, each on its word, and whose input carries the pending trees, the code
+-- comes to the state behind it with the value: a number on top of the frame, a tree's tokens behind the output. It has then read the tokens of the trees
+-- that the expression took, and performed the units of the expressions begun. Kind by kind, with one lemma for each; the calls in an expression are
+-- assumed to keep up.
+use Prim.Native.Nat.{ℕ, zero, suc, _+_, _*_, _≤_, _<_, max}
+use mathlib.Core.Bool.{true, false}
+use mathlib.Core.List.{List, [], _∷_, _++_, append-assoc, map}
+use mathlib.Core.Option.{Option, none, some, Option·some-injective, Option·none-ne-some}
+use mathlib.Core.Path.{_≡_, refl, sym, ap, subst, _∙_}
+use native.Mathlib.Nat.{add-zero, zero-add}
+use native.Mathlib.Omega.{arith}
+use borrow.Author.Tests.{eqb-true}
+use lib.Dec.{eqb}
+use lib.ListN.{length}
+use Rattle.formats.specs.Numbers.{bytesOf, sum32}
+use Rattle.formats.specs.Refusals.{outOfOrder, tooManyPending, inputEnded, notATag}
+use Rattle.formats.specs.Results.{Result, done, refusal, andThen, check}
+use Rattle.formats.specs.Tokens.{Tree, leaf, node, leafTag, nodeTag, tokens, labelBytes}
+use Rattle.formats.specs.Records.{nth}
+use Rattle.formats.specs.Programs.{Expr, const, var, add, ifZero, letIn, leafOf, nodeOf, caseOf, call, Args, noArgs, arg, size, countArgs}
+use Rattle.formats.specs.Programs.{Sort, numberValued, treeValued, Signature, Function, signatureOf, Program, signatures}
+use Rattle.formats.proofs.Results.{done-injective, done-not, then-inv, check-inv}
+use Rattle.rules.specs.PassOne.{mostWords, wordsOf, wordsOfArgs, valueWords}
+use Rattle.rules.specs.PassTwo.{takeHead, sameNames, joined, walk, walkArgs}
+use Rattle.rules.proofs.PassTwo.{same-names}
+use Rattle.rules.proofs.Words.{words-call, words-least, words-least-args}
+use Rattle.meaning.specs.Levels.{atLevel}
+use Rattle.meaning.specs.Instructions.{Push, Get, Add, Ifnot, Jump, Slide, Drop, LeafTag, NodeTag, WriteNumber, ReadTag, ReadNumber, Call, Return, instructionOf}
+use Rattle.meaning.specs.Performing.{Setting, Caller, State, wordsBelow, standing}
+use Rattle.meaning.specs.Evaluation.{Value, number, tree, Environment, numberNamed, treeNamed, withNumber, withTrees, inCall, picked, branch, inBranch, resultNumber}
+use Rattle.meaning.specs.Evaluation.{Takes, Const, Var, Add as Plus, IfZero, Let, Leaf, Node, Case, Call as Calls, TakesArgs, no-more, one-more, counted, unitsIn, ifZeroUnits, caseUnits}
+use Rattle.meaning.specs.OpenCalls.{Outcome, gives, next, numberOr, treeOr, resultTree, evaluate, evaluateArgs, called}
+use Rattle.meaning.proofs.Evaluation.{unitsInArgs}
+use Rattle.meaning.proofs.Levels.{level-newest, level-found, level-kept}
+use Rattle.meaning.proofs.Proper.{Proper, proper-const, proper-var, proper-add, proper-ifZero, proper-let, proper-leaf, proper-node, proper-case, proper-call, ProperArgs, proper-none, proper-arg}
+use Rattle.meaning.proofs.Sorts.{ValuesOf, valueOf, Numbers, numbersOf}
+use Rattle.translation.specs.Templates.{behind, behindArgs, Words, wordOf, code, codeArgs, endOf, entryOf}
+use Rattle.translation.proofs.Addresses.{At, Split, at-code, at-args}
+use Rattle.translation.proofs.InOrder.{head-taken, both-branches, case-in-order, Tail, all-left, one-taken, walk-tail}
+use Rattle.translation.proofs.Paths.{withSpace, Path, no-step, join}
+use Rattle.translation.proofs.Carried.{Picks, none-picked, picked as on-top, picks-kept, picks-one, picks-tail, on-its-word, Carries, carried, a-leaf, a-node, no-tag, other-tag, label-cut}
+use Rattle.translation.proofs.Performed.{Next, moved, does-push, does-get, does-jump, does-add, does-slide, does-drop, does-ifnot-zero, does-ifnot-other}
+use Rattle.translation.proofs.Performed.{does-leaf-tag, does-node-tag, does-write-number, does-read-leaf, does-read-node, does-read-number, no-tag-there, other-tag-there, label-cut-there}
+use Rattle.translation.proofs.Goes.{Sticks, sticks-here, sticks-after, InputFault, input-ended, not-a-tag, Goes, faults, goes-there, goes-stuck, goes-begins, goes-first, Then, goes-then, goes-map, goes-next}
+
+-- ---- where values go
+
+-- A number goes on top of the frame; a tree's tokens go behind the output.
+abbrev pub pushed : (s : Sort) → ValuesOf s → List ℕ → List ℕ
+pushed numberValued i frame = i ∷ frame
+pushed treeValued t frame = frame
+
+abbrev pub appended : (s : Sort) → ValuesOf s → List ℕ → List ℕ
+appended numberValued i output = output
+appended treeValued t output = output ++ tokens t
+
+-- a node's tokens are its tag and its parts' tokens
+joined-tokens : (output : List ℕ) (l r : Tree) → output ++ (nodeTag ∷ []) ++ tokens l ++ tokens r ≡ output ++ tokens (node l r)
+unfolding tokens
+joined-tokens output l r =
+    append-assoc (output ++ (nodeTag ∷ [])) (tokens l) (tokens r) ∙ append-assoc output (nodeTag ∷ []) (tokens l ++ tokens r)
+
+-- The state with a value of this sort, at this address, with so many bytes read.
+abbrev pub finished : (sort : Sort) → ValuesOf sort → (a read : ℕ) → State → State
+finished sort x a read s =
+    record { address = a; frame = pushed sort x (s .frame); callers = s .callers; read = read; output = appended sort x (s .output) }
+
+-- The state with these arguments on top of the frame.
+abbrev pub argued : State → List ℕ → (a read : ℕ) → State
+argued s numbers a read = record { address = a; frame = numbers ++ s .frame; callers = s .callers; read = read; output = s .output }
+
+-- a known function's signature is known
+known-signature : (fs : List Function) (b : ℕ) (f : Function) → nth fs b ≡ some f → nth (map signatureOf fs) b ≡ some (signatureOf f)
+unfolding nth
+known-signature [] b f e = absurd (Option·none-ne-some f e)
+known-signature (g ∷ fs) zero f e = ap (λ h. some (signatureOf h)) (Option·some-injective g f e)
+known-signature (g ∷ fs) (suc b) f e = known-signature fs b f e
+
+-- ---- one program in one setting, k calls still to be opened
+
+module _ (Faulty : Type 0) (m : Setting) (program : Program) (end : ℕ) (wide : 16 * m .mostOpen ≤ m .mostWords) (k : ℕ) where
+  abbrev gs : List Signature
+  gs = signatures program
+
+  -- The frames below have at most 16 words each, and k calls more may be opened.
+  pub record Under (callers : List Caller) : Type 0 where
+    pub few : wordsBelow callers ≤ 16 * length callers
+    pub allowed : suc (length callers) + k ≡ m .mostOpen
+
+  -- Of these named trees the ones with the names Δ are pending: the input carries them from here on, and behind them those that the callers have pending.
+  pub record Left (trees : List Tree) (Δ : List ℕ) (beyond : List Tree) (read : ℕ) : Type 0 where
+    pub pending : List Tree
+    pub named : Picks trees Δ pending
+    pub carries : Carries Faulty (m .input) end read (pending ++ beyond)
+
+  -- where no name is pending, the input carries what the callers have pending
+  pub none-left : {trees : List Tree} {beyond : List Tree} {read : ℕ} → Left trees [] beyond read → Carries Faulty (m .input) end read beyond
+  none-left {trees} {beyond} {read} left = on-names (left .pending) (left .named) (left .carries)
+    where
+      on-names : (ts : List Tree) → Picks trees [] ts → Carries Faulty (m .input) end read (ts ++ beyond) → Carries Faulty (m .input) end read beyond
+      on-names ts none-picked carries = carries
+
+  -- The state before an expression: g number names on their words, w words in the frame, n tree names, some of them pending.
+  pub record Before (g n : ℕ) (E : Environment) (words : Words) (w : ℕ) (Δ : List ℕ) (beyond : List Tree) (s : State) : Type 0 where
+    pub numbers : length (E .numbers) ≡ g
+    pub trees : length (E .trees) ≡ n
+    pub frame : length (s .frame) ≡ w
+    pub held : Picks (s .frame) words (E .numbers)
+    pub left : Left (E .trees) Δ beyond (s .read)
+    pub under : Under (s .callers)
+
+  -- What is known behind it: a derivation of its value, with its expressions begun and its units; and what is carried on.
+  pub record After (E : Environment) (sort : Sort) (e : Expr) (Δ : List ℕ) (beyond : List Tree) (n : ℕ) (x : ValuesOf sort) (units read : ℕ) : Type 0
+    where
+      pub begun : ℕ
+      pub derivation : Takes program E e (suc k) begun (valueOf sort x)
+      pub is-begun : begun ≡ n
+      pub counts : unitsIn derivation ≡ units
+      pub left : Left (E .trees) Δ beyond read
+
+  pub record AfterArgs (E : Environment) (xs : Args) (before : List ℕ) (Δ : List ℕ) (beyond : List Tree) (count n : ℕ) (numbers : Numbers count) (units read : ℕ)
+      : Type 0 where
+    pub begun : ℕ
+    pub derivation : TakesArgs program E xs (suc k) begun before (numbers .all)
+    pub is-begun : begun ≡ n
+    pub counts : unitsInArgs derivation ≡ units
+    pub left : Left (E .trees) Δ beyond read
+
+  -- Behind a call of f with these numbers on this tree: its own two instructions are counted.
+  pub record AfterCall (f : Function) (numbers : List ℕ) (t : Tree) (beyond : List Tree) (n : ℕ) (x : ValuesOf (f .sort)) (units read : ℕ) : Type 0 where
+    pub begun : ℕ
+    pub derivation : Takes program (inCall numbers t) (f .body) k begun (valueOf (f .sort) x)
+    pub is-begun : begun ≡ n
+    pub counts : 2 + unitsIn derivation ≡ units
+    pub carries : Carries Faulty (m .input) end read beyond
+
+  -- What is to be shown of an expression of a sort under so many names, of arguments, and of calls.
+  abbrev pub Sim : (g n : ℕ) (sort : Sort) (e : Expr) → Type 0
+  Sim g n sort e =
+      (E : Environment) (words : Words) (w r : ℕ) (Δ Δ′ : List ℕ) (beyond : List Tree) (s : State)
+      → Before g n E words w Δ beyond s
+      → walk n r Δ e ≡ done Δ′
+      → wordsOf gs w e ≤ mostWords
+      → At (m .holds) (s .address) (code (entryOf program) sort words w (s .address) e)
+      → (q : ℕ)
+      → Goes Faulty m s (valueOf sort) (λ x read. finished sort x (behind e (s .address)) read s) (After E sort e Δ′ beyond)
+      (evaluate (called program k) E q e)
+
+  abbrev pub SimArgs : (g n count : ℕ) (xs : Args) → Type 0
+  SimArgs g n count xs =
+      (E : Environment) (words : Words) (w r : ℕ) (Δ Δ′ : List ℕ) (beyond : List Tree) (s : State) (before : List ℕ) (a read all : ℕ)
+      → Before g n E words w Δ beyond (argued s before a read)
+      → walkArgs n r Δ xs ≡ done Δ′
+      → wordsOfArgs gs w xs ≤ mostWords
+      → At (m .holds) a (codeArgs (entryOf program) words w a xs)
+      → length before + count ≡ all
+      → (q : ℕ)
+      → Goes Faulty m (argued s before a read) (numbersOf all) (λ numbers read′. argued s (numbers .all) (behindArgs xs a) read′)
+      (AfterArgs E xs before Δ′ beyond all)
+      (evaluateArgs (called program k) E q xs before)
+
+  abbrev pub SimCalls : Type 0
+  SimCalls =
+      (b : ℕ) (f : Function) (numbers : Numbers (f .parameters)) (t : Tree) (beyond : List Tree) (s : State) (a read : ℕ)
+      → nth (program .functions) b ≡ some f
+      → m .holds a ≡ some (instructionOf (Call (entryOf program b) (f .parameters)))
+      → Carries Faulty (m .input) end read (t ∷ beyond)
+      → Under (s .callers)
+      → length (s .frame) ≤ mostWords
+      → (q : ℕ)
+      → Goes Faulty m (argued s (numbers .all) a read) (valueOf (f .sort)) (λ x read′. finished (f .sort) x (suc a) read′ s)
+      (AfterCall f (numbers .all) t beyond)
+      (called program k q b (numbers .all) t)
+
+  -- ---- states before parts
+
+  -- there is room for a word where fewer than 16 stand above the base
+  room : (s : State) → Under (s .callers) → length (s .frame) < mostWords → standing s < m .mostWords
+  unfolding standing
+  room s under few = omega (arith, under .few, under .allowed, wide)
+
+  module _ {g n : ℕ} {E : Environment} {words : Words} {w : ℕ} {Δ : List ℕ} {beyond : List Tree} {s : State} (b : Before g n E words w Δ beyond s) where
+    -- with the same frame, elsewhere
+    before-at : (a read : ℕ) (output : List ℕ) {Δ′ : List ℕ} → Left (E .trees) Δ′ beyond read
+        → Before g n E words w Δ′ beyond (record { address = a; frame = s .frame; callers = s .callers; read = read; output = output })
+    before-at a read output left = record {
+      numbers = b .numbers;
+      trees = b .trees;
+      frame = b .frame;
+      held = b .held;
+      left = left;
+      under = b .under;
+    }
+
+    -- with a number found on top of the frame, not named
+    before-temporary :
+        (i a read : ℕ) {Δ′ : List ℕ} → Left (E .trees) Δ′ beyond read
+        → Before g n E words (suc w) Δ′ beyond (finished numberValued i a read s)
+    before-temporary i a read left = record {
+      numbers = b .numbers;
+      trees = b .trees;
+      frame = ap suc (b .frame);
+      held = picks-kept i (b .held);
+      left = left;
+      under = b .under;
+    }
+
+    -- with a number on top of the frame, named by the next name
+    before-named :
+        (i a read : ℕ) {Δ′ : List ℕ} → Left (E .trees) Δ′ beyond read
+        → Before (suc g) n (withNumber i E) (w ∷ words) (suc w) Δ′ beyond (finished numberValued i a read s)
+    before-named i a read left = record {
+      numbers = ap suc (b .numbers);
+      trees = b .trees;
+      frame = ap suc (b .frame);
+      held = on-top (level-newest i w (s .frame) (sym (b .frame))) (picks-kept i (b .held));
+      left = left;
+      under = b .under;
+    }
+
+    -- with the two trees of a node named and pending
+    before-parts :
+        (l r : Tree) (a read : ℕ) {Δ′ : List ℕ} {ts : List Tree} → Picks (E .trees) Δ′ ts → Carries Faulty (m .input) end read (l ∷ (r ∷ (ts ++ beyond)))
+        → Before g (suc (suc n)) (withTrees l r E) words w (n ∷ (suc n ∷ Δ′)) beyond
+        (record { address = a; frame = s .frame; callers = s .callers; read = read; output = s .output })
+    before-parts l r a read {ts = ts} named carries =
+        let first = level-newest l n (E .trees) (sym (b .trees)) in
+        let second = level-newest r (suc n) (l ∷ E .trees) (ap suc (sym (b .trees))) in
+        record {
+          numbers = b .numbers;
+          trees = ap (λ k. suc (suc k)) (b .trees);
+          frame = b .frame;
+          held = b .held;
+          left = record {
+            pending = l ∷ (r ∷ ts);
+            named = on-top (level-kept r (l ∷ E .trees) n first) (on-top second (picks-kept r (picks-kept l named)));
+            carries = carries;
+          };
+          under = b .under;
+        }
+
+  -- ---- kind by kind
+
+  -- a constant is pushed
+  sim-const : {g n : ℕ} (i : ℕ) → Sim g n numberValued (const i)
+  unfolding code behind walk wordsOf evaluate counted
+  sim-const i E words w r Δ Δ′ beyond s b walked few laid q =
+      goes-begins Faulty m
+      (goes-there Faulty m i 1 (s .read) (does-push m s i (laid .0) (room s (b .under) (omega (arith, b .frame)))) (record {
+        begun = 1;
+        derivation = Const;
+        is-begun = refl;
+        counts = refl;
+        left = rw (done-injective walked) at (b .left);
+      }))
+
+  -- a name's number is got from its word
+  sim-var : {g n : ℕ} (a : ℕ) → a < g → Sim g n numberValued (var a)
+  unfolding code behind walk wordsOf evaluate numberOr counted
+  sim-var a bound E words w r Δ Δ′ beyond s b walked few laid q =
+      let found = level-found (E .numbers) a (omega (arith, b .numbers)) in
+      let on-word = on-its-word a (found .entry) (b .held) (found .is) in
+      rw (found .is)
+      (goes-begins Faulty m
+      (goes-there Faulty m (found .entry) 1 (s .read)
+      (does-get m s (wordOf words a) (found .entry) (laid .0) on-word (room s (b .under) (omega (arith, b .frame))))
+      (record {
+        begun = 1;
+        derivation = Var (found .is);
+        is-begun = refl;
+        counts = refl;
+        left = rw (done-injective walked) at (b .left);
+      })))
+
+  -- two numbers, the first one a temporary below the second
+  sim-add : {g n : ℕ} (p q : Expr) → Sim g n numberValued p → Sim g n numberValued q → Sim g n numberValued (add p q)
+  unfolding code behind walk wordsOf evaluate resultNumber counted
+  sim-add p q sim-p sim-q E words w r Δ Δ′ beyond s b walked few laid at-record =
+      let laid-p = at-code (m .holds) (entryOf program) numberValued words w (s .address) p _ laid in
+      let laid-q = at-code (m .holds) (entryOf program) numberValued words (suc w) (behind p (s .address)) q _ (laid-p .then) in
+      let parts = then-inv (walk _ (suc r) Δ p) _ Δ′ walked in
+      goes-begins Faulty m
+      (goes-next Faulty m _ (sim-p E words w _ Δ (parts .value) beyond s b (parts .first) (omega arith) (laid-p .first) _) λ n₁ i u₁ read₁ after₁.
+      goes-next Faulty m _
+      (sim-q E words (suc w) _ (parts .value) Δ′ beyond _ (before-temporary b i _ read₁ (after₁ .left)) (parts .second) (omega arith)
+      (laid-q .first) _)
+      λ n₂ j u₂ read₂ after₂.
+      goes-there Faulty m (sum32 i j) 1 read₂ (does-add m _ i j (s .frame) (laid-q .then .0) refl) (record {
+        begun = suc (after₁ .begun + after₂ .begun);
+        derivation = Plus (after₁ .derivation) (after₂ .derivation);
+        is-begun = omega (arith, after₁ .is-begun, after₂ .is-begun);
+        counts = omega (arith, after₁ .counts, after₂ .counts);
+        left = after₂ .left;
+      }))
+
+  -- the test's word is popped; behind the zero part the other one is jumped over
+  sim-ifZero : {g n : ℕ} {sort : Sort} (t z o : Expr) → Sim g n numberValued t → Sim g n sort z → Sim g n sort o → Sim g n sort (ifZero t z o)
+  unfolding code behind walk wordsOf evaluate resultNumber picked counted ifZeroUnits
+  sim-ifZero {sort = sort} t z o sim-t sim-z sim-o E words w r Δ Δ′ beyond s b walked few laid at-record =
+      let entries = entryOf program in
+      let atZ = suc (behind t (s .address)) in
+      let L = suc (behind z atZ) in
+      let M = behind o L in
+      let laid-t = at-code (m .holds) entries numberValued words w (s .address) t _ laid in
+      let laid-z = at-code (m .holds) entries sort words w atZ z _ (laid-t .then .1) in
+      let parts = then-inv (walk _ (suc r) Δ t) _ Δ′ walked in
+      let both = both-branches r (walk _ (suc r + size t) (parts .value) z) (walk _ (suc r + size t + size z) (parts .value) o) Δ′ (parts .second) in
+      let picks :
+      (i n₁ u₁ read₁ : ℕ) (after₁ : After E numberValued t (parts .value) beyond n₁ i u₁ read₁)
+      → Goes Faulty m (finished numberValued i (behind t (s .address)) read₁ s) (valueOf sort) (λ x read. finished sort x M read s)
+      (λ n₂ x u₂. After E sort (ifZero t z o) Δ′ beyond (suc (n₁ + n₂)) x (u₁ + u₂))
+      (elim i [
+        | zero ↦ evaluate (called program k) E (suc at-record + size t) z
+        | suc j ↦ evaluate (called program k) E (suc at-record + size t + size z) o
+      ]) = elim [
+        | zero ↦ λ n₁ u₁ read₁ after₁.
+            goes-first Faulty m (does-ifnot-zero m _ L (s .frame) (laid-t .then .0) refl)
+            (goes-then Faulty m
+            (sim-z E words w _ (parts .value) Δ′ beyond _ (before-at b atZ read₁ (s .output) (after₁ .left)) (both .0) (omega arith) (laid-z .first) _)
+            λ n₂ x u₂ read₂ after₂. record {
+              more = 1;
+              read = read₂;
+              path = does-jump m _ M (laid-z .then .0);
+              post = record {
+                begun = suc (after₁ .begun + after₂ .begun);
+                derivation = IfZero (after₁ .derivation) (after₂ .derivation);
+                is-begun = omega (arith, after₁ .is-begun, after₂ .is-begun);
+                counts = omega (arith, after₁ .counts, after₂ .counts);
+                left = after₂ .left;
+              };
+            })
+        | suc j ↦ λ n₁ u₁ read₁ after₁.
+            goes-first Faulty m (does-ifnot-other m _ L j (s .frame) (laid-t .then .0) refl)
+            (goes-map Faulty m
+            (sim-o E words w _ (parts .value) Δ′ beyond _ (before-at b L read₁ (s .output) (after₁ .left)) (both .1) (omega arith) (laid-z .then .1) _)
+            λ n₂ x u₂ read₂ after₂. record {
+              begun = suc (after₁ .begun + after₂ .begun);
+              derivation = IfZero (after₁ .derivation) (after₂ .derivation);
+              is-begun = omega (arith, after₁ .is-begun, after₂ .is-begun);
+              counts = omega (arith, after₁ .counts, after₂ .counts);
+              left = after₂ .left;
+            })
+      ] in
+      goes-begins Faulty m
+      (goes-next Faulty m _ (sim-t E words w _ Δ (parts .value) beyond s b (parts .first) (omega arith) (laid-t .first) _) λ n₁ i u₁ read₁ after₁.
+      picks i n₁ u₁ read₁ after₁)
+
+  -- behind a part under one more name, the word of that name goes
+  does-end : (sort : Sort) (x : ValuesOf sort) (i a b read read′ : ℕ) (s : State) → m .holds a ≡ some (instructionOf (endOf sort))
+      → Path m (finished sort x a read (finished numberValued i b read′ s)) (finished sort x (suc a) read s) 1
+  unfolding endOf
+  does-end numberValued x i a b read read′ s h = does-slide m _ i x (s .frame) h refl
+  does-end treeValued x i a b read read′ s h = does-drop m _ i (s .frame) h refl
+
+  -- the number is named by its word
+  sim-let : {g n : ℕ} {sort : Sort} (p body : Expr) → Sim g n numberValued p → Sim (suc g) n sort body → Sim g n sort (letIn p body)
+  unfolding code behind walk wordsOf evaluate resultNumber counted
+  sim-let {sort = sort} p body sim-p sim-body E words w r Δ Δ′ beyond s b walked few laid at-record =
+      let entries = entryOf program in
+      let laid-p = at-code (m .holds) entries numberValued words w (s .address) p _ laid in
+      let laid-body = at-code (m .holds) entries sort (w ∷ words) (suc w) (behind p (s .address)) body _ (laid-p .then) in
+      let parts = then-inv (walk _ (suc r) Δ p) _ Δ′ walked in
+      goes-begins Faulty m
+      (goes-next Faulty m _ (sim-p E words w _ Δ (parts .value) beyond s b (parts .first) (omega arith) (laid-p .first) _) λ n₁ i u₁ read₁ after₁.
+      goes-then Faulty m
+      (sim-body (withNumber i E) (w ∷ words) (suc w) _ (parts .value) Δ′ beyond _ (before-named b i _ read₁ (after₁ .left)) (parts .second) (omega arith)
+      (laid-body .first) _)
+      λ n₂ x u₂ read₂ after₂. record {
+        more = 1;
+        read = read₂;
+        path = does-end sort x i _ (behind p (s .address)) read₂ read₁ s (laid-body .then .0);
+        post = record {
+          begun = suc (after₁ .begun + after₂ .begun);
+          derivation = Let (after₁ .derivation) (after₂ .derivation);
+          is-begun = omega (arith, after₁ .is-begun, after₂ .is-begun);
+          counts = omega (arith, after₁ .counts, after₂ .counts);
+          left = after₂ .left;
+        };
+      })
+
+  -- the tag, then the label
+  sim-leaf : {g n : ℕ} (p : Expr) → Sim g n numberValued p → Sim g n treeValued (leafOf p)
+  unfolding code behind walk wordsOf evaluate resultNumber counted tokens
+  sim-leaf p sim-p E words w r Δ Δ′ beyond s b walked few laid at-record =
+      let laid-p = at-code (m .holds) (entryOf program) numberValued words w (suc (s .address)) p _ (laid .1) in
+      goes-begins Faulty m
+      (goes-first Faulty m (does-leaf-tag m s (laid .0))
+      (goes-next Faulty m _
+      (sim-p E words w _ Δ Δ′ beyond _ (before-at b _ (s .read) (s .output ++ (leafTag ∷ [])) (b .left)) walked few (laid-p .first) _)
+      λ n₁ i u₁ read₁ after₁.
+      goes-there Faulty m (leaf i) 1 read₁
+      (rw (← append-assoc (s .output) (leafTag ∷ []) (bytesOf labelBytes i)) (does-write-number m _ i (s .frame) (laid-p .then .0) refl))
+      (record {
+        begun = suc (after₁ .begun);
+        derivation = Leaf (after₁ .derivation);
+        is-begun = omega (arith, after₁ .is-begun);
+        counts = omega (arith, after₁ .counts);
+        left = after₁ .left;
+      })))
+
+  -- the tag, then the two parts in order
+  sim-node : {g n : ℕ} (p q : Expr) → Sim g n treeValued p → Sim g n treeValued q → Sim g n treeValued (nodeOf p q)
+  unfolding code behind walk wordsOf evaluate resultTree counted tokens
+  sim-node p q sim-p sim-q E words w r Δ Δ′ beyond s b walked few laid at-record =
+      let entries = entryOf program in
+      let laid-p = at-code (m .holds) entries treeValued words w (suc (s .address)) p _ (laid .1) in
+      let parts = then-inv (walk _ (suc r) Δ p) _ Δ′ walked in
+      let tag = s .output ++ (nodeTag ∷ []) in
+      goes-begins Faulty m
+      (goes-first Faulty m (does-node-tag m s (laid .0))
+      (goes-next Faulty m _
+      (sim-p E words w _ Δ (parts .value) beyond _ (before-at b _ (s .read) tag (b .left)) (parts .first) (omega arith) (laid-p .first) _)
+      λ n₁ x u₁ read₁ after₁.
+      goes-next Faulty m _
+      (sim-q E words w _ (parts .value) Δ′ beyond _ (before-at b _ read₁ (tag ++ tokens x) (after₁ .left)) (parts .second) (omega arith) (laid-p .then) _)
+      λ n₂ y u₂ read₂ after₂.
+      goes-there Faulty m (node x y) 0 read₂ (rw (← joined-tokens (s .output) x y) (no-step _)) (record {
+        begun = suc (after₁ .begun + after₂ .begun);
+        derivation = Node (after₁ .derivation) (after₂ .derivation);
+        is-begun = omega (arith, after₁ .is-begun, after₂ .is-begun);
+        counts = omega (arith, after₁ .counts, after₂ .counts);
+        left = after₂ .left;
+      })))
+
+  -- names that were pending before a node's parts were named are so without them
+  older-left :
+      {trees : List Tree} {Δ : List ℕ} {beyond : List Tree} {read : ℕ} (l u : Tree) {ts : List Tree}
+      → Picks trees Δ ts
+      → Left (u ∷ (l ∷ trees)) Δ beyond read
+      → Left trees Δ beyond read
+  older-left l u {ts = ts} named left =
+      let same = picks-one (left .named) (picks-kept u (picks-kept l named)) in
+      record { pending = ts; named = named; carries = rw same at (left .carries) }
+
+  -- by the tag of the tree that the input carries first: a label is named by its word; a node's parts are named and pending
+  sim-case : {g n : ℕ} {sort : Sort} (a : ℕ) (p q : Expr) → Sim (suc g) n sort p → Sim g (suc (suc n)) sort q → Sim g n sort (caseOf a p q)
+  unfolding code behind wordsOf evaluate treeOr branch inBranch counted caseUnits
+  sim-case {g} {n} {sort} a p q sim-p sim-q E words w r Δ Δ′ beyond s b walked few laid at-record =
+      let c = case-in-order n r a Δ Δ′ p q walked in
+      let left : Left (E .trees) (a ∷ c .rest) beyond (s .read) = rw (c .at-head) at (b .left) in
+      on-head (c .rest) (c .leaf-part) (c .node-part) (left .pending) (left .named) (left .carries)
+    where
+      entries : ℕ → ℕ
+      entries = entryOf program
+
+      atP : ℕ
+      atP = suc (suc (s .address))
+
+      L : ℕ
+      L = suc (suc (behind p atP))
+
+      M : ℕ
+      M = behind q L
+
+      laid-p : Split (m .holds) atP (behind p atP) (code entries sort (w ∷ words) (suc w) atP p) (endOf sort ∷ (Jump M ∷ code entries sort words w L q))
+      laid-p = at-code (m .holds) entries sort (w ∷ words) (suc w) atP p _ (laid .1 .1)
+
+      leaf-read : State
+      leaf-read = record { address = suc (s .address); frame = s .frame; callers = s .callers; read = s .read + 1; output = s .output }
+
+      roomy : standing leaf-read < m .mostWords
+      roomy = room leaf-read (b .under) (omega (arith, b .frame, words-least gs (suc w) p))
+
+      on-head :
+          (rest : List ℕ)
+          → walk n (suc r) rest p ≡ done Δ′
+          → walk (suc (suc n)) (suc r + size p) (n ∷ (suc n ∷ rest)) q ≡ done Δ′
+          → (pending : List Tree)
+          → Picks (E .trees) (a ∷ rest) pending
+          → Carries Faulty (m .input) end (s .read) (pending ++ beyond)
+          → Goes Faulty m s (valueOf sort) (λ x read. finished sort x M read s) (After E sort (caseOf a p q) Δ′ beyond)
+          (evaluate (called program k) E at-record (caseOf a p q))
+      on-head rest in-leaf in-node pending (on-top {ys = ts} found named) (a-leaf {x = i} tag there is carries) =
+          rw found
+          (goes-begins Faulty m
+          (goes-first Faulty m (does-read-leaf m s L (laid .0) tag)
+          (goes-first Faulty m (does-read-number m leaf-read i (laid .1 .0) roomy there is)
+          (goes-then Faulty m
+          (sim-p (withNumber i E) (w ∷ words) (suc w) _ rest Δ′ beyond _
+          (before-named b i atP _ (record { pending = ts; named = named; carries = carries })) in-leaf (omega arith) (laid-p .first) _)
+          λ n₁ x u₁ read₁ after₁. record {
+            more = 2;
+            read = read₁;
+            path = join (does-end sort x i (behind p atP) atP read₁ (s .read + 1 + labelBytes) s (laid-p .then .0)) (does-jump m _ M (laid-p .then .1 .0));
+            post = record {
+              begun = suc (after₁ .begun);
+              derivation = Case found (after₁ .derivation);
+              is-begun = omega (arith, after₁ .is-begun);
+              counts = omega (arith, after₁ .counts);
+              left = after₁ .left;
+            };
+          }))))
+      on-head rest in-leaf in-node pending (on-top found named) (a-node {l = l} {r = u} tag carries) =
+          let older = picks-tail (walk-tail n _ rest Δ′ p in-leaf) named in
+          rw found
+          (goes-begins Faulty m
+          (goes-first Faulty m (does-read-node m s L (laid .0) tag)
+          (goes-map Faulty m
+          (sim-q (withTrees l u E) words w _ (n ∷ (suc n ∷ rest)) Δ′ beyond _ (before-parts b l u L _ named carries) in-node (omega arith)
+          (laid-p .then .1 .1) _)
+          λ n₁ x u₁ read₁ after₁. record {
+            begun = suc (after₁ .begun);
+            derivation = Case found (after₁ .derivation);
+            is-begun = omega (arith, after₁ .is-begun);
+            counts = omega (arith, after₁ .counts);
+            left = older-left l u (older .picks) (after₁ .left);
+          })))
+      on-head rest in-leaf in-node pending (on-top found named) (no-tag faulty tag) =
+          faults inputEnded faulty input-ended (sticks-here s (λ space. no-tag-there m s L space (laid .0) tag))
+      on-head rest in-leaf in-node pending (on-top found named) (other-tag faulty tag) =
+          faults notATag faulty not-a-tag (sticks-here s (λ space. other-tag-there m s L space (laid .0) tag))
+      on-head rest in-leaf in-node pending (on-top found named) (label-cut faulty tag short) =
+          faults inputEnded faulty input-ended
+          (sticks-after (does-read-leaf m s L (laid .0) tag) (sticks-here leaf-read (λ space. label-cut-there m leaf-read space (laid .1 .0) roomy short)))
+
+  -- no more arguments
+  sim-none : {g n : ℕ} → SimArgs g n 0 noArgs
+  unfolding behindArgs walkArgs evaluateArgs
+  sim-none E words w r Δ Δ′ beyond s before a read all b walked few laid many q =
+      goes-there Faulty m (record { all = before; many = omega arith }) 0 read (no-step _) (record {
+        begun = 0;
+        derivation = no-more;
+        is-begun = refl;
+        counts = refl;
+        left = rw (done-injective walked) at (b .left);
+      })
+
+  -- each argument's number stays on top of those before it
+  sim-arg : {g n : ℕ} (count : ℕ) (x : Expr) (xs : Args) → Sim g n numberValued x → SimArgs g n count xs → SimArgs g n (suc count) (arg x xs)
+  unfolding codeArgs behindArgs walkArgs wordsOfArgs evaluateArgs resultNumber counted
+  sim-arg count x xs sim-x sim-xs E words w r Δ Δ′ beyond s before a read all b walked few laid many q =
+      let laid-x = at-code (m .holds) (entryOf program) numberValued words w a x _ laid in
+      let parts = then-inv (walk _ r Δ x) _ Δ′ walked in
+      goes-next Faulty m _ (sim-x E words w _ Δ (parts .value) beyond (argued s before a read) b (parts .first) (omega arith) (laid-x .first) _)
+      λ n₁ i u₁ read₁ after₁.
+      goes-map Faulty m
+      (sim-xs E words (suc w) _ (parts .value) Δ′ beyond s (i ∷ before) (behind x a) read₁ all (before-temporary b i (behind x a) read₁ (after₁ .left))
+      (parts .second) (omega arith) (laid-x .then) (omega arith) _)
+      λ n₂ numbers u₂ read₂ after₂. record {
+        begun = after₁ .begun + after₂ .begun;
+        derivation = one-more (after₁ .derivation) (after₂ .derivation);
+        is-begun = omega (arith, after₁ .is-begun, after₂ .is-begun);
+        counts = omega (arith, after₁ .counts, after₂ .counts);
+        left = after₂ .left;
+      }
+
+  -- the arguments, then the call, which takes the tree at the head
+  sim-call :
+      {g n : ℕ} (a b : ℕ) (f : Function) (xs : Args)
+      → SimCalls
+      → nth (program .functions) b ≡ some f
+      → countArgs xs ≡ f .parameters
+      → SimArgs g n (f .parameters) xs
+      → Sim g n (f .sort) (call a b xs)
+  unfolding code behind walk evaluate treeOr counted valueWords
+  sim-call {n = n} a b f xs calls known many sim-xs E words w r Δ Δ′ beyond s before walked few laid at-record =
+      let parts = then-inv (walkArgs n (suc r) Δ xs) _ Δ′ walked in
+      let head = head-taken a r (parts .value) Δ′ (parts .second) in
+      goes-begins Faulty m
+      (goes-next Faulty m _
+      (sim-xs E words w _ Δ (a ∷ Δ′) beyond s [] (s .address) (s .read) (f .parameters) before (rw head at (parts .first)) (few-all .1) (laid-xs .first)
+      (zero-add (f .parameters)) _)
+      λ n₁ numbers u₁ read₁ after₁. on-tree n₁ numbers u₁ read₁ after₁ (after₁ .left .pending) (after₁ .left .named) (after₁ .left .carries))
+    where
+      there : ℕ
+      there = behindArgs xs (s .address)
+
+      laid-xs : Split (m .holds) (s .address) there (codeArgs (entryOf program) words w (s .address) xs) (Call (entryOf program b) (countArgs xs) ∷ [])
+      laid-xs = at-args (m .holds) (entryOf program) words w (s .address) xs _ laid
+
+      few-all : (w ≤ mostWords) × (wordsOfArgs gs w xs ≤ mostWords)
+      few-all =
+          let both = rw (words-call gs w a b xs (signatureOf f) (known-signature (program .functions) b f known)) at few in
+          (omega (arith, words-least-args gs w xs), omega arith)
+
+      on-tree :
+          (n₁ : ℕ) (numbers : Numbers (f .parameters)) (u₁ read₁ : ℕ)
+          → (after₁ : AfterArgs E xs [] (a ∷ Δ′) beyond (f .parameters) n₁ numbers u₁ read₁)
+          → (pending : List Tree)
+          → Picks (E .trees) (a ∷ Δ′) pending
+          → Carries Faulty (m .input) end read₁ (pending ++ beyond)
+          → Goes Faulty m (argued s (numbers .all) there read₁) (valueOf (f .sort)) (λ x read. finished (f .sort) x (suc there) read s)
+          (λ n₂ x u₂. After E (f .sort) (call a b xs) Δ′ beyond (suc (n₁ + n₂)) x (u₁ + u₂))
+          (called program k at-record b (numbers .all) (treeOr (treeNamed E a)))
+      on-tree n₁ numbers u₁ read₁ after₁ pending (on-top {y = t} {ys = ts} found named) carries =
+          rw found
+          (goes-map Faulty m
+          (calls b f numbers t (ts ++ beyond) s there read₁ known (rw many at (laid-xs .then .0)) carries (before .under)
+          (rw (sym (before .frame)) at (few-all .0)) at-record)
+          λ n₂ x u₂ read₂ after₂. record {
+            begun = suc (after₁ .begun + after₂ .begun);
+            derivation = Calls (after₁ .derivation) found known (after₂ .derivation);
+            is-begun = omega (arith, after₁ .is-begun, after₂ .is-begun);
+            counts = omega (arith, after₁ .counts, after₂ .counts);
+            left = record { pending = ts; named = named; carries = after₂ .carries };
+          })
+
+  -- as many arguments as the function has number parameters
+  count-proper : {g n count : ℕ} {xs : Args} → ProperArgs (program .functions) g n count xs → countArgs xs ≡ count
+  unfolding countArgs
+  count-proper proper-none = refl
+  count-proper (proper-arg x xs) = ap suc (count-proper xs)
+
+  -- every expression that pass one takes keeps up, if the calls in it do
+  pub sim : SimCalls → {g n : ℕ} {sort : Sort} {e : Expr} → Proper (program .functions) g n sort e → Sim g n sort e
+  sim calls d = elim d as (λ g n sort e d. Sim g n sort e) (λ g n count xs d. SimArgs g n count xs) [
+    | proper-const {i = i} small ↦ sim-const i
+    | proper-var {a = a} bound ↦ sim-var a bound
+    | proper-add {p = p} {q = q} (d₁ → sim-p) (d₂ → sim-q) ↦ sim-add p q sim-p sim-q
+    | proper-ifZero {t = t} {z = z} {o = o} (d₀ → sim-t) (d₁ → sim-z) (d₂ → sim-o) ↦ sim-ifZero t z o sim-t sim-z sim-o
+    | proper-let {p = p} {body = body} (d₁ → sim-p) (d₂ → sim-body) ↦ sim-let p body sim-p sim-body
+    | proper-leaf {p = p} (d → sim-p) ↦ sim-leaf p sim-p
+    | proper-node {p = p} {q = q} (d₁ → sim-p) (d₂ → sim-q) ↦ sim-node p q sim-p sim-q
+    | proper-case {a = a} {p = p} {q = q} bound (d₁ → sim-p) (d₂ → sim-q) ↦ sim-case a p q sim-p sim-q
+    | proper-call {a = a} {b = b} {xs = xs} {f = f} bound known same (ds → sim-xs) ↦ rw same (sim-call a b f xs calls known (count-proper ds) sim-xs)
+    | proper-none ↦ sim-none
+    | proper-arg {k = count} {x = x} {xs = xs} (d → sim-x) (ds → sim-xs) ↦ sim-arg count x xs sim-x sim-xs
+  ]

@@ -87,7 +87,7 @@ module _ (runs : (m : Setting) (s : State) → Runs m s) (code output : List ℕ
   refuses-ran input fuel why place e = refuses-so (ran input fuel .stop) why place (ran input fuel .last .read) e
 
   -- what it has written is what the run has
-  written-ran : (input : List ℕ) (fuel : ℕ) → writtenBy (ranTo output (ran input fuel)) ≡ ran input fuel .last .output
+  pub written-ran : (input : List ℕ) (fuel : ℕ) → writtenBy (ranTo output (ran input fuel)) ≡ ran input fuel .last .output
   written-ran input fuel = first-written output (ran input fuel .last .output) (within input fuel .written)
 
   -- it stays the same with more fuel, if it is refused for another reason or not at all

@@ -13,7 +13,10 @@ pub mod Wider
 pub mod Meets
 pub mod Courses
 pub mod Carried
+pub mod AnyInput
 pub mod Performed
 pub mod Goes
 pub mod Simulation
 pub mod Evaluated
+pub mod WholeRuns
+pub mod Demand3

@@ -9,6 +9,7 @@ use native.Mathlib.Omega.{arith}
 use borrow.Author.Tests.{lt-ltb, le-ltb, le-leb, lt-leb, eq-eqb, ne-eqb}
 use lib.Dec.{eqb, leb, ltb}
 use lib.ListN.{length, take, drop, length-append}
+use lib.Seq.{take-append-seam, drop-append-seam}
 use Rattle.formats.specs.Numbers.{bytesOf, numberAt, sum32}
 use Rattle.formats.specs.Refusals.{inputEnded, notATag, tooManyCalls}
 use Rattle.formats.specs.Tokens.{Tree, tokens, leafTag, nodeTag, labelBytes, Tag, ended, aLeaf, aNode, other, tagAt}
@@ -165,15 +166,6 @@ module _ (m : Setting) (s : State) where
       let waits : Caller = record { back = suc (s .address); words = rest } in
       record { address = entry; frame = arguments; callers = waits ∷ s .callers; read = s .read; output = s .output }
 
-  -- arguments on top of a frame are its first words, and the others are behind them
-  front : (xs ys : List ℕ) → take (length xs) (xs ++ ys) ≡ xs
-  front [] ys = refl
-  front (x ∷ xs) ys = ap (λ (l : List ℕ). x ∷ l) (front xs ys)
-
-  back : (xs ys : List ℕ) → drop (length xs) (xs ++ ys) ≡ ys
-  back [] ys = refl
-  back (x ∷ xs) ys = back xs ys
-
   -- there are as many words as arguments
   called : (entry space : ℕ) (arguments rest : List ℕ) → Next m s (Call entry (length arguments)) → s .frame ≡ arguments ++ rest
       → step (withSpace space m) s ≡ call (withSpace space m) entry (length arguments) s
@@ -188,7 +180,7 @@ module _ (m : Setting) (s : State) where
   unfolding call
   does-call entry arguments rest h e few =
       one-step s _ (le-refl _)
-      (λ space fits. called entry space arguments rest h e ∙ simp (call, lt-ltb _ _ few, e, front arguments rest, back arguments rest))
+      (λ space fits. called entry space arguments rest h e ∙ simp (call, lt-ltb _ _ few, e, take-append-seam arguments rest, drop-append-seam arguments rest))
 
   pub one-call-more : (entry space : ℕ) (arguments rest : List ℕ) → Next m s (Call entry (length arguments)) → s .frame ≡ arguments ++ rest
       → m .mostOpen ≤ opened s

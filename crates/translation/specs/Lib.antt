@@ -1,4 +1,5 @@
 -- The stream code of a program, and what its runs give.
 pub mod Templates
 pub mod Demand3
+pub mod EveryRun
 pub mod CodeLimits

@@ -1,0 +1,105 @@
+-- What else holds of every run of a checked program's code, beside demand 3: the statements. They are proved in proofs/EveryRun.antt.
+use Prim.Native.Nat.{ℕ, suc, _≤_, _<_}
+use mathlib.Core.List.{List, _++_}
+use mathlib.Core.Logic.{_≢_}
+use mathlib.Core.Option.{some}
+use mathlib.Core.Path.{_≡_}
+use lib.ListN.{length}
+use Rattle.formats.specs.Numbers.{Bytes}
+use Rattle.formats.specs.Places.{Opens}
+use Rattle.formats.specs.Records.{nth}
+use Rattle.formats.specs.Refusals.{fuelUsedUp, tooManyCalls, cannotPerform}
+use Rattle.formats.specs.Results.{done, refusal}
+use Rattle.formats.specs.Tokens.{Tree, Labelled, tokens}
+use Rattle.formats.specs.Programs.{treeValued, Function, Program}
+use Rattle.meaning.specs.Running.{Ran, valueWords, returnWords, mostCalls, streamRun}
+use Rattle.meaning.specs.StreamRun.{writtenBy}
+use Rattle.meaning.specs.Evaluation.{Value, Ends, resultBytes, unitsIn}
+use Rattle.translation.specs.Templates.{codeOf}
+use Rattle.translation.specs.Demand3.{Checked, readBy, Whole}
+
+-- A run that is refused for this reason, at the bytes read, after so many units.
+pub record RefusedAfter (units why : ℕ) (ran : Ran) : Type 0 where
+  pub outcome : ran .answer .outcome ≡ refusal why (ran .answer .bytesRead)
+  pub counted : ran .answer .units ≡ units
+
+-- A whole run of so many units.
+pub record WholeAfter (units : ℕ) (t : Tree) (v : Value) (output : List ℕ) (ran : Ran) : Type 0 where
+  pub whole : Whole t v output ran
+  pub counted : ran .answer .units ≡ units
+
+-- The units of an evaluation: the table's column "units", summed over the expressions begun. 01: "function 0's own return adds 1 unit".
+abbrev pub unitsOf : {program : Program} {t : Tree} {o n : ℕ} {v : Value} → Ends program t o n v → ℕ
+unitsOf ends = suc (unitsIn (ends .takes))
+
+-- Enough fuel, and enough space, to come to a call too many.
+pub record Refused18 (t : Tree) (run : (input output : List ℕ) (fuel : ℕ) → Ran) : Type 0 where
+  pub units : ℕ
+  pub space : ℕ
+  pub enough :
+      (rest output : List ℕ) (fuel : ℕ)
+      → units < fuel
+      → space ≤ length output
+      → RefusedAfter units tooManyCalls (run (tokens t ++ rest) output fuel)
+
+-- An ended run was one on a tree, whose evaluation ends, and gave what that means.
+pub record Meant (program : Program) (input output : List ℕ) (ran : Ran) : Type 0 where
+  pub on-tree : Tree
+  pub labelled : Labelled on-tree
+  pub opens : Opens (tokens on-tree) input
+  pub expressions : ℕ
+  pub value : Value
+  pub ends : Ends program on-tree mostCalls expressions value
+  pub whole : Whole on-tree value output ran
+
+-- The bytes read are the tokens of one tree, and the bytes written are the tokens of one tree.
+pub record OneForOne (input : List ℕ) (ran : Ran) : Type 0 where
+  pub tree-read : Tree
+  pub read-labelled : Labelled tree-read
+  pub read-is : readBy ran input ≡ tokens tree-read
+  pub tree-written : Tree
+  pub written-labelled : Labelled tree-written
+  pub written-is : writtenBy ran ≡ tokens tree-written
+
+pub record EveryRun (program : Program) (run : (input output : List ℕ) (fuel : ℕ) → Ran) : Type 0 where
+  -- With space for the result, the units of the evaluation are spent, with every fuel from there up ..
+  pub exact-units :
+      (t : Tree) (n : ℕ) (v : Value) (ends : Ends program t mostCalls n v) (rest output : List ℕ) (fuel : ℕ)
+      → Labelled t
+      → length (resultBytes v) ≤ length output
+      → unitsOf ends ≤ fuel
+      → WholeAfter (unitsOf ends) t v output (run (tokens t ++ rest) output fuel)
+  -- .. and every smaller fuel is used up.
+  pub fewer-units :
+      (t : Tree) (n : ℕ) (v : Value) (ends : Ends program t mostCalls n v) (rest output : List ℕ) (fuel : ℕ)
+      → Labelled t
+      → length (resultBytes v) ≤ length output
+      → fuel < unitsOf ends
+      → RefusedAfter fuel fuelUsedUp (run (tokens t ++ rest) output fuel)
+  -- Where more than 1,024 calls would open, enough fuel and space give 18.
+  pub too-many-calls : (t : Tree) → Labelled t → ((n : ℕ) (v : Value) → Ends program t mostCalls n v → ⊥) → Refused18 t run
+  -- 01: "19 never follows translated code." On any input, trees or not.
+  pub never-19 : (input output : List ℕ) (fuel place : ℕ) → Bytes input → run input output fuel .answer .outcome ≢ refusal cannotPerform place
+  -- A run ends on nothing else than a tree, and then it gives what the program means.
+  pub ended-is-meant :
+      (input output : List ℕ) (fuel : ℕ)
+      → Bytes input
+      → run input output fuel .answer .outcome ≡ done tt
+      → Meant program input output (run input output fuel)
+  -- So, where function 0 gives a tree: one whole tree read for one whole tree written.
+  pub one-for-one :
+      (first : Function) (input output : List ℕ) (fuel : ℕ)
+      → nth (program .functions) 0 ≡ some first
+      → first .sort ≡ treeValued
+      → Bytes input
+      → run input output fuel .answer .outcome ≡ done tt
+      → OneForOne input (run input output fuel)
+
+-- For every checked program; the code with anything behind it in its buffer, and work space lent.
+abbrev pub EveryRunHolds : Type 0
+EveryRunHolds =
+    (program : Program) (after-code : List ℕ) (values returns : ℕ)
+    → Checked program
+    → valueWords ≤ values
+    → returnWords ≤ returns
+    → EveryRun program (λ input output fuel. streamRun (codeOf program ++ after-code) input output fuel values returns)

@@ -28,7 +28,7 @@ two-leaves : List ℕ
 two-leaves = 2 ∷ 1 ∷ 5 ∷ 0 ∷ 0 ∷ 0 ∷ 1 ∷ 7 ∷ 0 ∷ 0 ∷ 0 ∷ []
 
 -- An output of so many bytes, all 255.
-blank : ℕ → List ℕ
+unfoldable pub blank : ℕ → List ℕ
 blank zero = []
 blank (suc n) = 255 ∷ blank n
 
@@ -44,14 +44,14 @@ ranOn : Row → Ran
 ranOn r = streamRun (r .code) (r .input) (blank (r .space)) (r .fuel) valueWords returnWords
 
 -- It ends with these units, bytes read and number, having written `out`; it is refused.
-ended-with : (units read number : ℕ) (out rest : List ℕ) → Ran
+unfoldable pub ended-with : (units read number : ℕ) (out rest : List ℕ) → Ran
 ended-with units read number out rest =
     record {
       answer = record { outcome = done tt; units = units; bytesRead = read; bytesWritten = length out; number = number };
       output = out ++ rest;
     }
 
-refused-with : (why units read : ℕ) (out rest : List ℕ) → Ran
+unfoldable pub refused-with : (why units read : ℕ) (out rest : List ℕ) → Ran
 refused-with why units read out rest =
     record {
       answer = record { outcome = refusal why read; units = units; bytesRead = read; bytesWritten = length out; number = 0 };

@@ -21,7 +21,7 @@ with-two : Expr → Expr → Program
 with-two body helper = programOf (numbered body ∷ record { sort = numberValued; parameters = 2; body = helper } ∷ [])
 
 -- Function 1 on tree a with two numbers.
-on-two : ℕ → Expr → Expr → Expr
+unfoldable pub on-two : ℕ → Expr → Expr → Expr
 on-two a x y = call a 1 (arg x (arg y noArgs))
 
 -- 01, "Worked programs": "Call 0 on 0"; "Sum (Case 0, Var 0, Add, Call 0 on 1, Call 0 on 2)".

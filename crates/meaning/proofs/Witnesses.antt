@@ -66,7 +66,7 @@ swap-witness = witness swap 2 10 _ _ (record { lawful = swap-lawful; passes = sw
 -- ---- one that is endless
 
 -- Call 0 on 0 is within the limits and passes
-again-passes : PassesOne again
+pub again-passes : PassesOne again
 unfolding passOne passOver atEntry roomy wordsTested bareNumber typed named enteredAll entered enteredArgs inside startOf resultType isInt isTree fits size prefix prefixes nth signatureOf total arityOf countArgs mostParameters again numbered programOf on
 again-passes = record {
   lawful = record {
@@ -93,7 +93,7 @@ again-stops (suc calls) r t =
     record { at-call = deeper .at-call; stopped = ap begins (deeper .stopped) }
 
 -- so its evaluation does not end, on any tree
-again-endless : (t : Tree) → Endless again t
+pub again-endless : (t : Tree) → Endless again t
 unfolding evaluation
 again-endless t o n v ends =
     let given = meaning .held again t again-passes .gives-value o n v .1 ends in

@@ -30,29 +30,18 @@ use Rattle.meaning.specs.Running.{Stop, ended, refused, Run, run, outcomeOf, nu
 use Rattle.meaning.specs.StreamRun.{Steps, Stops, used-up, returned, stuck, Grows, lookedAt, restsOn, writtenBy, Calls}
 use Rattle.meaning.specs.Evaluation.{Value, inCall, Takes, Ends, resultBytes, resultNumber, unitsIn}
 use Rattle.meaning.specs.Meaning.{PassesOne}
-use Rattle.meaning.proofs.Calls.{written-ran}
 use Rattle.meaning.proofs.Meaning.{meaning}
-use Rattle.meaning.proofs.Proper.{proper}
 use Rattle.meaning.proofs.Runs.{runs}
-use Rattle.meaning.proofs.StreamRun.{stream-run}
-use Rattle.translation.specs.Templates.{codeOf}
-use Rattle.translation.specs.Demand3.{Checked, readBy, Whole, Demand3, Demand3Holds}
+use Rattle.translation.specs.Demand3.{Given, runOn, readBy, Whole, Demand3, Demand3Holds}
 use Rattle.translation.specs.EveryRun.{WholeAfter, unitsOf}
 use Rattle.translation.proofs.AnyInput.{carries-opening}
-use Rattle.translation.proofs.Bodies.{checked-body}
+use Rattle.translation.proofs.CodeCalls.{came-refused, code, runOf, call-runs, call-writes, call-refused, calls, runnable, on}
 use Rattle.translation.proofs.Carried.{Carries}
 use Rattle.translation.proofs.Courses.{Final, returns as it-returns, refused-there, Course, CameTo, out-of-fuel, out-of-space, whole, came}
-use Rattle.translation.proofs.Evaluated.{Runnable}
-use Rattle.translation.proofs.Laid.{laid}
 use Rattle.translation.proofs.Meets.{meets-grows}
 use Rattle.translation.proofs.Paths.{withSpace}
 use Rattle.translation.proofs.WholeRuns.{Known, ends-so, sticks-so, faults-so, known}
 use Rattle.translation.proofs.Wider.{Wider, wider-steps}
-
--- a checked program passes pass one
-pub passes-one : (program : Program) → Checked program → PassesOne program
-unfolding order
-passes-one program c = record { lawful = c .lawful; passes = then-inv (passOne program) _ tt (c .passes) .first }
 
 -- A stop for which no byte has been looked at that was not read.
 data Plain : Stop → Type 0 where
@@ -73,17 +62,6 @@ came-plain : {last : State} {units counts space fuel : ℕ} {why : Stop} {r : Ru
 came-plain p (out-of-fuel e u l g) = rw e no-fuel
 came-plain p (out-of-space e l g) = rw e no-space
 came-plain p (whole e u t l) = rw e p
-
--- A run that was refused.
-pub record WasRefused (r : Run) : Type 0 where
-  pub why : ℕ
-  pub stops : r .stop ≡ refused why
-
--- so is one whose course is refused, whatever stops it before
-pub came-refused : {last : State} {units counts space fuel why : ℕ} {r : Run} → CameTo last units counts (refused why) space fuel r → WasRefused r
-came-refused (out-of-fuel e u l g) = record { why = fuelUsedUp; stops = e }
-came-refused (out-of-space e l g) = record { why = outputFull; stops = e }
-came-refused {why = why} (whole e u t l) = record { why = why; stops = e }
 
 -- a run's steps to where it stops
 pub record Made (m : Setting) (s t : State) : Type 0 where
@@ -115,217 +93,173 @@ same-units program t o n o′ n′ v v′ e e′ =
     let sums = meaning .evaluations program .one-sum (inCall [] t) (e .first .body) o n o′ n′ v v′ (e .takes) in
     subst (λ (f : Function). (d : Takes program (inCall [] t) (f .body) o′ n′ v′) → unitsIn (e .takes) ≡ unitsIn d) same sums (e′ .takes)
 
--- A checked program's code, with anything behind it in its buffer, and work space lent.
-module _ (program : Program) (after-code : List ℕ) (values returns : ℕ) (checked : Checked program) (words-lent : valueWords ≤ values) (places-lent : returnWords ≤ returns)
-  where
-    abbrev pub code : List ℕ
-    code = codeOf program ++ after-code
+module _ (given : Given) (t : Tree) (labelled : Labelled t) where
+  open Given given using (program)
 
-    abbrev pub call : (input output : List ℕ) (fuel : ℕ) → Ran
-    call input output fuel = streamRun code input output fuel values returns
+  -- the course of the run on its tokens, with anything behind them
+  pub course : (rest : List ℕ) → Known ⊥ (on given (tokens t ++ rest)) program (length (tokens t)) (lit≤ tt) (runnable given) t mostCalls
+  course rest = known ⊥ (on given (tokens t ++ rest)) program (length (tokens t)) (lit≤ tt) (runnable given) t 1023 (carries-opening t rest labelled) refl
 
-    -- The run of a call.
-    abbrev pub runOf : (input output : List ℕ) (fuel : ℕ) → Run
-    runOf input output fuel = run (ofCode code input (length output)) fuel start
+  -- it stops plainly
+  stops-plainly : (rest output : List ℕ) (fuel : ℕ) → Plain (runOf given (tokens t ++ rest) output fuel .stop)
+  stops-plainly rest output fuel = elim (course rest) [
+    | ends-so n v evaluated c units counts bytes read ↦ came-plain it-ended (came c (length output) fuel zero-le)
+    | sticks-so never c ↦ came-plain no-call (came c (length output) fuel zero-le)
+    | faults-so why none w c ↦ absurd none
+  ]
 
-    pub call-runs : (input output : List ℕ) (fuel : ℕ) → call input output fuel ≡ ranTo output (runOf input output fuel)
-    unfolding streamRun
-    call-runs input output fuel = simp (streamRun, le-leb _ _ words-lent, le-leb _ _ places-lent)
+  -- with nothing behind the tree, the answer rests on its tokens alone
+  rests-on-tokens : (output : List ℕ) (fuel : ℕ) → restsOn (runOn given (tokens t ++ []) output fuel .answer) ≤ length (tokens t)
+  rests-on-tokens output fuel =
+      let read = calls given output .read-there (tokens t ++ []) fuel in
+      let looked = ap (λ (r : Ran). lookedAt (r .answer .outcome)) (call-runs given (tokens t ++ []) output fuel)
+      ∙ plain-looks (runOf given (tokens t ++ []) output fuel .last .read) (stops-plainly [] output fuel) in
+      omega (arith, length-append (tokens t) [], read, looked)
 
-    -- what it has written
-    pub call-writes : (input output : List ℕ) (fuel : ℕ) → writtenBy (call input output fuel) ≡ runOf input output fuel .last .output
-    call-writes input output fuel = ap writtenBy (call-runs input output fuel) ∙ written-ran runs code output input fuel
+  -- so what stands behind it is of no matter
+  pub nothing-behind : (rest output : List ℕ) (fuel : ℕ) → runOn given (tokens t ++ rest) output fuel ≡ runOn given (tokens t ++ []) output fuel
+  nothing-behind rest output fuel =
+      let k = restsOn (runOn given (tokens t ++ []) output fuel .answer) in
+      let few = rests-on-tokens output fuel in
+      calls given output .same-input (tokens t ++ []) (tokens t ++ rest) fuel
+      (take-append-le k (tokens t) rest few ∙ sym (take-append-le k (tokens t) [] few))
 
-    -- a refused run is not ended
-    pub call-refused : (input output : List ℕ) (fuel : ℕ) → WasRefused (runOf input output fuel) → call input output fuel .answer .outcome ≢ done tt
-    unfolding outcomeOf
-    call-refused input output fuel w e =
-        let so = ap (λ (r : Ran). r .answer .outcome) (call-runs input output fuel) in
-        done-not e (so ∙ ap (λ s. outcomeOf s (runOf input output fuel .last .read)) (w .stops))
+  -- no more is read than its tokens
+  pub reads-no-more : (rest output : List ℕ) (fuel : ℕ) → runOn given (tokens t ++ rest) output fuel .answer .bytesRead ≤ length (tokens t)
+  reads-no-more rest output fuel = rw (nothing-behind rest output fuel) (omega (arith, rests-on-tokens output fuel))
 
-    -- what holds of every call
-    pub calls : (output : List ℕ) → Calls output (λ input fuel. call input output fuel)
-    calls output = stream-run .calls code output values returns
+  -- what is read are opening bytes of it
+  reads-opening : (rest output : List ℕ) (fuel : ℕ) → Opens (readBy (runOn given (tokens t ++ rest) output fuel) (tokens t ++ rest)) (tokens t)
+  reads-opening rest output fuel =
+      let k = runOn given (tokens t ++ rest) output fuel .answer .bytesRead in
+      let front = take-append-le k (tokens t) rest (reads-no-more rest output fuel) in
+      record { rest = drop k (tokens t); joined = rw front (sym (take-append-drop k (tokens t))) }
 
-    pub runnable : Runnable program (heldBy code)
-    runnable = record {
-      proper = proper program (passes-one program checked);
-      bodies = checked-body program checked;
-      laid = laid program checked after-code;
-    }
+  -- ---- what is written
 
-    -- The machine that runs it, on this input.
-    abbrev pub on : List ℕ → Setting
-    on input = ofCode code input 0
+  -- The same code on a machine where so many calls more can be open.
+  abbrev wider : ℕ → List ℕ → Setting
+  wider more input =
+      record { holds = heldBy (code given); input = input; space = 0; mostWords = 16 * suc (more + 1023); mostOpen = suc (more + 1023) }
 
-    -- ---- on a tree
+  -- a run on it, with more space, goes on from the run on the narrow one
+  is-wider : (more space : ℕ) (input output : List ℕ) → length output ≤ space → Wider (ofCode (code given) input (length output)) (withSpace space (wider more input))
+  is-wider more space input output h =
+      record { holds = λ a. refl; input = refl; space = h; words = omega arith; calls = omega arith }
 
-    module _ (t : Tree) (labelled : Labelled t) where
-      -- the course of the run on its tokens, with anything behind them
-      pub course : (rest : List ℕ) → Known ⊥ (on (tokens t ++ rest)) program (length (tokens t)) (lit≤ tt) runnable t mostCalls
-      course rest = known ⊥ (on (tokens t ++ rest)) program (length (tokens t)) (lit≤ tt) runnable t 1023 (carries-opening t rest labelled) refl
+  -- what is written opens what the wider machine has written in the end
+  pub writes-opening :
+      (rest output : List ℕ) (fuel o n : ℕ) (v : Value)
+      → Ends program t o n v
+      → Opens (writtenBy (runOn given (tokens t ++ rest) output fuel)) (resultBytes v)
+  writes-opening rest output fuel o n v evaluated =
+      rw (call-writes given (tokens t ++ rest) output fuel)
+      (by-course (known ⊥ (wider o input) program (length (tokens t)) (le-refl _) (runnable given) t (o + 1023) (carries-opening t rest labelled) refl))
+    where
+      input : List ℕ
+      input = tokens t ++ rest
 
-      -- it stops plainly
-      stops-plainly : (rest output : List ℕ) (fuel : ℕ) → Plain (runOf (tokens t ++ rest) output fuel .stop)
-      stops-plainly rest output fuel = elim (course rest) [
-        | ends-so n v evaluated c units counts bytes read ↦ came-plain it-ended (came c (length output) fuel zero-le)
-        | sticks-so never c ↦ came-plain no-call (came c (length output) fuel zero-le)
-        | faults-so why none w c ↦ absurd none
-      ]
+      by-course : Known ⊥ (wider o input) program (length (tokens t)) (le-refl _) (runnable given) t (suc (o + 1023))
+          → Opens (runOf given input output fuel .last .output) (resultBytes v)
+      by-course (ends-so n′ v′ evaluated′ c units counts bytes read) =
+          let needed = length (c .last .output) in
+          let space = length output + needed in
+          let made = stops-made (runs (ofCode (code given) input (length output)) start .by-steps fuel) in
+          let there = c .there space (omega arith) in
+          let grows = meets-grows (wider-steps (is-wider o space input output (omega arith)) (made .steps)) (c .path .steps space (omega arith))
+          (λ u e. final-stays (c .is-final) (sym there ∙ e)) in
+          let same = meaning .evaluations program .one-result t _ _ _ _ _ _ evaluated′ evaluated .1 in
+          rw (bytes ∙ ap resultBytes same) at (grows .writes)
+      by-course (sticks-so never c) = absurd (never n v (larger-bound program t o _ n v (omega arith) evaluated))
+      by-course (faults-so why none w c) = absurd none
 
-      -- with nothing behind the tree, the answer rests on its tokens alone
-      rests-on-tokens : (output : List ℕ) (fuel : ℕ) → restsOn (call (tokens t ++ []) output fuel .answer) ≤ length (tokens t)
-      rests-on-tokens output fuel =
-          let read = calls output .read-there (tokens t ++ []) fuel in
-          let looked = ap (λ (r : Ran). lookedAt (r .answer .outcome)) (call-runs (tokens t ++ []) output fuel)
-          ∙ plain-looks (runOf (tokens t ++ []) output fuel .last .read) (stops-plainly [] output fuel) in
-          omega (arith, length-append (tokens t) [], read, looked)
+  -- ---- where the evaluation ends
 
-      -- so what stands behind it is of no matter
-      pub nothing-behind : (rest output : List ℕ) (fuel : ℕ) → call (tokens t ++ rest) output fuel ≡ call (tokens t ++ []) output fuel
-      nothing-behind rest output fuel =
-          let k = restsOn (call (tokens t ++ []) output fuel .answer) in
-          let few = rests-on-tokens output fuel in
-          calls output .same-input (tokens t ++ []) (tokens t ++ rest) fuel
-          (take-append-le k (tokens t) rest few ∙ sym (take-append-le k (tokens t) [] few))
+  -- The run of an evaluation that ends: to the end, or its fuel or the output ends before.
+  pub record Ending (units : ℕ) (v : Value) (space fuel : ℕ) (r : Run) : Type 0 where
+    pub last : State
+    pub comes : CameTo last units 1 (ended (resultNumber v)) space fuel r
+    pub bytes : last .output ≡ resultBytes v
+    pub read : last .read ≡ length (tokens t)
 
-      -- no more is read than its tokens
-      pub reads-no-more : (rest output : List ℕ) (fuel : ℕ) → call (tokens t ++ rest) output fuel .answer .bytesRead ≤ length (tokens t)
-      reads-no-more rest output fuel = rw (nothing-behind rest output fuel) (omega (arith, rests-on-tokens output fuel))
+  pub ending :
+      (n : ℕ) (v : Value) (evaluated : Ends program t mostCalls n v) (rest output : List ℕ) (fuel : ℕ)
+      → Ending (unitsIn (evaluated .takes)) v (length output) fuel (runOf given (tokens t ++ rest) output fuel)
+  ending n v evaluated rest output fuel = elim (course rest) [
+    | ends-so n′ v′ evaluated′ c units counts bytes read ↦
+        let same = meaning .evaluations program .one-result t _ _ _ _ _ _ evaluated′ evaluated .1 in
+        let sums = units ∙ same-units program t _ _ _ _ _ _ evaluated′ evaluated in
+        record { last = c .last; comes = rw (sums, counts, same) at (came c (length output) fuel zero-le); bytes = rw same at bytes; read = read }
+    | sticks-so never c ↦ absurd (never n v evaluated)
+    | faults-so why none w c ↦ absurd none
+  ]
 
-      -- what is read are opening bytes of it
-      reads-opening : (rest output : List ℕ) (fuel : ℕ) → Opens (readBy (call (tokens t ++ rest) output fuel) (tokens t ++ rest)) (tokens t)
-      reads-opening rest output fuel =
-          let k = call (tokens t ++ rest) output fuel .answer .bytesRead in
-          let front = take-append-le k (tokens t) rest (reads-no-more rest output fuel) in
-          record { rest = drop k (tokens t); joined = rw front (sym (take-append-drop k (tokens t))) }
-
-      -- ---- what is written
-
-      -- The same code on a machine where so many calls more can be open.
-      abbrev wider : ℕ → List ℕ → Setting
-      wider more input =
-          record { holds = heldBy code; input = input; space = 0; mostWords = 16 * suc (more + 1023); mostOpen = suc (more + 1023) }
-
-      -- a run on it, with more space, goes on from the run on the narrow one
-      is-wider : (more space : ℕ) (input output : List ℕ) → length output ≤ space → Wider (ofCode code input (length output)) (withSpace space (wider more input))
-      is-wider more space input output h =
-          record { holds = λ a. refl; input = refl; space = h; words = omega arith; calls = omega arith }
-
-      -- what is written opens what the wider machine has written in the end
-      pub writes-opening :
-          (rest output : List ℕ) (fuel o n : ℕ) (v : Value)
-          → Ends program t o n v
-          → Opens (writtenBy (call (tokens t ++ rest) output fuel)) (resultBytes v)
-      writes-opening rest output fuel o n v evaluated =
-          rw (call-writes (tokens t ++ rest) output fuel)
-          (by-course (known ⊥ (wider o input) program (length (tokens t)) (le-refl _) runnable t (o + 1023) (carries-opening t rest labelled) refl))
-        where
-          input : List ℕ
-          input = tokens t ++ rest
-
-          by-course : Known ⊥ (wider o input) program (length (tokens t)) (le-refl _) runnable t (suc (o + 1023))
-              → Opens (runOf input output fuel .last .output) (resultBytes v)
-          by-course (ends-so n′ v′ evaluated′ c units counts bytes read) =
-              let needed = length (c .last .output) in
-              let space = length output + needed in
-              let made = stops-made (runs (ofCode code input (length output)) start .by-steps fuel) in
-              let there = c .there space (omega arith) in
-              let grows = meets-grows (wider-steps (is-wider o space input output (omega arith)) (made .steps)) (c .path .steps space (omega arith))
-              (λ u e. final-stays (c .is-final) (sym there ∙ e)) in
-              let same = meaning .evaluations program .one-result t _ _ _ _ _ _ evaluated′ evaluated .1 in
-              rw (bytes ∙ ap resultBytes same) at (grows .writes)
-          by-course (sticks-so never c) = absurd (never n v (larger-bound program t o _ n v (omega arith) evaluated))
-          by-course (faults-so why none w c) = absurd none
-
-      -- ---- where the evaluation ends
-
-      -- The run of an evaluation that ends: to the end, or its fuel or the output ends before.
-      pub record Ending (units : ℕ) (v : Value) (space fuel : ℕ) (r : Run) : Type 0 where
-        pub last : State
-        pub comes : CameTo last units 1 (ended (resultNumber v)) space fuel r
-        pub bytes : last .output ≡ resultBytes v
-        pub read : last .read ≡ length (tokens t)
-
-      pub ending :
-          (n : ℕ) (v : Value) (evaluated : Ends program t mostCalls n v) (rest output : List ℕ) (fuel : ℕ)
-          → Ending (unitsIn (evaluated .takes)) v (length output) fuel (runOf (tokens t ++ rest) output fuel)
-      ending n v evaluated rest output fuel = elim (course rest) [
-        | ends-so n′ v′ evaluated′ c units counts bytes read ↦
-            let same = meaning .evaluations program .one-result t _ _ _ _ _ _ evaluated′ evaluated .1 in
-            let sums = units ∙ same-units program t _ _ _ _ _ _ evaluated′ evaluated in
-            record { last = c .last; comes = rw (sums, counts, same) at (came c (length output) fuel zero-le); bytes = rw same at bytes; read = read }
-        | sticks-so never c ↦ absurd (never n v evaluated)
-        | faults-so why none w c ↦ absurd none
-      ]
-
-      -- what a run that goes the whole way answers
-      whole-answer :
-          (v : Value) (rest output : List ℕ) (fuel : ℕ) (last : State)
-          → runOf (tokens t ++ rest) output fuel .stop ≡ ended (resultNumber v)
-          → runOf (tokens t ++ rest) output fuel .last ≡ last
-          → last .output ≡ resultBytes v
-          → last .read ≡ length (tokens t)
-          → Whole t v output (call (tokens t ++ rest) output fuel)
-      unfolding outcomeOf numberTold
-      whole-answer v rest output fuel last stop is-last bytes read =
-          let so = call-runs (tokens t ++ rest) output fuel in
-          let out : runOf (tokens t ++ rest) output fuel .last .output ≡ resultBytes v = ap (λ (s : State). s .output) is-last ∙ bytes in
-          let many : call (tokens t ++ rest) output fuel .answer .bytesWritten ≡ length (resultBytes v) =
-          ap (λ (r : Ran). r .answer .bytesWritten) so ∙ ap length out in
-          record {
-            unrefused = ap (λ (r : Ran). r .answer .outcome) so ∙ ap (λ w. outcomeOf w (runOf (tokens t ++ rest) output fuel .last .read)) stop;
-            whole-read = ap (λ (r : Ran). r .answer .bytesRead) so ∙ ap (λ (s : State). s .read) is-last ∙ read;
-            whole-written = many;
-            result = call-writes (tokens t ++ rest) output fuel ∙ out;
-            untouched = rw many at (calls output .untouched (tokens t ++ rest) fuel);
-            same-number = ap (λ (r : Ran). r .answer .number) so ∙ ap numberTold stop;
-          }
-
-      -- with fuel for one more than its units, and space for its result, the run is whole, and has spent them
-      pub whole-run :
-          (n : ℕ) (v : Value) (evaluated : Ends program t mostCalls n v) (rest output : List ℕ) (fuel : ℕ)
-          → unitsIn (evaluated .takes) < fuel
-          → length (resultBytes v) ≤ length output
-          → WholeAfter (unitsOf evaluated) t v output (call (tokens t ++ rest) output fuel)
-      whole-run n v evaluated rest output fuel enough fits =
-          let e = ending n v evaluated rest output fuel in
-          by-way (e .last) (e .bytes) (e .read) (e .comes)
-        where
-          by-way : (last : State) → last .output ≡ resultBytes v → last .read ≡ length (tokens t)
-              → CameTo last (unitsIn (evaluated .takes)) 1 (ended (resultNumber v)) (length output) fuel (runOf (tokens t ++ rest) output fuel)
-              → WholeAfter (unitsOf evaluated) t v output (call (tokens t ++ rest) output fuel)
-          by-way last bytes read (out-of-fuel stop u few g) = absurd (omega arith)
-          by-way last bytes read (out-of-space stop short g) = absurd (omega (arith, ap length bytes))
-          by-way last bytes read (whole stop u is-last more) = record {
-            whole = whole-answer v rest output fuel last stop is-last bytes read;
-            counted = ap (λ (r : Ran). r .answer .units) (call-runs (tokens t ++ rest) output fuel) ∙ u ∙ add-one _;
-          }
-
-      -- where no evaluation ends, no run does
-      pub never-ends :
-          ((n : ℕ) (v : Value) → Ends program t mostCalls n v → ⊥)
-          → (rest output : List ℕ) (fuel : ℕ)
-          → call (tokens t ++ rest) output fuel .answer .outcome ≢ done tt
-      never-ends never rest output fuel e = elim (course rest) [
-        | ends-so n v evaluated c units counts bytes read ↦ never n v evaluated
-        | sticks-so never′ c ↦ call-refused (tokens t ++ rest) output fuel (came-refused (came c (length output) fuel zero-le)) e
-        | faults-so why none w c ↦ none
-      ]
-
-      pub demand : Demand3 program t call
-      demand = record {
-        read-opening = reads-opening;
-        read-no-more = reads-no-more;
-        written-opening = writes-opening;
-        nothing-after = λ rest rest′ output fuel. nothing-behind rest output fuel ∙ sym (nothing-behind rest′ output fuel);
-        suffices = λ n v evaluated rest output fuel enough fits.
-            let few = meaning .evaluations program .four-each _ _ _ n v (evaluated .takes) in
-            whole-run n v evaluated rest output fuel (omega arith) fits .whole;
-        none-suffices = never-ends;
+  -- what a run that goes the whole way answers
+  pub whole-answer :
+      (v : Value) (rest output : List ℕ) (fuel : ℕ) (last : State)
+      → runOf given (tokens t ++ rest) output fuel .stop ≡ ended (resultNumber v)
+      → runOf given (tokens t ++ rest) output fuel .last ≡ last
+      → last .output ≡ resultBytes v
+      → last .read ≡ length (tokens t)
+      → Whole t v output (runOn given (tokens t ++ rest) output fuel)
+  unfolding outcomeOf numberTold
+  whole-answer v rest output fuel last stop is-last bytes read =
+      let so = call-runs given (tokens t ++ rest) output fuel in
+      let out : runOf given (tokens t ++ rest) output fuel .last .output ≡ resultBytes v = ap (λ (s : State). s .output) is-last ∙ bytes in
+      let many : runOn given (tokens t ++ rest) output fuel .answer .bytesWritten ≡ length (resultBytes v) =
+      ap (λ (r : Ran). r .answer .bytesWritten) so ∙ ap length out in
+      record {
+        unrefused = ap (λ (r : Ran). r .answer .outcome) so ∙ ap (λ w. outcomeOf w (runOf given (tokens t ++ rest) output fuel .last .read)) stop;
+        whole-read = ap (λ (r : Ran). r .answer .bytesRead) so ∙ ap (λ (s : State). s .read) is-last ∙ read;
+        whole-written = many;
+        result = call-writes given (tokens t ++ rest) output fuel ∙ out;
+        untouched = rw many at (calls given output .untouched (tokens t ++ rest) fuel);
+        same-number = ap (λ (r : Ran). r .answer .number) so ∙ ap numberTold stop;
       }
+
+  -- with fuel for one more than its units, and space for its result, the run is whole, and has spent them
+  pub whole-run :
+      (n : ℕ) (v : Value) (evaluated : Ends program t mostCalls n v) (rest output : List ℕ) (fuel : ℕ)
+      → unitsIn (evaluated .takes) < fuel
+      → length (resultBytes v) ≤ length output
+      → WholeAfter (unitsOf evaluated) t v output (runOn given (tokens t ++ rest) output fuel)
+  whole-run n v evaluated rest output fuel enough fits =
+      let e = ending n v evaluated rest output fuel in
+      by-way (e .last) (e .bytes) (e .read) (e .comes)
+    where
+      by-way : (last : State) → last .output ≡ resultBytes v → last .read ≡ length (tokens t)
+          → CameTo last (unitsIn (evaluated .takes)) 1 (ended (resultNumber v)) (length output) fuel (runOf given (tokens t ++ rest) output fuel)
+          → WholeAfter (unitsOf evaluated) t v output (runOn given (tokens t ++ rest) output fuel)
+      by-way last bytes read (out-of-fuel stop u few g) = absurd (omega arith)
+      by-way last bytes read (out-of-space stop short g) = absurd (omega (arith, ap length bytes))
+      by-way last bytes read (whole stop u is-last more) = record {
+        whole = whole-answer v rest output fuel last stop is-last bytes read;
+        counted = ap (λ (r : Ran). r .answer .units) (call-runs given (tokens t ++ rest) output fuel) ∙ u ∙ add-one _;
+      }
+
+  -- where no evaluation ends, no run does
+  pub never-ends :
+      ((n : ℕ) (v : Value) → Ends program t mostCalls n v → ⊥)
+      → (rest output : List ℕ) (fuel : ℕ)
+      → runOn given (tokens t ++ rest) output fuel .answer .outcome ≢ done tt
+  never-ends never rest output fuel e = elim (course rest) [
+    | ends-so n v evaluated c units counts bytes read ↦ never n v evaluated
+    | sticks-so never′ c ↦ call-refused given (tokens t ++ rest) output fuel (came-refused (came c (length output) fuel zero-le)) e
+    | faults-so why none w c ↦ none
+  ]
+
+  pub demand : Demand3 program t (runOn given)
+  demand = record {
+    read-opening = reads-opening;
+    read-no-more = reads-no-more;
+    written-opening = writes-opening;
+    nothing-after = λ rest rest′ output fuel. nothing-behind rest output fuel ∙ sym (nothing-behind rest′ output fuel);
+    suffices = λ n v evaluated rest output fuel enough fits.
+        let few = meaning .evaluations program .four-each _ _ _ n v (evaluated .takes) in
+        whole-run n v evaluated rest output fuel (omega arith) fits .whole;
+    none-suffices = never-ends;
+  }
 
 -- demand 3
 pub demand-3 : Demand3Holds
-demand-3 program t after-code values returns checked labelled words-lent places-lent =
-    demand program after-code values returns checked words-lent places-lent t labelled
+demand-3 given t labelled = demand given t labelled

@@ -7,6 +7,7 @@ pub mod CodeStands
 pub mod Coded
 pub mod WordWays
 pub mod WordCounts
+pub mod CodeLimits
 pub mod InOrder
 pub mod Paths
 pub mod Wider
@@ -19,4 +20,8 @@ pub mod Goes
 pub mod Simulation
 pub mod Evaluated
 pub mod WholeRuns
+pub mod CodeCalls
 pub mod Demand3
+pub mod EveryRun
+pub mod Cases
+pub mod Witnesses

@@ -15,7 +15,6 @@ use Rattle.rules.specs.PassOne.{mostWords, named, typed, passOne}
 use Rattle.rules.specs.OrderChecker.{firstNode}
 use Rattle.meaning.specs.Instructions.{Operation, Push, Get, Add, Ifnot, Jump, Slide, Drop, LeafTag, NodeTag, WriteNumber, ReadTag, ReadNumber, Call, instructionOf, mostInstructions}
 use Rattle.translation.specs.Templates.{wordsKept, entryOf, operationsOf}
-use Rattle.translation.specs.Demand3.{Checked}
 
 -- ---- word counts in code, without running it
 
@@ -78,7 +77,7 @@ pub record CodeLimits (program : Program) : Type 0 where
   -- 01: "At most 4,128 instructions."
   pub few : length (operationsOf program) ≤ mostInstructions
   -- each field of each instruction fits its bytes
-  pub fit : Checked program → Every (λ op. Ranged (instructionOf op)) (operationsOf program)
+  pub fit : Every (λ op. Ranged (instructionOf op)) (operationsOf program)
   -- for a program with no 9 or 8, pass one says 10 exactly where some word count in its code exceeds 16
   pub words :
       Every (Sound (signatures program)) (enteredAll (firstNode program) (program .functions))

@@ -23,6 +23,20 @@ pub record Checked (program : Program) : Type 0 where
   pub lawful : Lawful program
   pub passes : order program ≡ done tt
 
+-- What its runs are given besides input, output and fuel: its code has anything behind it in its buffer, and the work space is lent, document 01's or
+-- more.
+pub record Given : Type 0 where
+  pub program : Program
+  pub checked : Checked program
+  pub after-code : List ℕ
+  pub values : ℕ
+  pub returns : ℕ
+  pub words-lent : valueWords ≤ values
+  pub places-lent : returnWords ≤ returns
+
+abbrev pub runOn : Given → (input output : List ℕ) (fuel : ℕ) → Ran
+runOn given input output fuel = streamRun (codeOf (given .program) ++ given .after-code) input output fuel (given .values) (given .returns)
+
 -- The bytes that a run has read of its input.
 abbrev pub readBy : Ran → List ℕ → List ℕ
 readBy ran input = take (ran .answer .bytesRead) input
@@ -65,12 +79,6 @@ pub record Demand3 (program : Program) (t : Tree) (run : (input output : List �
       → (rest output : List ℕ) (fuel : ℕ)
       → run (tokens t ++ rest) output fuel .answer .outcome ≢ done tt
 
--- For every checked program and every tree of 32-bit labels, however deep; the code with anything behind it in its buffer, and work space lent.
+-- For every checked program, and every tree of 32-bit labels, however deep.
 abbrev pub Demand3Holds : Type 0
-Demand3Holds =
-    (program : Program) (t : Tree) (after-code : List ℕ) (values returns : ℕ)
-    → Checked program
-    → Labelled t
-    → valueWords ≤ values
-    → returnWords ≤ returns
-    → Demand3 program t (λ input output fuel. streamRun (codeOf program ++ after-code) input output fuel values returns)
+Demand3Holds = (given : Given) (t : Tree) → Labelled t → Demand3 (given .program) t (runOn given)

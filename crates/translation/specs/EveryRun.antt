@@ -12,11 +12,10 @@ use Rattle.formats.specs.Refusals.{fuelUsedUp, tooManyCalls, cannotPerform}
 use Rattle.formats.specs.Results.{done, refusal}
 use Rattle.formats.specs.Tokens.{Tree, Labelled, tokens}
 use Rattle.formats.specs.Programs.{treeValued, Function, Program}
-use Rattle.meaning.specs.Running.{Ran, valueWords, returnWords, mostCalls, streamRun}
+use Rattle.meaning.specs.Running.{Ran, mostCalls}
 use Rattle.meaning.specs.StreamRun.{writtenBy}
 use Rattle.meaning.specs.Evaluation.{Value, Ends, resultBytes, unitsIn}
-use Rattle.translation.specs.Templates.{codeOf}
-use Rattle.translation.specs.Demand3.{Checked, readBy, Whole}
+use Rattle.translation.specs.Demand3.{Given, runOn, readBy, Whole}
 
 -- A run that is refused for this reason, at the bytes read, after so many units.
 pub record RefusedAfter (units why : ℕ) (ran : Ran) : Type 0 where
@@ -95,11 +94,6 @@ pub record EveryRun (program : Program) (run : (input output : List ℕ) (fuel :
       → run input output fuel .answer .outcome ≡ done tt
       → OneForOne input (run input output fuel)
 
--- For every checked program; the code with anything behind it in its buffer, and work space lent.
+-- For every checked program.
 abbrev pub EveryRunHolds : Type 0
-EveryRunHolds =
-    (program : Program) (after-code : List ℕ) (values returns : ℕ)
-    → Checked program
-    → valueWords ≤ values
-    → returnWords ≤ returns
-    → EveryRun program (λ input output fuel. streamRun (codeOf program ++ after-code) input output fuel values returns)
+EveryRunHolds = (given : Given) → EveryRun (given .program) (runOn given)

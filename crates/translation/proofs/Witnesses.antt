@@ -1,0 +1,200 @@
+-- Witnesses for demand 3: a checked program and a tree for each way that an evaluation may go. It ends within 1,024 open calls, with a tree or with a
+-- number; it ends, but with more calls open; it is endless. So none of what is stated of checked programs (Demand3) is empty.
+use Prim.Native.Nat.{ℕ, zero, suc, _+_, _*_, _^_, _≤_, _<_}
+use mathlib.Core.List.{[], _∷_}
+use mathlib.Core.Path.{_≡_, refl, sym, ap, _∙_}
+use native.Mathlib.Omega.{arith}
+use lib.Dec.{lit<, lit≤}
+use Rattle.formats.specs.Numbers.{sum32}
+use Rattle.formats.specs.Refusals.{tooManyCalls}
+use Rattle.formats.specs.Tokens.{Tree, leaf, node, Labelled}
+use Rattle.formats.specs.Records.{nth}
+use Rattle.formats.specs.Programs.{const, var, add, ifZero, caseOf, prefix, size, countArgs, arityOf, signatureOf, total, Program, mostParameters}
+use Rattle.formats.proofs.Results.{then-inv}
+use Rattle.formats.proofs.ProgramCases.{grow, grow-lawful}
+use Rattle.rules.specs.Types.{isInt, fits, resultType}
+use Rattle.rules.specs.Scopes.{inside, startOf, entered, enteredAll}
+use Rattle.rules.specs.PassOne.{named, typed, bareNumber, wordsTested, roomy, atEntry, passOver, passOne}
+use Rattle.rules.specs.PassTwo.{takeHead, sameNames, joined, walk, noneLeft, walkAll, passTwo, order}
+use Rattle.rules.proofs.Cases.{numbered, taking, programOf, on, with-one, grow-passes}
+use Rattle.meaning.specs.Levels.{atLevel}
+use Rattle.meaning.specs.Running.{mostCalls}
+use Rattle.meaning.specs.Evaluation.{Value, number, tree, Ends, resultNumber}
+use Rattle.meaning.specs.OpenCalls.{Outcome, gives, stops, after, next, numberOr, treeOr, resultTree, evaluate, firstRecord, called, evaluation}
+use Rattle.meaning.specs.Meaning.{Endless, HeldTo}
+use Rattle.meaning.proofs.Outcomes.{after-more, gives-not}
+use Rattle.meaning.proofs.Meaning.{meaning}
+use Rattle.meaning.proofs.MeaningCases.{again, sum, two-leaves}
+use Rattle.meaning.proofs.Witnesses.{again-passes, again-endless}
+use Rattle.translation.specs.Demand3.{Checked}
+
+-- A checked program and a tree of 32-bit labels, of which this holds.
+record Witness (program : Program) (t : Tree) (Holds : Type 0) : Type 0 where
+  checked : Checked program
+  labelled : Labelled t
+  holds : Holds
+
+-- a checked program passes pass one, so what holds of an evaluation held to a number of open calls holds of it
+held-to : {program : Program} → Checked program → (t : Tree) → HeldTo program t
+unfolding order
+held-to {program} checked t =
+    meaning .held program t (record { lawful = checked .lawful; passes = then-inv (passOne program) _ tt (checked .passes) .first })
+
+-- ---- within 1,024 open calls
+
+-- Grow is within the limits and passes both passes
+grow-checked : Checked grow
+grow-checked = record { lawful = grow-lawful; passes = grow-passes }
+
+-- its evaluation on tree T ends with a tree
+ends-with-tree : Witness grow two-leaves (Ends grow two-leaves mostCalls 14 (tree (node (leaf 6) (leaf 8))))
+unfolding evaluation called evaluate next after resultNumber resultTree numberOr treeOr atLevel sum32 nth grow two-leaves
+ends-with-tree = record {
+  checked = grow-checked;
+  labelled = (lit< tt, lit< tt);
+  holds = held-to grow-checked two-leaves .gives-value mostCalls 14 _ .0 refl;
+}
+
+-- Sum is within the limits and passes both passes
+sum-checked : Checked sum
+unfolding order passOne passOver atEntry roomy wordsTested bareNumber typed named enteredAll entered inside startOf passTwo walkAll noneLeft walk joined sameNames takeHead resultType isInt fits size prefix nth signatureOf total arityOf countArgs mostParameters sum numbered programOf on
+sum-checked = record {
+  lawful = record {
+    edition = refl;
+    some-function = lit≤ tt;
+    few-functions = lit≤ tt;
+    few-nodes = lit≤ tt;
+    functions = (
+      record {
+        few-parameters = lit≤ tt;
+        in-range = (lit< tt, (lit< tt, (tt, ((lit< tt, lit< tt), ((lit< tt, lit< tt), tt)))));
+        applied = (tt, ((refl, tt), (refl, tt)));
+      },
+      tt,
+    );
+  };
+  passes = refl;
+}
+
+-- its evaluation on tree T ends with a number
+ends-with-number : Witness sum two-leaves (Ends sum two-leaves mostCalls 8 (number 12))
+unfolding evaluation called evaluate next after resultNumber numberOr treeOr atLevel sum32 nth sum numbered programOf on two-leaves
+ends-with-number = record {
+  checked = sum-checked;
+  labelled = (lit< tt, lit< tt);
+  holds = held-to sum-checked two-leaves .gives-value mostCalls 8 _ .0 refl;
+}
+
+-- ---- with more than 1,024 open
+
+-- Function 0 calls function 1 with 1,100. Function 1 calls itself with one less, until 0 is left; then a leaf gives its label.
+unfoldable countdown : Program
+countdown =
+    programOf
+    (numbered (with-one 1 0 (const 1100))
+    ∷ taking (ifZero (var 0) (caseOf 0 (var 1) (add (on 0 1) (on 0 2))) (with-one 1 0 (add (var 0) (const 4294967295))))
+    ∷ [])
+
+-- it is within the limits and passes both passes
+countdown-checked : Checked countdown
+unfolding order passOne passOver atEntry roomy wordsTested bareNumber typed named enteredAll entered inside startOf passTwo walkAll noneLeft walk joined sameNames takeHead resultType isInt fits size prefix nth signatureOf total arityOf countArgs mostParameters countdown numbered taking programOf on with-one
+countdown-checked = record {
+  lawful = record {
+    edition = refl;
+    some-function = lit≤ tt;
+    few-functions = lit≤ tt;
+    few-nodes = lit≤ tt;
+    functions = (
+      record { few-parameters = lit≤ tt; in-range = ((lit< tt, lit< tt), (lit< tt, tt)); applied = (refl, (tt, tt)) },
+      (
+        record {
+          few-parameters = lit≤ tt;
+          in-range =
+              (tt, (lit< tt, (lit< tt, (lit< tt, (tt, ((lit< tt, lit< tt), ((lit< tt, lit< tt), ((lit< tt, lit< tt), (tt, (lit< tt, (lit< tt, tt)))))))))));
+          applied = (tt, ((tt, ((refl, tt), (refl, tt))), (refl, ((tt, tt), tt))));
+        },
+        tt,
+      ),
+    );
+  };
+  passes = refl;
+}
+
+-- adding 4,294,967,295 takes one away
+one-less : (k : ℕ) → k < 2 ^ 32 → sum32 (suc k) 4294967295 ≡ k
+unfolding sum32
+one-less k h = omega arith
+
+-- a call of function 1 begins 6 expressions, then calls it with one less, by the Call at record 12
+goes-down : (calls k r : ℕ) (t : Tree)
+    → k < 2 ^ 32
+    → called countdown (suc calls) r 1 (suc k ∷ []) t ≡ after 6 (called countdown calls 12 1 (k ∷ []) t)
+unfolding called evaluate next after resultNumber numberOr treeOr atLevel nth firstRecord total signatureOf size prefix countdown numbered taking programOf on with-one
+goes-down calls k r t h = ap (λ (i : ℕ). after 6 (called countdown calls 12 1 (i ∷ []) t)) (one-less k h)
+
+-- with 0 it begins 4, and gives a leaf's label
+at-zero : (calls r x : ℕ) → called countdown (suc calls) r 1 (0 ∷ []) (leaf x) ≡ after 4 (gives (number x))
+unfolding called evaluate next after resultNumber numberOr treeOr atLevel nth countdown taking programOf
+at-zero calls r x = refl
+
+-- so it ends where one more call than its number may be open
+ends-down : (k r x : ℕ) → k < 2 ^ 32 → called countdown (suc k) r 1 (k ∷ []) (leaf x) ≡ after (6 * k + 4) (gives (number x))
+ends-down zero r x h = at-zero 0 r x
+ends-down (suc k) r x h =
+    let more : 6 + (6 * k + 4) ≡ 6 * suc k + 4 = omega arith in
+    goes-down (suc k) k r (leaf x) (omega arith)
+    ∙ ap (after 6) (ends-down k 12 x (omega arith))
+    ∙ after-more 6 _ _
+    ∙ ap (λ (n : ℕ). after n (gives (number x))) more
+
+-- An outcome that stops at a call too many.
+record Stopped (o : Outcome Value) : Type 0 where
+  begun : ℕ
+  place : ℕ
+  stopped : o ≡ after begun (stops tooManyCalls place)
+
+-- one after expressions begun before
+stopped-after : (n : ℕ) {o : Outcome Value} → Stopped o → Stopped (after n o)
+stopped-after n s = record { begun = n + s .begun; place = s .place; stopped = ap (after n) (s .stopped) ∙ after-more n _ _ }
+
+-- and stops where no more calls than its number may be open
+stops-down : (calls k r : ℕ) (t : Tree) → calls ≤ k → k < 2 ^ 32 → Stopped (called countdown calls r 1 (k ∷ []) t)
+unfolding called after
+stops-down zero k r t h fits = record { begun = 0; place = r; stopped = refl }
+stops-down (suc calls) zero r t h fits = absurd (omega arith)
+stops-down (suc calls) (suc k) r t h fits =
+    rw (goes-down calls k r t (omega arith)) (stopped-after 6 (stops-down calls k 12 t (omega arith) (omega arith)))
+
+-- function 0 begins 2 expressions, then calls function 1 with 1,100, by the Call at record 3
+from-first : (calls : ℕ) (t : Tree) → evaluation countdown (suc calls) t ≡ after 2 (called countdown calls 3 1 (1100 ∷ []) t)
+unfolding evaluation called evaluate next after resultNumber treeOr atLevel nth firstRecord total countdown numbered programOf with-one
+from-first calls t = refl
+
+-- its evaluation on a leaf ends with 1,102 calls open at once, and not within 1,024
+ends-too-deep :
+    Witness countdown (leaf 9)
+    (Ends countdown (leaf 9) 1102 6606 (number 9) × ((n : ℕ) (v : Value) → Ends countdown (leaf 9) mostCalls n v → ⊥))
+ends-too-deep =
+    let held = held-to countdown-checked (leaf 9) in
+    let stops-first = stopped-after 2 (stops-down 1023 1100 3 (leaf 9) (lit≤ tt) (lit< tt)) in
+    record {
+      checked = countdown-checked;
+      labelled = lit< tt;
+      holds = (
+        held .gives-value 1102 6606 (number 9) .0 (from-first 1101 (leaf 9) ∙ ap (after 2) (ends-down 1100 3 9 (lit< tt)) ∙ after-more 2 6604 _),
+        λ n v ends.
+            gives-not n _ tooManyCalls _ v (sym (held .gives-value mostCalls n v .1 ends) ∙ from-first 1023 (leaf 9) ∙ stops-first .stopped),
+      );
+    }
+
+-- ---- endless
+
+-- Call 0 on 0 is within the limits and passes both passes
+again-checked : Checked again
+unfolding order passOne passOver atEntry roomy wordsTested bareNumber typed named enteredAll entered startOf passTwo walkAll noneLeft walk takeHead resultType isInt fits nth signatureOf again numbered programOf on
+again-checked = record { lawful = again-passes .lawful; passes = refl }
+
+-- its evaluation is endless
+endless : Witness again two-leaves (Endless again two-leaves)
+unfolding two-leaves
+endless = record { checked = again-checked; labelled = (lit< tt, lit< tt); holds = again-endless two-leaves }

@@ -1,9 +1,9 @@
 -- Laws of records: flat records and the records read from them determine one another, and so do kinds and the node records that are read.
 use Prim.Native.Nat.{ℕ, zero, suc, _+_, _*_, _^_, _≤_, _<_}
 use mathlib.Core.Bool.{true, _&&_}
-use mathlib.Core.List.{List, [], _∷_, _++_, append-assoc}
+use mathlib.Core.List.{List, [], _∷_, _++_, append-assoc, map}
 use mathlib.Core.Logic.{_≢_}
-use mathlib.Core.Option.{Option, none, some}
+use mathlib.Core.Option.{Option, none, some, Option·map}
 use mathlib.Core.Path.{_≡_, refl, sym, ap, ap₂, subst, _∙_}
 use native.Mathlib.Nat.{add-assoc, lt-of-lt-of-le, le-of-suc-le-suc}
 use native.Mathlib.Numerals.{towards-suc}
@@ -20,6 +20,19 @@ use Rattle.formats.specs.Programs.{InRange, Every}
 use Rattle.formats.specs.Rows.{headerIn, nodeAt, nodeIn}
 use Rattle.formats.proofs.Numbers.{length-bytesOf, bytesOf-numberAt, bytes-append, bytes-bytesOf, numberAt-fits, numberAt-behind, numberAt-there}
 use Rattle.formats.proofs.Results.{done-not, check-inv, both-held}
+
+-- ---- entries of a mapped list
+
+-- they are the mapped entries
+pub nth-map : {A B : Type 0} (h : A → B) (xs : List A) (k : ℕ) → nth (map h xs) k ≡ Option·map h (nth xs k)
+unfolding nth
+nth-map h [] k = refl
+nth-map h (x ∷ xs) zero = refl
+nth-map h (x ∷ xs) (suc k) = nth-map h xs k
+
+-- so where a list has an entry, the mapped list has the mapped one
+pub nth-mapped : {A B : Type 0} (h : A → B) (xs : List A) (k : ℕ) (x : A) → nth xs k ≡ some x → nth (map h xs) k ≡ some (h x)
+nth-mapped h xs k x e = nth-map h xs k ∙ ap (Option·map h) e
 
 -- ---- numbers above the last, in a list of kinds or the like
 

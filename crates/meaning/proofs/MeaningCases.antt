@@ -11,7 +11,7 @@ use Rattle.formats.proofs.ProgramCases.{grow}
 use Rattle.rules.proofs.Cases.{numbered, treed, taking, programOf, on, with-one, swap}
 use Rattle.meaning.specs.Levels.{atLevel}
 use Rattle.meaning.specs.Running.{mostCalls}
-use Rattle.meaning.specs.Evaluation.{Value, number, tree, Environment, picked, branch, inBranch, Takes, Const, Var, Add, IfZero, Let, Leaf, Node, Case, Call, no-more, one-more, resultNumber}
+use Rattle.meaning.specs.Evaluation.{Value, number, tree, Environment, picked, branch, inBranch, Takes, Const, Var, Add, IfZero, Let, Leaf, Node, Case, Call, no-more, one-more, ifZeroUnits, caseUnits, counted, unitsIn, resultNumber}
 use Rattle.meaning.specs.OpenCalls.{Outcome, gives, stops, begins, next, numberOr, treeOr, resultTree, evaluate, evaluateArgs, firstRecord, called, evaluation, within}
 
 -- ---- programs
@@ -210,3 +210,22 @@ picks = programOf (numbered (const 9) ∷ taking (var 0) ∷ [])
 argument-derived : Takes picks named (with-one 1 0 (var 0)) 2 3 (number 6)
 unfolding atLevel nth named picks numbered taking programOf with-one
 argument-derived = Call (one-more (Var refl) no-more) refl refl (Var refl)
+
+-- The units of each: the table's column "units", summed over the expressions begun.
+units-summed :
+    (unitsIn const-derived
+    ∷ unitsIn var-derived
+    ∷ unitsIn add-derived
+    ∷ unitsIn zero-derived
+    ∷ unitsIn other-derived
+    ∷ unitsIn let-derived
+    ∷ unitsIn leaf-derived
+    ∷ unitsIn node-derived
+    ∷ unitsIn case-derived
+    ∷ unitsIn right-derived
+    ∷ unitsIn call-derived
+    ∷ unitsIn argument-derived
+    ∷ [])
+    ≡ 1 ∷ 1 ∷ 3 ∷ 4 ∷ 3 ∷ 3 ∷ 3 ∷ 7 ∷ 5 ∷ 6 ∷ 7 ∷ 4 ∷ []
+unfolding counted ifZeroUnits caseUnits const-derived var-derived add-derived zero-derived other-derived let-derived leaf-derived node-derived case-derived right-derived call-derived argument-derived
+units-summed = refl

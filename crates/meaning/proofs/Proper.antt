@@ -6,7 +6,7 @@
 -- of "Program file".
 use Prim.Native.Nat.{ℕ, zero, suc, _+_, _^_, _≤_, _<_}
 use mathlib.Core.List.{List, [], _∷_, map}
-use mathlib.Core.Option.{some, Option·some-injective, Option·none-ne-some}
+use mathlib.Core.Option.{some, Option·some-injective, Option·none-ne-some, map-eq-some-iff}
 use mathlib.Core.Path.{_≡_, refl, sym, ap, _∙_}
 use native.Mathlib.Omega.{arith}
 use lib.ListN.{length}
@@ -15,6 +15,7 @@ use Rattle.formats.specs.Records.{Call, nth}
 use Rattle.formats.specs.Programs.{Expr, const, var, add, ifZero, letIn, leafOf, nodeOf, caseOf, call, Args, noArgs, arg, prefix, prefixes}
 use Rattle.formats.specs.Programs.{countArgs, Applied, AppliedArgs, Sort, numberValued, treeValued, Signature, arityOf, Function, signatureOf}
 use Rattle.formats.specs.Programs.{Program, signatures, mostParameters, InRange, Every, LawfulFunctions}
+use Rattle.formats.proofs.Records.{nth-map}
 use Rattle.formats.proofs.Programs.{every-left, every-right}
 use Rattle.rules.specs.Types.{Ty, resultType}
 use Rattle.rules.specs.Scopes.{scope, startOf, entered, enteredAll}
@@ -67,24 +68,12 @@ pub record ProperProgram (program : Program) : Type 0 where
 -- ---- what passes is proper
 
 -- a sort is known by its values' type
-sort-by-type : (s u : Sort) → resultType s ≡ resultType u → s ≡ u
+pub sort-by-type : (s u : Sort) → resultType s ≡ resultType u → s ≡ u
 unfolding resultType
 sort-by-type numberValued numberValued e = refl
 sort-by-type numberValued treeValued e = cc
 sort-by-type treeValued numberValued e = cc
 sort-by-type treeValued treeValued e = refl
-
--- an entry of a mapped list comes from one of the list
-record Mapped {A B : Type 0} (h : A → B) (xs : List A) (k : ℕ) (y : B) : Type 0 where
-  entry : A
-  there : nth xs k ≡ some entry
-  gives : h entry ≡ y
-
-nth-map : {A B : Type 0} (h : A → B) (xs : List A) (k : ℕ) (y : B) → nth (map h xs) k ≡ some y → Mapped h xs k y
-unfolding nth
-nth-map h [] k y e = absurd (Option·none-ne-some y e)
-nth-map h (x ∷ xs) zero y e = record { entry = x; there = refl; gives = Option·some-injective (h x) y e }
-nth-map h (x ∷ xs) (suc k) y e = let m = nth-map h xs k y e in record { entry = m .entry; there = m .there; gives = m .gives }
 
 module _ (fs : List Function) where
   -- Their signatures.
@@ -139,11 +128,11 @@ module _ (fs : List Function) where
         (passing w _ q (parts .2) (every-right _ (prefix p) (prefix q) (ranged .1)) (applied .1))
     passing {g} {n} {s} w r (call a b xs) h ranged applied =
         let c = pass-call _ g n w r _ a b xs h in
-        let m = nth-map signatureOf fs b (c .signature) (c .known) in
-        let same : resultType s ≡ resultType (m .entry .sort) = c .same ∙ ap (λ u. resultType (u .sort)) (sym (m .gives)) in
-        let many : countArgs xs ≡ m .entry .parameters = rw (c .known, arityOf) at (applied .0) ∙ ap (λ u. u .parameters) (sym (m .gives)) in
+        let (f, known, its) = map-eq-some-iff signatureOf (nth fs b) .0 (sym (nth-map signatureOf fs b) ∙ c .known) in
+        let same : resultType s ≡ resultType (f .sort) = c .same ∙ ap (λ u. resultType (u .sort)) (sym its) in
+        let many : countArgs xs ≡ f .parameters = rw (c .known, arityOf) at (applied .0) ∙ ap (λ u. u .parameters) (sym its) in
         let args = passing-args w _ _ a b 0 xs (c .arguments) (ranged .1) (applied .1) in
-        proper-call (c .bound) (m .there) (sort-by-type s (m .entry .sort) same) (rw many at args)
+        proper-call (c .bound) known (sort-by-type s (f .sort) same) (rw many at args)
 
     -- a Call's arguments from part i on, where τ is expected of the Call
     passing-args : {g n : ℕ} (w r : ℕ) (τ : Ty) (a b i : ℕ) (xs : Args)

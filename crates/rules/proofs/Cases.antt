@@ -40,7 +40,7 @@ unfoldable pub with-one : ℕ → ℕ → Expr → Expr
 with-one b a x = call a b (arg x noArgs)
 
 -- So many Lets around a body; so many Cases, each in the node part of the one before it, on the tree at the head.
-lets : ℕ → Expr → Expr
+unfoldable pub lets : ℕ → Expr → Expr
 lets zero body = body
 lets (suc k) body = letIn (const 1) (lets k body)
 

@@ -1,14 +1,15 @@
 -- Where instructions stand: the code of an expression ends where `behind` says, so joined code stands part behind part.
-use Prim.Native.Nat.{ℕ, zero, suc, _+_}
+use Prim.Native.Nat.{ℕ, suc, _+_}
 use mathlib.Core.List.{List, [], _∷_, _++_}
 use mathlib.Core.Option.{Option, some}
-use mathlib.Core.Path.{_≡_, refl, sym, ap, _∙_}
-use native.Mathlib.Nat.{add-zero, add-suc, add-assoc}
+use mathlib.Core.Path.{_≡_, refl, sym, _∙_}
+use native.Mathlib.Nat.{add-zero, suc-add, add-suc}
 use native.Mathlib.Omega.{arith}
 use lib.ListN.{length, length-append}
-use Rattle.formats.specs.Programs.{Expr, const, var, add, ifZero, letIn, leafOf, nodeOf, caseOf, call, Args, noArgs, arg, Sort, numberValued, treeValued}
+use Rattle.formats.specs.Records.{nth}
+use Rattle.formats.specs.Programs.{Expr, const, var, add, ifZero, letIn, leafOf, nodeOf, caseOf, call, Args, noArgs, arg, Sort}
 use Rattle.meaning.specs.Instructions.{Instruction, Operation, instructionOf}
-use Rattle.translation.specs.Templates.{behind, behindArgs, Words, code, codeArgs, endOf}
+use Rattle.translation.specs.Templates.{behind, behindArgs, Words, code, codeArgs}
 
 -- ---- the address behind code
 
@@ -50,43 +51,46 @@ module _ (entries : ℕ → ℕ) where
   pub length-code : (s : Sort) (words : Words) (w a : ℕ) (e : Expr) → a + length (code entries s words w a e) ≡ behind e a
   length-code s words w a e = span s words w a e .long
 
-  pub length-args : (words : Words) (w a : ℕ) (xs : Args) → a + length (codeArgs entries words w a xs) ≡ behindArgs xs a
+  length-args : (words : Words) (w a : ℕ) (xs : Args) → a + length (codeArgs entries words w a xs) ≡ behindArgs xs a
   length-args words w a xs = span-args words w a xs .long
 
 -- ---- instructions from an address on
 
--- These stand there, one behind the other.
-abbrev pub At : (ℕ → Option Instruction) → ℕ → List Operation → Type 0
-At holds a [] = Unit {0}
-At holds a (op ∷ ops) = (holds a ≡ some (instructionOf op)) × At holds (suc a) ops
+-- These stand there, one behind the other. `Has a op` says what it is for op to stand at address a: in a list, or in a machine's code.
+abbrev pub At : (Has : ℕ → Operation → Type 0) → ℕ → List Operation → Type 0
+At Has a [] = Unit {0}
+At Has a (op ∷ ops) = Has a op × At Has (suc a) ops
 
-module _ (holds : ℕ → Option Instruction) where
-  -- joined ones stand part behind part
-  at-left : (a : ℕ) (xs ys : List Operation) → At holds a (xs ++ ys) → At holds a xs
-  at-left a [] ys h = tt
-  at-left a (x ∷ xs) ys h = (h .0, at-left (suc a) xs ys (h .1))
+-- In a machine's code.
+abbrev pub Held : (ℕ → Option Instruction) → ℕ → Operation → Type 0
+Held holds a op = holds a ≡ some (instructionOf op)
 
-  at-right : (a b : ℕ) (xs ys : List Operation) → a + length xs ≡ b → At holds a (xs ++ ys) → At holds b ys
-  at-right a b [] ys e h = rw (sym e ∙ add-zero a) h
-  at-right a b (x ∷ xs) ys e h = at-right (suc a) b xs ys (omega arith) (h .1)
+module _ (Has : ℕ → Operation → Type 0) where
+  -- they do where each of them stands at its number, counted from a on
+  pub each-at : (a : ℕ) (ops : List Operation) → ((i : ℕ) (op : Operation) → nth ops i ≡ some op → Has (a + i) op) → At Has a ops
+  unfolding nth
+  each-at a [] h = tt
+  each-at a (op ∷ ops) h = (rw add-zero at (h 0 op refl), each-at (suc a) ops (λ i x e. rw (suc-add, ← add-suc) (h (suc i) x e)))
 
-  -- an expression's code, and what follows it
+  -- Joined ones stand part behind part.
   pub record Split (a b : ℕ) (xs ys : List Operation) : Type 0 where
-    pub first : At holds a xs
-    pub then : At holds b ys
+    pub first : At Has a xs
+    pub then : At Has b ys
 
+  split : (a b : ℕ) (xs ys : List Operation) → a + length xs ≡ b → At Has a (xs ++ ys) → Split a b xs ys
+  split a b [] ys e h = record { first = tt; then = rw (sym e ∙ add-zero a) h }
+  split a b (x ∷ xs) ys e h =
+      let rest = split (suc a) b xs ys (omega arith) (h .1) in record { first = (h .0, rest .first); then = rest .then }
+
+  -- so do the code of an expression, or of arguments, and what follows it
   pub at-code :
       (entries : ℕ → ℕ) (s : Sort) (words : Words) (w a : ℕ) (e : Expr) (ys : List Operation)
-      → At holds a (code entries s words w a e ++ ys)
+      → At Has a (code entries s words w a e ++ ys)
       → Split a (behind e a) (code entries s words w a e) ys
-  at-code entries s words w a e ys h =
-      let xs = code entries s words w a e in
-      record { first = at-left a xs ys h; then = at-right a (behind e a) xs ys (length-code entries s words w a e) h }
+  at-code entries s words w a e ys = split a (behind e a) (code entries s words w a e) ys (length-code entries s words w a e)
 
   pub at-args :
       (entries : ℕ → ℕ) (words : Words) (w a : ℕ) (xs : Args) (ys : List Operation)
-      → At holds a (codeArgs entries words w a xs ++ ys)
+      → At Has a (codeArgs entries words w a xs ++ ys)
       → Split a (behindArgs xs a) (codeArgs entries words w a xs) ys
-  at-args entries words w a xs ys h =
-      let ops = codeArgs entries words w a xs in
-      record { first = at-left a ops ys h; then = at-right a (behindArgs xs a) ops ys (length-args entries words w a xs) h }
+  at-args entries words w a xs ys = split a (behindArgs xs a) (codeArgs entries words w a xs) ys (length-args entries words w a xs)

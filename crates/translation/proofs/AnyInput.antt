@@ -32,7 +32,7 @@ carries-node :
 carries-node {p = p} k h = a-node (tag-is k) (carries-place (sym (add-one p)) h)
 
 -- a tree that stands at a place is carried there, in front of what is carried behind it
-pub carries-tree :
+carries-tree :
     {Faulty : Type 0} (s : List ℕ) (end p : ℕ) (t : Tree) (ts : List Tree)
     → Labelled t
     → Lies s p (tokens t)

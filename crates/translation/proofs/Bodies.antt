@@ -1,4 +1,5 @@
--- What the order checker has found of each function of a checked program: its body stays within 16 words, and the walk of pass two goes through it.
+-- What the order checker has found of a checked program: it passes pass one; and each function's body stays within 16 words, and the walk of pass two
+-- goes through it.
 --
 -- The order checker passes a program exactly where the rules admit each of its functions (rules, OrderChecker, field `passes`). So it is enough to
 -- find a function by its number among those that are admitted.
@@ -9,12 +10,19 @@ use mathlib.Core.Path.{_≡_, subst}
 use Rattle.formats.specs.Results.{done}
 use Rattle.formats.specs.Records.{nth}
 use Rattle.formats.specs.Programs.{size, Signature, Function, Program, signatures}
-use Rattle.rules.specs.PassOne.{mostWords, wordsOf}
-use Rattle.rules.specs.PassTwo.{walk}
+use Rattle.formats.proofs.Results.{then-inv}
+use Rattle.rules.specs.PassOne.{mostWords, wordsOf, passOne}
+use Rattle.rules.specs.PassTwo.{walk, order}
 use Rattle.rules.specs.OrderChecker.{firstNode, AdmittedFunction, AdmittedFrom}
 use Rattle.rules.proofs.PassTwo.{walks}
 use Rattle.rules.proofs.OrderChecker.{order-checker}
+use Rattle.meaning.specs.Meaning.{PassesOne}
 use Rattle.translation.specs.Demand3.{Checked}
+
+-- a checked program passes pass one
+pub passes-one : (program : Program) → Checked program → PassesOne program
+unfolding order
+passes-one program c = record { lawful = c .lawful; passes = then-inv (passOne program) _ tt (c .passes) .first }
 
 -- A function's body, within the limit of words, and walked through from its one tree to none, its first node at some record.
 pub record CheckedBody (gs : List Signature) (f : Function) : Type 0 where

@@ -1,14 +1,13 @@
 -- What names stand for while code runs: numbers on words of the frame, trees still to come in the input.
-use Prim.Native.Nat.{ℕ, zero, suc, _+_, _≤_, _<_}
+use Prim.Native.Nat.{ℕ, suc, _+_, _≤_, _<_}
 use mathlib.Core.Bool.{Bool, true, false}
 use mathlib.Core.List.{List, [], _∷_}
 use mathlib.Core.Option.{Option, none, some, Option·some-injective, Option·none-ne-some}
 use mathlib.Core.Path.{_≡_, refl, sym, ap, _∙_}
-use native.Mathlib.Omega.{arith}
 use lib.Dec.{eqb}
 use lib.ListN.{length}
 use Rattle.formats.specs.Numbers.{numberAt}
-use Rattle.formats.specs.Tokens.{Tree, leaf, node, labelBytes, Tag, ended, aLeaf, aNode, other, tagAt}
+use Rattle.formats.specs.Tokens.{Tree, leaf, node, labelBytes, ended, aLeaf, aNode, other, tagAt}
 use Rattle.meaning.specs.Levels.{atLevel}
 use Rattle.meaning.proofs.Levels.{level-newest, level-kept}
 use Rattle.translation.specs.Templates.{Words, wordOf, firstWords}

@@ -9,22 +9,26 @@ use Rattle.formats.specs.Results.{done}
 use Rattle.formats.specs.Tokens.{Tree, leaf, node, tokens, tagOf, tagAt}
 use Rattle.formats.specs.Records.{bytesOfRecord, flat, recordAt, nth}
 use Rattle.formats.specs.Programs.{Expr, const, var, add, ifZero, letIn, leafOf, nodeOf, caseOf, prefix, prefixes, size, countArgs, signatureOf}
-use Rattle.formats.specs.Programs.{numberValued, Program}
+use Rattle.formats.specs.Programs.{numberValued, treeValued, Function, Program}
 use Rattle.formats.specs.Written.{written}
 use Rattle.formats.proofs.ProgramCases.{grow}
 use Rattle.rules.specs.Types.{isInt, isTree, fits, resultType}
 use Rattle.rules.specs.Scopes.{inside, startOf, entered, enteredArgs, enteredAll}
 use Rattle.rules.specs.PassOne.{named, typed, bareNumber, wordsTested, roomy, atEntry, passOver, passOne}
 use Rattle.rules.specs.PassTwo.{takeHead, sameNames, joined, walk, walkArgs, noneLeft, walkAll, passTwo, order}
-use Rattle.rules.proofs.Cases.{numbered, treed, programOf, on}
+use Rattle.rules.proofs.Cases.{numbered, treed, programOf, on, with-one}
 use Rattle.meaning.specs.Levels.{atLevel}
 use Rattle.meaning.specs.Instructions.{Operation, Push, Get, Add, Ifnot, Jump, Slide, Drop, LeafTag, NodeTag, WriteNumber, ReadTag, ReadNumber, Call, Return}
 use Rattle.meaning.specs.Instructions.{heldBy, operations, operationOf, instructionOf}
-use Rattle.meaning.specs.Performing.{wordsBelow, standing, opened, one, two, room, push, write, byTag, readNumber, call, kept, numberKept, leave, operate, perform, step}
+use Rattle.meaning.specs.Performing.{wordsBelow, standing, opened, one, two, room, push, write}
+use Rattle.meaning.specs.Performing.{byTag, readNumber, call, kept, numberKept, leave, operate, perform, step}
 use Rattle.meaning.specs.Running.{Ran, run, outcomeOf, numberTold, streamRun, valueWords, returnWords}
+use Rattle.meaning.specs.Evaluation.{tree, branch, inBranch, Const as Literal, Var as Named, Add as Plus, Leaf as LeafOf, Case as CaseOn, Ends, caseUnits, counted}
 use Rattle.meaning.proofs.Cases.{blank, ended-with, refused-with}
 use Rattle.meaning.proofs.MeaningCases.{again, sum, two-leaves, on-two}
-use Rattle.translation.specs.Templates.{behind, behindArgs, wordOf, firstWords, endOf, code, codeArgs, wordsKept, functionCode, behindFunction, entryFrom, functionsCode, entryOf, operationsOf, codeOf}
+use Rattle.translation.specs.EveryRun.{unitsOf}
+use Rattle.translation.specs.Templates.{behind, behindArgs, wordOf, firstWords, endOf, code, codeArgs, wordsKept}
+use Rattle.translation.specs.Templates.{functionCode, behindFunction, entryFrom, functionsCode, entryOf, operationsOf, codeOf}
 
 -- ---- programs
 
@@ -63,6 +67,31 @@ three-functions =
     ∷ numbered (caseOf 0 (var 0) (add (on 2 1) (on 2 2)))
     ∷ [])
 
+-- Names bound by a Let in each part that begins with words of its own count: both parts of an IfZero, Leaf's, Node's, Case's node part (two Lets), and
+-- the body of a function with a number.
+names-in-parts : Program
+names-in-parts =
+    programOf
+    (treed
+    (caseOf 0
+    (ifZero (var 0)
+    (leafOf (letIn (const 7) (var 1)))
+    (nodeOf (letIn (const 8) (leafOf (var 1))) (letIn (const 9) (leafOf (var 1)))))
+    (letIn (const 5) (letIn (const 6) (nodeOf (with-one 1 1 (var 1)) (on 0 2)))))
+    ∷ record {
+      sort = treeValued;
+      parameters = 1;
+      body = letIn (const 4) (caseOf 0 (leafOf (add (var 1) (var 2))) (nodeOf (with-one 1 1 (var 0)) (with-one 1 2 (var 1))));
+    }
+    ∷ [])
+
+-- What an optimiser would leave out: a test of a constant, a Let of a name, a function that is written twice, one that is never called.
+doubled : Function
+doubled = numbered (caseOf 0 (letIn (var 0) (add (var 0) (var 1))) (add (on 1 1) (on 2 2)))
+
+as-written : Program
+as-written = programOf (numbered (ifZero (const 0) (on 1 0) (on 2 0)) ∷ doubled ∷ doubled ∷ numbered (on 3 0) ∷ [])
+
 -- ---- listings
 
 -- A program and its instructions, in order.
@@ -95,15 +124,26 @@ listings =
     ∷ Get 0 ∷ Ifnot 10 ∷ Call 14 0 ∷ Jump 13 ∷ Get 1 ∷ Call 14 0 ∷ Add ∷ Return 1
     ∷ ReadTag 19 ∷ ReadNumber ∷ Get 0 ∷ Slide ∷ Jump 22 ∷ Call 14 0 ∷ Call 14 0 ∷ Add ∷ Return 1 ∷ [])
     ∷ lists again (Call 0 0 ∷ Return 1 ∷ [])
+    ∷ lists names-in-parts
+    (ReadTag 23 ∷ ReadNumber ∷ Get 0 ∷ Ifnot 10 ∷ LeafTag ∷ Push 7 ∷ Get 1 ∷ Slide ∷ WriteNumber ∷ Jump 21
+    ∷ NodeTag ∷ Push 8 ∷ LeafTag ∷ Get 1 ∷ WriteNumber ∷ Drop ∷ Push 9 ∷ LeafTag ∷ Get 1 ∷ WriteNumber ∷ Drop ∷ Drop ∷ Jump 31
+    ∷ Push 5 ∷ Push 6 ∷ NodeTag ∷ Get 1 ∷ Call 32 1 ∷ Call 0 0 ∷ Drop ∷ Drop ∷ Return 0
+    ∷ Push 4 ∷ ReadTag 42 ∷ ReadNumber ∷ LeafTag ∷ Get 1 ∷ Get 2 ∷ Add ∷ WriteNumber ∷ Drop ∷ Jump 47
+    ∷ NodeTag ∷ Get 0 ∷ Call 32 1 ∷ Get 1 ∷ Call 32 1 ∷ Drop ∷ Return 0 ∷ [])
+    ∷ lists as-written
+    (Push 0 ∷ Ifnot 4 ∷ Call 6 0 ∷ Jump 5 ∷ Call 19 0 ∷ Return 1
+    ∷ ReadTag 15 ∷ ReadNumber ∷ Get 0 ∷ Get 0 ∷ Get 1 ∷ Add ∷ Slide ∷ Slide ∷ Jump 18 ∷ Call 6 0 ∷ Call 19 0 ∷ Add ∷ Return 1
+    ∷ ReadTag 28 ∷ ReadNumber ∷ Get 0 ∷ Get 0 ∷ Get 1 ∷ Add ∷ Slide ∷ Slide ∷ Jump 31 ∷ Call 6 0 ∷ Call 19 0 ∷ Add ∷ Return 1
+    ∷ Call 32 0 ∷ Return 1 ∷ [])
     ∷ []
 
 as-listed : map (λ l. operationsOf (l .of)) listings ≡ map (λ l. l .lines) listings
-unfolding operationsOf entryOf functionsCode entryFrom behindFunction functionCode wordsKept code codeArgs endOf firstWords wordOf behind behindArgs atLevel countArgs grow sum again numbered treed programOf on on-two summing growing zero-counted zero-marked let-number let-tree under-temporary three-functions lists listings
+unfolding operationsOf entryOf functionsCode entryFrom behindFunction functionCode wordsKept code codeArgs endOf firstWords wordOf behind behindArgs atLevel countArgs grow sum again numbered treed programOf on on-two summing growing zero-counted zero-marked let-number let-tree under-temporary three-functions names-in-parts doubled as-written with-one lists listings
 as-listed = refl
 
 -- both passes accept these programs
-all-pass : map (λ l. order (l .of)) listings ≡ replicate 9 (done tt)
-unfolding order passOne passOver atEntry roomy wordsTested bareNumber typed named enteredAll entered enteredArgs inside startOf passTwo walkAll noneLeft walk walkArgs joined sameNames takeHead resultType isInt isTree fits size prefix prefixes nth signatureOf grow sum again numbered treed programOf on on-two summing growing zero-counted zero-marked let-number let-tree under-temporary three-functions lists listings
+all-pass : map (λ l. order (l .of)) listings ≡ replicate 11 (done tt)
+unfolding order passOne passOver atEntry roomy wordsTested bareNumber typed named enteredAll entered enteredArgs inside startOf passTwo walkAll noneLeft walk walkArgs joined sameNames takeHead resultType isInt isTree fits size prefix prefixes nth signatureOf grow sum again numbered treed programOf on on-two summing growing zero-counted zero-marked let-number let-tree under-temporary three-functions names-in-parts doubled as-written with-one lists listings
 all-pass = refl
 
 -- Grow's code: 8 bytes for each instruction.
@@ -149,6 +189,7 @@ runs =
     row grow two-leaves 25 12 (ended-with 25 11 0 (2 ∷ 1 ∷ 6 ∷ 0 ∷ 0 ∷ 0 ∷ 1 ∷ 8 ∷ 0 ∷ 0 ∷ 0 ∷ []) (blank 1))
     ∷ row grow two-leaves 24 12 (refused-with 14 24 11 (2 ∷ 1 ∷ 6 ∷ 0 ∷ 0 ∷ 0 ∷ 1 ∷ 8 ∷ 0 ∷ 0 ∷ 0 ∷ []) (blank 1))
     ∷ row grow two-leaves 25 10 (refused-with 17 20 11 (2 ∷ 1 ∷ 6 ∷ 0 ∷ 0 ∷ 0 ∷ 1 ∷ []) (blank 3))
+    ∷ row grow (leaf 5) 10 6 (ended-with 10 5 0 (1 ∷ 6 ∷ 0 ∷ 0 ∷ 0 ∷ []) (blank 1))
     ∷ row sum (node (leaf 2147483647) (leaf 1)) 17 2 (ended-with 17 11 2147483648 [] (blank 2))
     ∷ row zero-counted (leaf 0) 9 2 (ended-with 9 5 1 [] (blank 2))
     ∷ row zero-counted (leaf 9) 8 2 (ended-with 8 5 2 [] (blank 2))
@@ -160,10 +201,25 @@ runs =
     ∷ row under-temporary two-leaves 33 2 (ended-with 33 11 19 [] (blank 2))
     ∷ row three-functions (leaf 9) 18 2 (ended-with 18 5 12 [] (blank 2))
     ∷ row three-functions two-leaves 29 2 (ended-with 29 11 15 [] (blank 2))
+    ∷ row names-in-parts (leaf 0) 13 6 (ended-with 13 5 0 (1 ∷ 7 ∷ 0 ∷ 0 ∷ 0 ∷ []) (blank 1))
+    ∷ row names-in-parts two-leaves 40 18
+    (ended-with 40 11 0 (2 ∷ 1 ∷ 9 ∷ 0 ∷ 0 ∷ 0 ∷ 2 ∷ 1 ∷ 8 ∷ 0 ∷ 0 ∷ 0 ∷ 1 ∷ 9 ∷ 0 ∷ 0 ∷ 0 ∷ []) (blank 1))
+    ∷ row as-written two-leaves 30 2 (ended-with 30 11 24 [] (blank 2))
     ∷ row again two-leaves 1023 2 (refused-with 14 1023 0 [] (blank 2))
     ∷ row again two-leaves 1024 2 (refused-with 18 1023 0 [] (blank 2))
     ∷ []
 
 as-told : map ranOn runs ≡ map (λ r. r .gives) runs
-unfolding streamRun run step perform operate heldBy operationOf operations instructionOf nth recordAt flat bytesOfRecord bytesOf numberOf numberAt sum32 tagAt tagOf written standing wordsBelow opened atLevel one two room push write byTag readNumber call kept numberKept leave outcomeOf numberTold blank ended-with refused-with tokens two-leaves codeOf operationsOf entryOf functionsCode entryFrom behindFunction functionCode wordsKept code codeArgs endOf firstWords wordOf behind behindArgs countArgs grow sum again numbered treed programOf on on-two summing growing zero-counted zero-marked let-number let-tree under-temporary three-functions row ranOn runs
+unfolding streamRun run step perform operate heldBy operationOf operations instructionOf nth recordAt flat bytesOfRecord bytesOf numberOf numberAt sum32 tagAt tagOf written standing wordsBelow opened atLevel one two room push write byTag readNumber call kept numberKept leave outcomeOf numberTold blank ended-with refused-with tokens two-leaves codeOf operationsOf entryOf functionsCode entryFrom behindFunction functionCode wordsKept code codeArgs endOf firstWords wordOf behind behindArgs countArgs grow sum again numbered treed programOf on on-two summing growing zero-counted zero-marked let-number let-tree under-temporary three-functions names-in-parts doubled as-written with-one row ranOn runs
 as-told = refl
+
+-- ---- units
+
+-- Grow on a leaf 5, by hand: Case, Leaf, Add, Var and Const. Its units are those of the run, in the table above.
+grow-on-leaf : Ends grow (leaf 5) 1 5 (tree (leaf 6))
+unfolding grow nth atLevel branch inBranch sum32
+grow-on-leaf = record { first = _; is-first = refl; takes = CaseOn refl (LeafOf (Plus (Named refl) Literal)) }
+
+grow-units : unitsOf grow-on-leaf ≡ 10
+unfolding counted caseUnits grow-on-leaf
+grow-units = refl

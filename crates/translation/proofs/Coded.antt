@@ -4,28 +4,27 @@
 -- templates, part behind part. Both are read off together, by recursion on the expression.
 use Prim.Native.Nat.{ℕ, zero, suc, _+_}
 use mathlib.Core.Bool.{true, false≢true}
-use mathlib.Core.List.{List, [], _∷_, map}
+use mathlib.Core.List.{List, [], _∷_}
 use mathlib.Core.Option.{Option, none, some, Option·some-injective, Option·none-ne-some}
 use mathlib.Core.Path.{_≡_, refl}
 use Rattle.formats.specs.Records.{Kind, Call as CallRecord, nth}
 use Rattle.formats.specs.Programs.{Expr, const, var, add, ifZero, letIn, leafOf, nodeOf, caseOf, call, Args, noArgs, arg, size, countArgs}
-use Rattle.formats.specs.Programs.{Sort, numberValued, treeValued, Function, signatureOf, Signature, Program, signatures, Every}
+use Rattle.formats.specs.Programs.{Sort, numberValued, treeValued, Function, signatureOf, Program, signatures, Every}
+use Rattle.formats.proofs.Records.{nth-map}
 use Rattle.formats.proofs.Programs.{every-left, every-right}
-use Rattle.rules.specs.Types.{Ty, resultType, isInt, isTree, fits}
+use Rattle.rules.specs.Types.{Ty, resultType, fits}
 use Rattle.rules.specs.Scopes.{Scope, scope, inside, startOf, entered, enteredArgs, enteredAll}
 use Rattle.rules.specs.PassOne.{typed}
 use Rattle.rules.specs.OrderChecker.{firstNode}
-use Rattle.meaning.specs.Instructions.{Operation, Push, Get, Add, Ifnot, Jump, LeafTag, NodeTag, WriteNumber, ReadTag, ReadNumber, Call, Return}
-use Rattle.translation.specs.Templates.{behind, behindArgs, Words, endOf, code, codeArgs, wordsKept, entryOf, operationsOf}
+use Rattle.rules.proofs.PassOne.{fits-is}
+use Rattle.meaning.specs.Instructions.{Push, Get, Add, Ifnot, Jump, LeafTag, NodeTag, WriteNumber, ReadTag, ReadNumber, Call, Return}
+use Rattle.meaning.proofs.Proper.{sort-by-type}
+use Rattle.translation.specs.Templates.{behind, behindArgs, Words, endOf, code, codeArgs, wordsKept, entryOf}
 use Rattle.translation.specs.CodeLimits.{Sound}
 use Rattle.translation.proofs.Addresses.{At, at-code, at-args}
-use Rattle.translation.proofs.CodeStands.{code-stands, placesOf, places-stand, placed-is}
+use Rattle.translation.proofs.CodeStands.{Holds, code-stands}
 
 -- ---- code in its place
-
--- An instruction of the program, at its address.
-abbrev pub Holds : Program → ℕ → Operation → Type 0
-Holds program a op = nth (operationsOf program) a ≡ some op
 
 -- `Coded program s e a b`: the expression e has a value of sort s, and its code stands from address a to the one before b.
 mutual
@@ -89,31 +88,9 @@ mutual
         → CodedArgs program xs b c
         → CodedArgs program (arg x xs) a c
 
--- ---- sorts by their tests
-
 -- a value's sort is known by the test of its type
 fits-sort : (u s : Sort) → fits u (resultType s) ≡ true → s ≡ u
-unfolding fits isInt isTree resultType
-fits-sort numberValued numberValued e = refl
-fits-sort numberValued treeValued e = absurd (false≢true e)
-fits-sort treeValued numberValued e = absurd (false≢true e)
-fits-sort treeValued treeValued e = refl
-
--- A function's signature, if there is one.
-abbrev signatureIn : Option Function → Option Signature
-signatureIn o = elim o [ none ↦ none | some f ↦ some (signatureOf f) ]
-
--- a signature is that of the function in its place
-nth-signature : (fs : List Function) (k : ℕ) → nth (map signatureOf fs) k ≡ signatureIn (nth fs k)
-unfolding nth
-nth-signature [] k = refl
-nth-signature (f ∷ fs) zero = refl
-nth-signature (f ∷ fs) (suc k) = nth-signature fs k
-
--- so a function's signature stands in its place
-pub signature-known : (program : Program) (k : ℕ) (f : Function) → nth (program .functions) k ≡ some f
-    → nth (signatures program) k ≡ some (signatureOf f)
-signature-known program k f e = rw (nth-signature (program .functions) k, e)
+fits-sort u s e = sort-by-type s u (fits-is u (resultType s) e)
 
 -- ---- from sound records, with code by the templates
 
@@ -124,10 +101,6 @@ module _ (program : Program) where
 
   abbrev pub SoundArgs : Kind → ℕ → Scope → ℕ → Args → Type 0
   SoundArgs kind i sc r xs = Every (Sound (signatures program)) (enteredArgs kind i sc r xs)
-
-  -- These stand in the program from address a on.
-  abbrev Stand : ℕ → List Operation → Type 0
-  Stand a ops = At (placesOf (operationsOf program)) a ops
 
   -- a Call whose type is right is of a function whose value has that type
   pub record Called (τ : Ty) (k : ℕ) : Type 0 where
@@ -140,8 +113,8 @@ module _ (program : Program) where
   called g n w v k τ e = by-function (nth (program .functions) k) refl
     where
       by-function : (o : Option Function) → nth (program .functions) k ≡ o → Called τ k
-      by-function none h = absurd (false≢true (rw (nth-signature (program .functions) k, h, typed) at e))
-      by-function (some f) h = record { function = f; known = h; right = rw (nth-signature (program .functions) k, h, typed) at e }
+      by-function none h = absurd (false≢true (rw (nth-map signatureOf (program .functions) k, h, typed) at e))
+      by-function (some f) h = record { function = f; known = h; right = rw (nth-map signatureOf (program .functions) k, h, typed) at e }
 
   -- expression by expression: w words in pass one's scope, v in the templates'
   mutual
@@ -149,10 +122,10 @@ module _ (program : Program) where
 
     coded : (g n w r : ℕ) (s : Sort) (words : Words) (v a : ℕ) (e : Expr)
         → SoundIn (scope g n w (resultType s)) r e
-        → Stand a (code (entryOf program) s words v a e)
+        → At (Holds program) a (code (entryOf program) s words v a e)
         → Coded program s e a (behind e a)
-    coded g n w r s words v a (const i) h c = rw (fits-sort numberValued s (h .0 .1)) (coded-const (placed-is _ _ _ (c .0)))
-    coded g n w r s words v a (var k) h c = rw (fits-sort numberValued s (h .0 .1)) (coded-var (placed-is _ _ _ (c .0)))
+    coded g n w r s words v a (const i) h c = rw (fits-sort numberValued s (h .0 .1)) (coded-const (c .0))
+    coded g n w r s words v a (var k) h c = rw (fits-sort numberValued s (h .0 .1)) (coded-var (c .0))
     coded g n w r s words v a (add p q) h c =
         let left = entered (scope g n w (resultType numberValued)) (suc r) p in
         let first = at-code _ _ _ _ _ _ p _ c in
@@ -161,7 +134,7 @@ module _ (program : Program) where
         (coded-add
         (coded g n w _ numberValued words v a p (every-left _ left _ (h .1)) (first .first))
         (coded g n (suc w) _ numberValued words _ _ q (every-right _ left _ (h .1)) (second .first))
-        (placed-is _ _ _ (second .then .0)))
+        (second .then .0))
     coded g n w r s words v a (ifZero t z o) h c =
         let test = entered (scope g n w (resultType numberValued)) (suc r) t in
         let zero-part = entered (scope g n w (resultType s)) (suc r + size t) z in
@@ -170,9 +143,9 @@ module _ (program : Program) where
         let second = at-code _ _ _ _ _ _ z _ (first .then .1) in
         coded-ifZero
         (coded g n w _ numberValued words v a t (every-left _ test _ (h .1)) (first .first))
-        (placed-is _ _ _ (first .then .0))
+        (first .then .0)
         (coded g n w _ s words v _ z (every-left _ zero-part _ others) (second .first))
-        (placed-is _ _ _ (second .then .0))
+        (second .then .0)
         (coded g n w _ s words v _ o (every-right _ zero-part _ others) (second .then .1))
     coded g n w r s words v a (letIn p body) h c =
         let left = entered (scope g n w (resultType numberValued)) (suc r) p in
@@ -181,45 +154,35 @@ module _ (program : Program) where
         coded-let
         (coded g n w _ numberValued words v a p (every-left _ left _ (h .1)) (first .first))
         (coded (suc g) n (suc w) _ s _ _ _ body (every-right _ left _ (h .1)) (second .first))
-        (placed-is _ _ _ (second .then .0))
+        (second .then .0)
     coded g n w r s words v a (leafOf p) h c =
         let first = at-code _ _ _ _ _ _ p _ (c .1) in
         rw (fits-sort treeValued s (h .0 .1))
-        (coded-leaf
-        (placed-is _ _ _ (c .0))
-        (coded g n w _ numberValued words v _ p (h .1) (first .first))
-        (placed-is _ _ _ (first .then .0)))
+        (coded-leaf (c .0) (coded g n w _ numberValued words v _ p (h .1) (first .first)) (first .then .0))
     coded g n w r s words v a (nodeOf p q) h c =
         let left = entered (scope g n w (resultType treeValued)) (suc r) p in
         let first = at-code _ _ _ _ _ _ p _ (c .1) in
         rw (fits-sort treeValued s (h .0 .1))
-        (coded-node
-        (placed-is _ _ _ (c .0))
+        (coded-node (c .0)
         (coded g n w _ treeValued words v _ p (every-left _ left _ (h .1)) (first .first))
         (coded g n w _ treeValued words v _ q (every-right _ left _ (h .1)) (first .then)))
     coded g n w r s words v a (caseOf k p q) h c =
         let leaf-part = entered (scope (suc g) n (suc w) (resultType s)) (suc r) p in
         let first = at-code _ _ _ _ _ _ p _ (c .1 .1) in
-        coded-case
-        (placed-is _ _ _ (c .0))
-        (placed-is _ _ _ (c .1 .0))
+        coded-case (c .0) (c .1 .0)
         (coded (suc g) n (suc w) _ s _ _ _ p (every-left _ leaf-part _ (h .1)) (first .first))
-        (placed-is _ _ _ (first .then .0))
-        (placed-is _ _ _ (first .then .1 .0))
+        (first .then .0) (first .then .1 .0)
         (coded g (suc (suc n)) w _ s words v _ q (every-right _ leaf-part _ (h .1)) (first .then .1 .1))
     coded g n w r s words v a (call k b xs) h c =
         let f = called g n w k b (resultType s) (h .0 .1) in
         let first = at-args _ _ _ _ _ xs _ c in
         rw (fits-sort (f .function .sort) s (f .right))
-        (coded-call
-        (f .known)
-        (coded-args g n w (suc r) (resultType s) k b 0 words v a xs (h .1) (first .first))
-        (placed-is _ _ _ (first .then .0)))
+        (coded-call (f .known) (coded-args g n w (suc r) (resultType s) k b 0 words v a xs (h .1) (first .first)) (first .then .0))
 
     -- a Call's arguments from part i on, where τ is expected of the Call
     coded-args : (g n w r : ℕ) (τ : Ty) (k b i : ℕ) (words : Words) (v a : ℕ) (xs : Args)
         → SoundArgs (CallRecord k b) i (scope g n w τ) r xs
-        → Stand a (codeArgs (entryOf program) words v a xs)
+        → At (Holds program) a (codeArgs (entryOf program) words v a xs)
         → CodedArgs program xs a (behindArgs xs a)
     coded-args g n w r τ k b i words v a noArgs h c = coded-none
     coded-args g n w r τ k b i words v a (arg x xs) h c =
@@ -258,10 +221,10 @@ module _ (program : Program) where
       → (b : ℕ) (f : Function) → nth (program .functions) b ≡ some f → CodedFunction b f
   unfolding startOf
   coded-function h b f e =
-      let stands = code-stands _ program (places-stand (operationsOf program)) b f e in
+      let stands = code-stands (Holds program) program (λ a op h. h) b f e in
       let own = sound-body (firstNode program) (program .functions) h b f e in
       record {
         end = _;
         body = coded _ _ _ _ (f .sort) _ _ _ (f .body) (own .sound) (stands .body);
-        return = placed-is _ _ _ (stands .return);
+        return = stands .return;
       }

@@ -11,9 +11,8 @@ use Rattle.formats.specs.Refusals.{outputFull, fuelUsedUp}
 use Rattle.meaning.specs.Performing.{Setting, State, Step, goes, ends, refuses, step}
 use Rattle.meaning.specs.Running.{Stop, ended, refused, Run, after, run, unitsOf}
 use Rattle.meaning.specs.StreamRun.{Grows, Steps, here, on}
-use Rattle.meaning.proofs.Steps.{grows-same}
 use Rattle.meaning.proofs.Runs.{run-none, run-goes, run-ends, run-refuses}
-use Rattle.translation.proofs.Paths.{withSpace, Path}
+use Rattle.translation.proofs.Paths.{withSpace, Path, no-step, join}
 use Rattle.translation.proofs.Wider.{step-fits, goes-too, full, narrowed}
 use Rattle.translation.proofs.Meets.{steps-grow}
 
@@ -34,40 +33,63 @@ pub record Course (m : Setting) (s : State) (why : Stop) : Type 0 where
   pub is-final : Final final why counts
   pub there : (space : ℕ) → length (last .output) ≤ space → step (withSpace space m) last ≡ final
 
+-- one that is refused at once; and one behind a path
+pub refused-at-once : {m : Setting} {why : ℕ} (s : State) → ((space : ℕ) → step (withSpace space m) s ≡ refuses why) → Course m s (refused why)
+refused-at-once s e =
+    record { last = s; units = 0; path = no-step s; final = _; counts = 0; is-final = refused-there; there = λ space fits. e space }
+
+pub course-behind : {m : Setting} {s t : State} {units : ℕ} {why : Stop} → Path m s t units → Course m t why → Course m s why
+course-behind path c =
+    record { last = c .last; units = _; path = join path (c .path); final = c .final; counts = c .counts; is-final = c .is-final; there = c .there }
+
+-- A run that has gone the whole way.
+pub record WholeWay (last : State) (units counts : ℕ) (why : Stop) (r : Run) : Type 0 where
+  pub stops : r .stop ≡ why
+  pub spent : unitsOf r ≡ units + counts
+  pub is-last : r .last ≡ last
+
 -- What a run with this space and fuel comes to, where its course leads to `last` in so many units, and stops there for this reason: its fuel or the
 -- output ends before, or it goes the whole way.
 pub data CameTo (last : State) (units counts : ℕ) (why : Stop) (space fuel : ℕ) (r : Run) : Type 0 where
-  out-of-fuel : r .stop ≡ refused fuelUsedUp → unitsOf r ≡ fuel → fuel ≤ units → Grows (r .last) last → CameTo last units counts why space fuel r
-  out-of-space : r .stop ≡ refused outputFull → space < length (last .output) → Grows (r .last) last → CameTo last units counts why space fuel r
-  whole : r .stop ≡ why → unitsOf r ≡ units + counts → r .last ≡ last → units < fuel → CameTo last units counts why space fuel r
+  out-of-fuel : r .stop ≡ refused fuelUsedUp → unitsOf r ≡ fuel → fuel ≤ units → CameTo last units counts why space fuel r
+  out-of-space : r .stop ≡ refused outputFull → space < length (last .output) → CameTo last units counts why space fuel r
+  whole : WholeWay last units counts why r → units < fuel → CameTo last units counts why space fuel r
 
 -- The same of a course.
 abbrev pub Came : {m : Setting} {s : State} {why : Stop} → Course m s why → (space fuel : ℕ) → Run → Type 0
 Came {why = why} c = CameTo (c .last) (c .units) (c .counts) why
 
+-- with fuel and space enough, the whole way
+pub whole-way :
+    {last : State} {units counts : ℕ} {why : Stop} {space fuel : ℕ} {r : Run}
+    → units < fuel
+    → length (last .output) ≤ space
+    → CameTo last units counts why space fuel r
+    → WholeWay last units counts why r
+whole-way more fits (out-of-fuel e u l) = absurd (omega arith)
+whole-way more fits (out-of-space e l) = absurd (omega arith)
+whole-way more fits (whole a l) = a
+
 -- with no fuel; at the last state; with one instruction more before
-no-fuel :
-    {last s : State} {units counts : ℕ} {why : Stop} {space : ℕ} (m : Setting)
-    → Grows s last
-    → CameTo last units counts why space 0 (run m 0 s)
-no-fuel {s = s} m g = rw (run-none m s) (out-of-fuel refl refl zero-le g)
+no-fuel : {last : State} {units counts : ℕ} {why : Stop} {space : ℕ} (m : Setting) (s : State) → CameTo last units counts why space 0 (run m 0 s)
+no-fuel m s = rw (run-none m s) (out-of-fuel refl refl zero-le)
 
 at-last :
     {final : Step} {why : Stop} {counts space : ℕ} (m : Setting) (fuel : ℕ) (s : State)
     → Final final why counts
     → step m s ≡ final
     → CameTo s 0 counts why space fuel (run m fuel s)
-at-last m zero s f e = no-fuel m (grows-same s)
-at-last m (suc fuel) s returns e = rw (run-ends m fuel s _ e) (whole refl refl refl (omega arith))
-at-last m (suc fuel) s refused-there e = rw (run-refuses m fuel s _ e) (whole refl refl refl (omega arith))
+at-last m zero s f e = no-fuel m s
+at-last m (suc fuel) s returns e = rw (run-ends m fuel s _ e) (whole (record { stops = refl; spent = refl; is-last = refl }) (omega arith))
+at-last m (suc fuel) s refused-there e = rw (run-refuses m fuel s _ e) (whole (record { stops = refl; spent = refl; is-last = refl }) (omega arith))
 
 one-before :
     {last : State} {units counts : ℕ} {why : Stop} {space fuel : ℕ} {r : Run} (a : ℕ)
     → CameTo last units counts why space fuel r
     → CameTo last (suc units) counts why space (suc fuel) (after a r)
-one-before a (out-of-fuel e u l g) = out-of-fuel e (ap suc u) (omega arith) g
-one-before a (out-of-space e l g) = out-of-space e l g
-one-before a (whole e u t l) = whole e (omega arith) t (omega arith)
+one-before a (out-of-fuel e u l) = out-of-fuel e (ap suc u) (omega arith)
+one-before a (out-of-space e l) = out-of-space e l
+one-before a (whole w l) = whole (record { stops = w .stops; spent = omega (arith, w .spent); is-last = w .is-last }) (omega arith)
 
 -- what is written does not shorten
 grown-length : {s t : State} → Grows s t → length (s .output) ≤ length (t .output)
@@ -89,7 +111,7 @@ module _ (m : Setting) (space : ℕ) {final : Step} {why : Stop} {counts : ℕ} 
       → Steps m past t last
       → Leading past t last
       → Leading (s .address ∷ past) s last
-  step-before s e d onward zero fits there = no-fuel (withSpace space m) (steps-grow (on e d))
+  step-before s e d onward zero fits there = no-fuel (withSpace space m) s
   step-before s {t} e d onward (suc fuel) fits there =
       elim (narrowed space e) [
         | goes-too k ↦
@@ -97,7 +119,7 @@ module _ (m : Setting) (space : ℕ) {final : Step} {why : Stop} {counts : ℕ} 
             (one-before (s .address) (onward fuel (step-fits (withSpace space m) s k fits) there))
         | full k less ↦
             rw (run-refuses (withSpace space m) fuel s outputFull k)
-            (out-of-space refl (le-trans less (grown-length (steps-grow d))) (steps-grow (on e d)))
+            (out-of-space refl (le-trans less (grown-length (steps-grow d))))
       ]
 
   -- from the last state back

@@ -3,75 +3,53 @@
 -- The run on a tree's own tokens has a known course (WholeRuns), so it ends, or is refused with 14, 17 or 18: it looks at no byte that it has not read.
 -- What stands behind the tree is then of no matter (StreamRun, `same-input`), and no more is read than the tree's tokens. What is written is compared
 -- with the run of a wider machine, on which the evaluation's calls can all be open: its steps go on from those of the narrow one.
-use Prim.Native.Nat.{ℕ, zero, suc, _+_, _*_, _≤_, _<_, zero-le}
-use mathlib.Core.Bool.{true, false}
-use mathlib.Core.List.{List, [], _∷_, _++_}
+use Prim.Native.Nat.{ℕ, suc, _+_, _*_, _≤_, _<_}
+use mathlib.Core.List.{List, [], _++_}
 use mathlib.Core.Logic.{_≢_}
 use mathlib.Core.Option.{Option·some-injective}
 use mathlib.Core.Path.{_≡_, refl, sym, ap, subst, _∙_}
 use native.Mathlib.Nat.{le-refl, le-trans}
 use native.Mathlib.Numerals.{add-one}
 use native.Mathlib.Omega.{arith}
-use borrow.Author.Tests.{le-leb}
-use lib.Dec.{leb, lit<, lit≤}
-use lib.ListN.{length, take, drop, length-append, take-append-drop}
-use lib.Seq.{take-append-le, take-length}
+use lib.ListN.{length, drop, length-append, take-append-drop}
+use lib.Seq.{take-append-le}
 use Rattle.formats.specs.Places.{Opens}
-use Rattle.formats.specs.Refusals.{fuelUsedUp, outputFull, tooManyCalls}
-use Rattle.formats.specs.Results.{done, refusal}
+use Rattle.formats.specs.Results.{done}
 use Rattle.formats.specs.Tokens.{Tree, Labelled, tokens}
 use Rattle.formats.specs.Programs.{Function, Program}
-use Rattle.formats.proofs.Results.{done-not, then-inv}
-use Rattle.rules.specs.PassOne.{passOne}
-use Rattle.rules.specs.PassTwo.{order}
 use Rattle.meaning.specs.Instructions.{heldBy}
-use Rattle.meaning.specs.Performing.{Setting, State, start, Step, goes, step}
-use Rattle.meaning.specs.Running.{Stop, ended, refused, Run, run, outcomeOf, numberTold, Ran, ranTo, valueWords, returnWords, mostCalls, ofCode, streamRun}
-use Rattle.meaning.specs.StreamRun.{Steps, Stops, used-up, returned, stuck, Grows, lookedAt, restsOn, writtenBy, Calls}
+use Rattle.meaning.specs.Performing.{Setting, State, start, Step, goes}
+use Rattle.meaning.specs.Running.{Stop, ended, Run, outcomeOf, numberTold, Ran, mostCalls, ofCode}
+use Rattle.meaning.specs.StreamRun.{Stops, used-up, returned, stuck, lookedAt, restsOn, writtenBy}
 use Rattle.meaning.specs.Evaluation.{Value, inCall, Takes, Ends, resultBytes, resultNumber, unitsIn}
-use Rattle.meaning.specs.Meaning.{PassesOne}
 use Rattle.meaning.proofs.Meaning.{meaning}
 use Rattle.meaning.proofs.Runs.{runs}
 use Rattle.translation.specs.Demand3.{Given, runOn, readBy, Whole, Demand3, Demand3Holds}
 use Rattle.translation.specs.EveryRun.{WholeAfter, unitsOf}
 use Rattle.translation.proofs.AnyInput.{carries-opening}
-use Rattle.translation.proofs.CodeCalls.{came-refused, code, runOf, call-runs, call-writes, call-refused, calls, runnable, on}
-use Rattle.translation.proofs.Carried.{Carries}
-use Rattle.translation.proofs.Courses.{Final, returns as it-returns, refused-there, Course, CameTo, out-of-fuel, out-of-space, whole, came}
-use Rattle.translation.proofs.Meets.{meets-grows}
+use Rattle.translation.proofs.CodeCalls.{StopsFor, it-ended, no-fuel, no-space, no-call, at-fault}
+use Rattle.translation.proofs.CodeCalls.{code, runOf, call-runs, call-reads, call-units, call-outcome, call-writes}
+use Rattle.translation.proofs.CodeCalls.{calls, runnable, goes-along, refused-call, CourseOn, course-on, stops-for}
+use Rattle.translation.proofs.Courses.{Final, returns as it-returns, refused-there, WholeWay, CameTo, whole-way}
+use Rattle.translation.proofs.Meets.{LeadsOn, meets-grows}
 use Rattle.translation.proofs.Paths.{withSpace}
 use Rattle.translation.proofs.WholeRuns.{Known, ends-so, sticks-so, faults-so, known}
 use Rattle.translation.proofs.Wider.{Wider, wider-steps}
 
--- A stop for which no byte has been looked at that was not read.
-data Plain : Stop → Type 0 where
-  it-ended : {number : ℕ} → Plain (ended number)
-  no-fuel : Plain (refused fuelUsedUp)
-  no-space : Plain (refused outputFull)
-  no-call : Plain (refused tooManyCalls)
-
-plain-looks : {w : Stop} (read : ℕ) → Plain w → lookedAt (outcomeOf w read) ≡ 0
+-- a run on an input without a fault stops with no byte looked at that was not read
+none-looked-at : {w : Stop} (read : ℕ) → StopsFor ⊥ w → lookedAt (outcomeOf w read) ≡ 0
 unfolding outcomeOf lookedAt
-plain-looks read it-ended = refl
-plain-looks read no-fuel = refl
-plain-looks read no-space = refl
-plain-looks read no-call = refl
-
--- a run whose course ends plainly stops plainly
-came-plain : {last : State} {units counts space fuel : ℕ} {why : Stop} {r : Run} → Plain why → CameTo last units counts why space fuel r → Plain (r .stop)
-came-plain p (out-of-fuel e u l g) = rw e no-fuel
-came-plain p (out-of-space e l g) = rw e no-space
-came-plain p (whole e u t l) = rw e p
+none-looked-at read it-ended = refl
+none-looked-at read no-fuel = refl
+none-looked-at read no-space = refl
+none-looked-at read no-call = refl
+none-looked-at read (at-fault none w) = absurd none
 
 -- a run's steps to where it stops
-pub record Made (m : Setting) (s t : State) : Type 0 where
-  pub past : List ℕ
-  pub steps : Steps m past s t
-
-stops-made : {m : Setting} {fuel : ℕ} {s : State} {r : Run} → Stops m fuel s r → Made m s (r .last)
-stops-made (used-up {past} d h) = record { past = past; steps = d }
-stops-made (returned {past} d h e) = record { past = past; steps = d }
-stops-made (stuck {past} d h e) = record { past = past; steps = d }
+stops-leads : {m : Setting} {fuel : ℕ} {s : State} {r : Run} → Stops m fuel s r → LeadsOn m s (r .last)
+stops-leads (used-up {past} d h) = record { rest = past; steps = d }
+stops-leads (returned {past} d h e) = record { rest = past; steps = d }
+stops-leads (stuck {past} d h e) = record { rest = past; steps = d }
 
 -- where the machine goes no further, it does not go on
 final-stays : {f : Step} {w : Stop} {counts : ℕ} {t : State} → Final f w counts → f ≡ goes t → ⊥
@@ -97,23 +75,14 @@ module _ (given : Given) (t : Tree) (labelled : Labelled t) where
   open Given given using (program)
 
   -- the course of the run on its tokens, with anything behind them
-  pub course : (rest : List ℕ) → Known ⊥ (on given (tokens t ++ rest)) program (length (tokens t)) (lit≤ tt) (runnable given) t mostCalls
-  course rest = known ⊥ (on given (tokens t ++ rest)) program (length (tokens t)) (lit≤ tt) (runnable given) t 1023 (carries-opening t rest labelled) refl
-
-  -- it stops plainly
-  stops-plainly : (rest output : List ℕ) (fuel : ℕ) → Plain (runOf given (tokens t ++ rest) output fuel .stop)
-  stops-plainly rest output fuel = elim (course rest) [
-    | ends-so n v evaluated c units counts bytes read ↦ came-plain it-ended (came c (length output) fuel zero-le)
-    | sticks-so never c ↦ came-plain no-call (came c (length output) fuel zero-le)
-    | faults-so why none w c ↦ absurd none
-  ]
+  pub course : (rest : List ℕ) → CourseOn given ⊥ (tokens t ++ rest) (length (tokens t)) t
+  course rest = course-on given (tokens t ++ rest) (length (tokens t)) t (carries-opening t rest labelled)
 
   -- with nothing behind the tree, the answer rests on its tokens alone
   rests-on-tokens : (output : List ℕ) (fuel : ℕ) → restsOn (runOn given (tokens t ++ []) output fuel .answer) ≤ length (tokens t)
   rests-on-tokens output fuel =
       let read = calls given output .read-there (tokens t ++ []) fuel in
-      let looked = ap (λ (r : Ran). lookedAt (r .answer .outcome)) (call-runs given (tokens t ++ []) output fuel)
-      ∙ plain-looks (runOf given (tokens t ++ []) output fuel .last .read) (stops-plainly [] output fuel) in
+      let looked = ap lookedAt (call-outcome given (tokens t ++ []) output fuel refl) ∙ none-looked-at _ (stops-for given (course []) output fuel) in
       omega (arith, length-append (tokens t) [], read, looked)
 
   -- so what stands behind it is of no matter
@@ -125,7 +94,7 @@ module _ (given : Given) (t : Tree) (labelled : Labelled t) where
       (take-append-le k (tokens t) rest few ∙ sym (take-append-le k (tokens t) [] few))
 
   -- no more is read than its tokens
-  pub reads-no-more : (rest output : List ℕ) (fuel : ℕ) → runOn given (tokens t ++ rest) output fuel .answer .bytesRead ≤ length (tokens t)
+  reads-no-more : (rest output : List ℕ) (fuel : ℕ) → runOn given (tokens t ++ rest) output fuel .answer .bytesRead ≤ length (tokens t)
   reads-no-more rest output fuel = rw (nothing-behind rest output fuel) (omega (arith, rests-on-tokens output fuel))
 
   -- what is read are opening bytes of it
@@ -143,12 +112,13 @@ module _ (given : Given) (t : Tree) (labelled : Labelled t) where
       record { holds = heldBy (code given); input = input; space = 0; mostWords = 16 * suc (more + 1023); mostOpen = suc (more + 1023) }
 
   -- a run on it, with more space, goes on from the run on the narrow one
-  is-wider : (more space : ℕ) (input output : List ℕ) → length output ≤ space → Wider (ofCode (code given) input (length output)) (withSpace space (wider more input))
+  is-wider : (more space : ℕ) (input output : List ℕ) → length output ≤ space
+      → Wider (ofCode (code given) input (length output)) (withSpace space (wider more input))
   is-wider more space input output h =
       record { holds = λ a. refl; input = refl; space = h; words = omega arith; calls = omega arith }
 
   -- what is written opens what the wider machine has written in the end
-  pub writes-opening :
+  writes-opening :
       (rest output : List ℕ) (fuel o n : ℕ) (v : Value)
       → Ends program t o n v
       → Opens (writtenBy (runOn given (tokens t ++ rest) output fuel)) (resultBytes v)
@@ -164,7 +134,7 @@ module _ (given : Given) (t : Tree) (labelled : Labelled t) where
       by-course (ends-so n′ v′ evaluated′ c units counts bytes read) =
           let needed = length (c .last .output) in
           let space = length output + needed in
-          let made = stops-made (runs (ofCode (code given) input (length output)) start .by-steps fuel) in
+          let made = stops-leads (runs (ofCode (code given) input (length output)) start .by-steps fuel) in
           let there = c .there space (omega arith) in
           let grows = meets-grows (wider-steps (is-wider o space input output (omega arith)) (made .steps)) (c .path .steps space (omega arith))
           (λ u e. final-stays (c .is-final) (sym there ∙ e)) in
@@ -172,6 +142,22 @@ module _ (given : Given) (t : Tree) (labelled : Labelled t) where
           rw (bytes ∙ ap resultBytes same) at (grows .writes)
       by-course (sticks-so never c) = absurd (never n v (larger-bound program t o _ n v (omega arith) evaluated))
       by-course (faults-so why none w c) = absurd none
+
+  -- and no more is written than that
+  writes-no-more :
+      (rest output : List ℕ) (fuel o n : ℕ) (v : Value)
+      → Ends program t o n v
+      → runOn given (tokens t ++ rest) output fuel .answer .bytesWritten ≤ length (resultBytes v)
+  writes-no-more rest output fuel o n v evaluated =
+      let opens = writes-opening rest output fuel o n v evaluated in
+      let bytes = call-writes given (tokens t ++ rest) output fuel in
+      omega (
+        arith,
+        ap (λ (r : Ran). r .answer .bytesWritten) (call-runs given (tokens t ++ rest) output fuel),
+        ap length bytes,
+        ap length (opens .joined),
+        length-append (writtenBy (runOn given (tokens t ++ rest) output fuel)) (opens .rest),
+      )
 
   -- ---- where the evaluation ends
 
@@ -189,32 +175,31 @@ module _ (given : Given) (t : Tree) (labelled : Labelled t) where
     | ends-so n′ v′ evaluated′ c units counts bytes read ↦
         let same = meaning .evaluations program .one-result t _ _ _ _ _ _ evaluated′ evaluated .1 in
         let sums = units ∙ same-units program t _ _ _ _ _ _ evaluated′ evaluated in
-        record { last = c .last; comes = rw (sums, counts, same) at (came c (length output) fuel zero-le); bytes = rw same at bytes; read = read }
+        record { last = c .last; comes = rw (sums, counts, same) at (goes-along given c output fuel); bytes = rw same at bytes; read = read }
     | sticks-so never c ↦ absurd (never n v evaluated)
     | faults-so why none w c ↦ absurd none
   ]
 
   -- what a run that goes the whole way answers
   pub whole-answer :
-      (v : Value) (rest output : List ℕ) (fuel : ℕ) (last : State)
-      → runOf given (tokens t ++ rest) output fuel .stop ≡ ended (resultNumber v)
-      → runOf given (tokens t ++ rest) output fuel .last ≡ last
+      {units counts : ℕ} (v : Value) (rest output : List ℕ) (fuel : ℕ) (last : State)
+      → WholeWay last units counts (ended (resultNumber v)) (runOf given (tokens t ++ rest) output fuel)
       → last .output ≡ resultBytes v
       → last .read ≡ length (tokens t)
       → Whole t v output (runOn given (tokens t ++ rest) output fuel)
   unfolding outcomeOf numberTold
-  whole-answer v rest output fuel last stop is-last bytes read =
+  whole-answer v rest output fuel last a bytes read =
       let so = call-runs given (tokens t ++ rest) output fuel in
-      let out : runOf given (tokens t ++ rest) output fuel .last .output ≡ resultBytes v = ap (λ (s : State). s .output) is-last ∙ bytes in
+      let out : runOf given (tokens t ++ rest) output fuel .last .output ≡ resultBytes v = ap (λ (s : State). s .output) (a .is-last) ∙ bytes in
       let many : runOn given (tokens t ++ rest) output fuel .answer .bytesWritten ≡ length (resultBytes v) =
       ap (λ (r : Ran). r .answer .bytesWritten) so ∙ ap length out in
       record {
-        unrefused = ap (λ (r : Ran). r .answer .outcome) so ∙ ap (λ w. outcomeOf w (runOf given (tokens t ++ rest) output fuel .last .read)) stop;
-        whole-read = ap (λ (r : Ran). r .answer .bytesRead) so ∙ ap (λ (s : State). s .read) is-last ∙ read;
+        unrefused = call-outcome given (tokens t ++ rest) output fuel (a .stops);
+        whole-read = call-reads given (tokens t ++ rest) output fuel ∙ ap (λ (s : State). s .read) (a .is-last) ∙ read;
         whole-written = many;
         result = call-writes given (tokens t ++ rest) output fuel ∙ out;
         untouched = rw many at (calls given output .untouched (tokens t ++ rest) fuel);
-        same-number = ap (λ (r : Ran). r .answer .number) so ∙ ap numberTold stop;
+        same-number = ap (λ (r : Ran). r .answer .number) so ∙ ap numberTold (a .stops);
       }
 
   -- with fuel for one more than its units, and space for its result, the run is whole, and has spent them
@@ -225,34 +210,30 @@ module _ (given : Given) (t : Tree) (labelled : Labelled t) where
       → WholeAfter (unitsOf evaluated) t v output (runOn given (tokens t ++ rest) output fuel)
   whole-run n v evaluated rest output fuel enough fits =
       let e = ending n v evaluated rest output fuel in
-      by-way (e .last) (e .bytes) (e .read) (e .comes)
-    where
-      by-way : (last : State) → last .output ≡ resultBytes v → last .read ≡ length (tokens t)
-          → CameTo last (unitsIn (evaluated .takes)) 1 (ended (resultNumber v)) (length output) fuel (runOf given (tokens t ++ rest) output fuel)
-          → WholeAfter (unitsOf evaluated) t v output (runOn given (tokens t ++ rest) output fuel)
-      by-way last bytes read (out-of-fuel stop u few g) = absurd (omega arith)
-      by-way last bytes read (out-of-space stop short g) = absurd (omega (arith, ap length bytes))
-      by-way last bytes read (whole stop u is-last more) = record {
-        whole = whole-answer v rest output fuel last stop is-last bytes read;
-        counted = ap (λ (r : Ran). r .answer .units) (call-runs given (tokens t ++ rest) output fuel) ∙ u ∙ add-one _;
+      let a = whole-way enough (rw (e .bytes) fits) (e .comes) in
+      record {
+        whole = whole-answer v rest output fuel (e .last) a (e .bytes) (e .read);
+        counted = call-units given (tokens t ++ rest) output fuel ∙ a .spent ∙ add-one _;
       }
 
   -- where no evaluation ends, no run does
-  pub never-ends :
+  never-ends :
       ((n : ℕ) (v : Value) → Ends program t mostCalls n v → ⊥)
       → (rest output : List ℕ) (fuel : ℕ)
       → runOn given (tokens t ++ rest) output fuel .answer .outcome ≢ done tt
   never-ends never rest output fuel e = elim (course rest) [
     | ends-so n v evaluated c units counts bytes read ↦ never n v evaluated
-    | sticks-so never′ c ↦ call-refused given (tokens t ++ rest) output fuel (came-refused (came c (length output) fuel zero-le)) e
+    | sticks-so never′ c ↦ refused-call given c output fuel e
     | faults-so why none w c ↦ none
   ]
 
-  pub demand : Demand3 program t (runOn given)
+  demand : Demand3 program t (runOn given)
   demand = record {
     read-opening = reads-opening;
     read-no-more = reads-no-more;
     written-opening = writes-opening;
+    written-no-more = writes-no-more;
+    none-other = λ rest output fuel. calls given output .untouched (tokens t ++ rest) fuel;
     nothing-after = λ rest rest′ output fuel. nothing-behind rest output fuel ∙ sym (nothing-behind rest′ output fuel);
     suffices = λ n v evaluated rest output fuel enough fits.
         let few = meaning .evaluations program .four-each _ _ _ n v (evaluated .takes) in
@@ -262,4 +243,4 @@ module _ (given : Given) (t : Tree) (labelled : Labelled t) where
 
 -- demand 3
 pub demand-3 : Demand3Holds
-demand-3 given t labelled = demand given t labelled
+demand-3 = demand

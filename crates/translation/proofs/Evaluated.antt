@@ -2,33 +2,32 @@
 --
 -- Where none may be opened, a call stops the evaluation, and the call instruction is refused with 18. Else the call opens the function's code, whose body
 -- keeps up where the calls in it do, and its return leaves the value with the caller.
-use Prim.Native.Nat.{ℕ, zero, suc, _+_, _*_, _≤_, _<_}
-use mathlib.Core.List.{List, [], _∷_, _++_}
-use mathlib.Core.Option.{Option, none, some}
-use mathlib.Core.Path.{_≡_, refl, sym, ap, _∙_}
+use Prim.Native.Nat.{ℕ, zero, suc, _*_, _≤_}
+use mathlib.Core.List.{List, [], _∷_}
+use mathlib.Core.Option.{Option, some}
+use mathlib.Core.Path.{_≡_, refl, sym, _∙_}
 use native.Mathlib.Nat.{le-refl}
 use native.Mathlib.Omega.{arith}
-use lib.ListN.{length}
-use Rattle.formats.specs.Refusals.{tooManyCalls}
 use Rattle.formats.specs.Tokens.{Tree}
 use Rattle.formats.specs.Records.{nth}
 use Rattle.formats.specs.Programs.{Sort, numberValued, treeValued, Function, Program, signatures}
-use Rattle.rules.specs.PassOne.{mostWords}
-use Rattle.meaning.specs.Instructions.{Instruction, Call, Return, instructionOf}
+use Rattle.meaning.specs.Instructions.{Instruction, Return}
 use Rattle.meaning.specs.Performing.{Setting, Caller, State, start, wordsBelow, opened, ends, step, kept, numberKept, leave, operate}
-use Rattle.meaning.specs.Evaluation.{Value, inCall, resultNumber}
-use Rattle.meaning.specs.OpenCalls.{Outcome, evaluate, firstRecord, called, evaluation}
+use Rattle.meaning.specs.Evaluation.{inCall, resultNumber}
+use Rattle.meaning.specs.OpenCalls.{evaluate, called, evaluation}
 use Rattle.meaning.proofs.Levels.{level-newest}
 use Rattle.meaning.proofs.Proper.{ProperProgram}
 use Rattle.meaning.proofs.Sorts.{ValuesOf, valueOf, Numbers}
-use Rattle.translation.specs.Templates.{behind, firstWords, code, wordsKept, functionCode, entryFrom, entryOf}
-use Rattle.translation.proofs.Addresses.{At, at-code}
+use Rattle.translation.specs.Templates.{behind, firstWords, wordsKept, entryFrom, entryOf}
+use Rattle.translation.proofs.Addresses.{Held}
 use Rattle.translation.proofs.Bodies.{CheckedBody}
+use Rattle.translation.proofs.CodeStands.{FunctionStands}
 use Rattle.translation.proofs.Carried.{none-picked, picked, on-first-words, Carries}
-use Rattle.translation.proofs.Goes.{sticks-here, Goes, goes-stuck, goes-first, goes-then}
+use Rattle.translation.proofs.Courses.{refused-at-once}
+use Rattle.translation.proofs.Goes.{Goes, goes-stuck, goes-first, goes-then}
 use Rattle.translation.proofs.Paths.{withSpace, Path, one-step}
 use Rattle.translation.proofs.Performed.{Next, step-is, does-call, one-call-more}
-use Rattle.translation.proofs.Simulation.{pushed, finished, argued, Under, After, none-left, AfterCall, SimCalls, sim}
+use Rattle.translation.proofs.Simulation.{pushed, finished, argued, Under, After, none-left, SimCalls, sim}
 
 -- Every function's body is what the passes ask for, and its code stands at its entry.
 pub record Runnable (program : Program) (holds : ℕ → Option Instruction) : Type 0 where
@@ -37,7 +36,7 @@ pub record Runnable (program : Program) (holds : ℕ → Option Instruction) : T
   pub laid :
       (b : ℕ) (f : Function)
       → nth (program .functions) b ≡ some f
-      → At holds (entryOf program b) (functionCode (entryOf program) (entryOf program b) f)
+      → FunctionStands (Held holds) (entryOf program) (entryOf program b) f
 
 -- ---- returns
 
@@ -71,15 +70,6 @@ module _ (Faulty : Type 0) (m : Setting) (program : Program) (end : ℕ) (wide :
   entered b numbers callers read output =
       record { address = entryOf program b; frame = numbers; callers = callers; read = read; output = output }
 
-  -- behind the body stands its return
-  return-there :
-      (b : ℕ) (f : Function) → nth (program .functions) b ≡ some f
-      → m .holds (behind (f .body) (entryOf program b)) ≡ some (instructionOf (Return (wordsKept (f .sort))))
-  unfolding functionCode
-  return-there b f known =
-      at-code (m .holds) (entryOf program) (f .sort) (firstWords (f .parameters)) (f .parameters) (entryOf program b) (f .body) _ (runnable .laid b f known)
-      .then .0
-
   -- a body keeps up, if the calls in it do
   keeps-body :
       (k : ℕ) → SimCalls Faulty m program end wide k
@@ -92,12 +82,10 @@ module _ (Faulty : Type 0) (m : Setting) (program : Program) (end : ℕ) (wide :
       (λ x read′. finished (f .sort) x (behind (f .body) (entryOf program b)) read′ (entered b (numbers .all) callers read output))
       (After Faulty m program end wide k (inCall (numbers .all) t) (f .sort) (f .body) [] beyond)
       (evaluate (called program k) (inCall (numbers .all) t) q (f .body))
-  unfolding functionCode
   keeps-body k calls b f numbers t beyond callers read output known carries under q =
       let body = runnable .bodies b f known in
-      let words = firstWords (f .parameters) in
-      let laid = at-code (m .holds) (entryOf program) (f .sort) words (f .parameters) (entryOf program b) (f .body) _ (runnable .laid b f known) in
-      sim Faulty m program end wide k calls (runnable .proper .bodies b f known) (inCall (numbers .all) t) words (f .parameters) (body .at) (0 ∷ []) [] beyond _
+      sim Faulty m program end wide k calls (runnable .proper .bodies b f known)
+      (inCall (numbers .all) t) (firstWords (f .parameters)) (f .parameters) (body .at) (0 ∷ []) [] beyond _
       (record {
         numbers = numbers .many;
         trees = refl;
@@ -106,14 +94,14 @@ module _ (Faulty : Type 0) (m : Setting) (program : Program) (end : ℕ) (wide :
         left = record { pending = t ∷ []; named = picked (level-newest t 0 [] refl) none-picked; carries = carries };
         under = under;
       })
-      (body .in-order) (body .few-words) (laid .first) q
+      (body .in-order) (body .few-words) (runnable .laid b f known .body) q
 
   -- calls keep up
   keeps-calls : (k : ℕ) → SimCalls Faulty m program end wide k
   unfolding called opened wordsBelow
   keeps-calls zero b f numbers t beyond s a read known next carries under few q =
       goes-stuck Faulty m q
-      (sticks-here _
+      (refused-at-once _
       (λ space. one-call-more m (argued s (numbers .all) a read) (entryOf program b) space (numbers .all) (s .frame) (rw (numbers .many) next) refl
       (omega (arith, under .allowed))))
   keeps-calls (suc k) b f numbers t beyond s a read known next carries under few q =
@@ -127,7 +115,7 @@ module _ (Faulty : Type 0) (m : Setting) (program : Program) (end : ℕ) (wide :
       λ n x units read′ after. record {
         more = 1;
         read = read′;
-        path = does-return m _ (f .sort) x (numbers .all) _ (s .callers) (return-there b f known) refl refl;
+        path = does-return m _ (f .sort) x (numbers .all) _ (s .callers) (runnable .laid b f known .return) refl refl;
         post = record {
           begun = after .begun;
           derivation = after .derivation;
@@ -158,4 +146,4 @@ module _ (Faulty : Type 0) (m : Setting) (program : Program) (end : ℕ) (wide :
 
   -- and there the run ends, with every space
   pub ends-whole : (x : ValuesOf (first .sort)) (read space : ℕ) → step (withSpace space m) (atEnd x read) ≡ ends (resultNumber (valueOf (first .sort) x))
-  ends-whole x read space = ends-there (withSpace space m) (atEnd x read) (first .sort) x [] (return-there 0 first is-first) refl refl
+  ends-whole x read space = ends-there (withSpace space m) (atEnd x read) (first .sort) x [] (runnable .laid 0 first is-first .return) refl refl

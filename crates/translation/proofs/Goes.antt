@@ -1,35 +1,18 @@
 -- How code keeps up with an outcome of the evaluation: where the outcome gives a value, the code comes, in so many units, to the state that has it; where
 -- it stops at a call too many, the code is refused there; or the input has a fault, and the code is refused at it.
-use Prim.Native.Nat.{ℕ, zero, suc, _+_, _≤_}
-use mathlib.Core.List.{List, [], _∷_, _++_}
-use mathlib.Core.Path.{_≡_, refl, sym, ap, _∙_}
-use native.Mathlib.Nat.{zero-add, add-assoc}
-use native.Mathlib.Omega.{arith}
-use lib.ListN.{length}
+use Prim.Native.Nat.{ℕ, suc, _+_}
 use Rattle.formats.specs.Refusals.{inputEnded, notATag, tooManyCalls}
-use Rattle.meaning.specs.Performing.{Setting, State, refuses, step}
+use Rattle.meaning.specs.Performing.{Setting, State}
+use Rattle.meaning.specs.Running.{refused}
 use Rattle.meaning.specs.OpenCalls.{Outcome, gives, stops, begins, after, next}
 use Rattle.meaning.proofs.Outcomes.{after-more, next-after}
-use Rattle.translation.proofs.Paths.{withSpace, Path, no-step, join}
-
--- Refused for this reason after a path, with every space that holds what has been written.
-pub record Sticks (m : Setting) (s : State) (why : ℕ) : Type 0 where
-  pub last : State
-  pub units : ℕ
-  pub path : Path m s last units
-  pub there : (space : ℕ) → length (last .output) ≤ space → step (withSpace space m) last ≡ refuses why
+use Rattle.translation.proofs.Paths.{Path, join}
+use Rattle.translation.proofs.Courses.{Course, course-behind}
 
 -- What is refused of an input with a fault: 15, or 16.
 pub data InputFault : ℕ → Type 0 where
   input-ended : InputFault inputEnded
   not-a-tag : InputFault notATag
-
--- refused at once, and after a path
-pub sticks-here : {m : Setting} {why : ℕ} (s : State) → ((space : ℕ) → step (withSpace space m) s ≡ refuses why) → Sticks m s why
-sticks-here s e = record { last = s; units = 0; path = no-step s; there = λ space fits. e space }
-
-pub sticks-after : {m : Setting} {s t : State} {units why : ℕ} → Path m s t units → Sticks m t why → Sticks m s why
-sticks-after path h = record { last = h .last; units = _; path = join path (h .path); there = h .there }
 
 -- From state s the code keeps up with an outcome. `finish` is the state to come to, given the value and the bytes then read; `Post` is what holds then,
 -- given the expressions begun, the value, the units spent and the bytes read.
@@ -41,8 +24,8 @@ module _ (Faulty : Type 0) (m : Setting) where
           → Path m s (finish x read) units
           → Post n x units read
           → Goes s form finish Post (after n (gives (form x)))
-      too-many : (n r : ℕ) → Sticks m s tooManyCalls → Goes s form finish Post (after n (stops tooManyCalls r))
-      faults : {o : Outcome A} (why : ℕ) → Faulty → InputFault why → Sticks m s why → Goes s form finish Post o
+      too-many : (n r : ℕ) → Course m s (refused tooManyCalls) → Goes s form finish Post (after n (stops tooManyCalls r))
+      faults : {o : Outcome A} (why : ℕ) → Faulty → InputFault why → Course m s (refused why) → Goes s form finish Post o
 
   module _ {X A : Type 0} {form : X → A} {finish : X → ℕ → State} {Post : (n : ℕ) → X → (units read : ℕ) → Type 0} where
     -- the value is given when nothing more begins
@@ -51,7 +34,7 @@ module _ (Faulty : Type 0) (m : Setting) where
     goes-there x units read path post = arrives 0 x units read path post
 
     -- a call too many
-    pub goes-stuck : {s : State} (r : ℕ) → Sticks m s tooManyCalls → Goes s form finish Post (stops tooManyCalls r)
+    pub goes-stuck : {s : State} (r : ℕ) → Course m s (refused tooManyCalls) → Goes s form finish Post (stops tooManyCalls r)
     unfolding after
     goes-stuck r h = too-many 0 r h
 
@@ -75,8 +58,8 @@ module _ (Faulty : Type 0) (m : Setting) where
         → Goes t form finish (λ n x more. Post n x (units + more)) o
         → Goes s form finish Post o
     goes-first {units = units} path (arrives n x more read rest post) = arrives n x (units + more) read (join path rest) post
-    goes-first path (too-many n r h) = too-many n r (sticks-after path h)
-    goes-first path (faults why f w h) = faults why f w (sticks-after path h)
+    goes-first path (too-many n r h) = too-many n r (course-behind path h)
+    goes-first path (faults why f w h) = faults why f w (course-behind path h)
 
   -- what is left of the way, behind the state that the value is in
   pub record Then {X : Type 0} (s : State) (finish : X → ℕ → State) (Post : (n : ℕ) → X → (units read : ℕ) → Type 0) (n : ℕ) (x : X) (units : ℕ) : Type 0 where

@@ -7,6 +7,8 @@ pub mod CodeStands
 pub mod Coded
 pub mod WordWays
 pub mod WordCounts
+pub mod AsCounted
+pub mod InPlace
 pub mod CodeLimits
 pub mod InOrder
 pub mod Paths

@@ -33,7 +33,7 @@ module _ {m : Setting} where
   behind-first {t = t} none e onward (on {t = v} d k) = let same : v ≡ t = cc in onward _ (rw same at k)
 
   -- where a row goes no further, every other from the same state leads to its end
-  pub meets : {p q : List ℕ} {s u w : State} → Steps m p s u → Steps m q s w → ((t : State) → step m w ≡ goes t → ⊥) → LeadsOn m u w
+  meets : {p q : List ℕ} {s u w : State} → Steps m p s u → Steps m q s w → ((t : State) → step m w ≡ goes t → ⊥) → LeadsOn m u w
   meets {q = q} {w = w} d k none = elim d as (λ p s u d. (q : List ℕ) → Steps m q s w → LeadsOn m u w) [
     | here ↦ λ q k. record { rest = q; steps = k }
     | on e (d → h) ↦ λ q k. behind-first none e h k

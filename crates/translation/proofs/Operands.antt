@@ -21,7 +21,6 @@ use Rattle.meaning.specs.Instructions.{Operation, Return, instructionOf, mostIn
 use Rattle.meaning.proofs.Levels.{level-every}
 use Rattle.translation.specs.Templates.{behind, behindArgs, Words, wordOf, firstWords, endOf, code, codeArgs, wordsKept}
 use Rattle.translation.specs.Templates.{functionCode, behindFunction, entryFrom, functionsCode, entryOf, operationsOf}
-use Rattle.translation.specs.Demand3.{Checked}
 use Rattle.translation.proofs.Addresses.{length-code}
 
 -- ---- how many instructions
@@ -30,7 +29,7 @@ use Rattle.translation.proofs.Addresses.{length-code}
 mutual
   unfolding behind behindArgs prefix prefixes
 
-  ends : (e : Expr) (a : ℕ) → (a < behind e a) × (behind e a ≤ a + 4 * length (prefix e))
+  pub ends : (e : Expr) (a : ℕ) → (a < behind e a) × (behind e a ≤ a + 4 * length (prefix e))
   ends (const i) a = omega arith
   ends (var k) a = omega arith
   ends (add p q) a = omega (arith, length-append (prefix p) (prefix q), ends p a, ends q (behind p a))
@@ -58,8 +57,7 @@ module _ (entries : ℕ → ℕ) where
   length-function a f =
       let words = firstWords (f .parameters) in
       let body = code entries (f .sort) words (f .parameters) a (f .body) in
-      let long = length-code entries (f .sort) words (f .parameters) a (f .body) in
-      omega (arith, length-append body (Return (wordsKept (f .sort)) ∷ []), long)
+      omega (arith, length-append body (Return (wordsKept (f .sort)) ∷ []), length-code entries (f .sort) words (f .parameters) a (f .body))
 
   -- and the code of those behind it follows
   length-functions :
@@ -107,7 +105,7 @@ abbrev mostArguments : ℕ
 mostArguments = 4
 
 -- a function has no more parameters
-few-parameters : (j n : ℕ) → n ≤ mostParameters j → n ≤ mostArguments
+pub few-parameters : (j n : ℕ) → n ≤ mostParameters j → n ≤ mostArguments
 unfolding mostParameters
 few-parameters zero n h = omega arith
 few-parameters (suc j) n h = h
@@ -261,16 +259,12 @@ module _
         (fits-functions (suc j) next fs (l .1) (omega arith))
 
 -- each field of each instruction of a lawful program fits its bytes
-pub lawful-operands-fit : (program : Program) → Lawful program → Every (λ op. Ranged (instructionOf op)) (operationsOf program)
+pub operands-fit : (program : Program) → Lawful program → Every (λ op. Ranged (instructionOf op)) (operationsOf program)
 unfolding operationsOf entryOf
-lawful-operands-fit program l =
+operands-fit program l =
     let gs = signatures program in
     let fs = program .functions in
     let few = few-instructions program l in
     let entry = entry-within (entryOf program) 0 fs in
     let arguments = few-arguments gs 0 fs (l .functions) in
     fits-functions gs (entryOf program) (λ b. omega (arith, entry b)) arguments 0 0 fs (l .functions) (omega arith) .each
-
--- so it is of a checked program
-pub operands-fit : (program : Program) → Checked program → Every (λ op. Ranged (instructionOf op)) (operationsOf program)
-operands-fit program c = lawful-operands-fit program (c .lawful)

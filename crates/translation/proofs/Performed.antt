@@ -1,30 +1,29 @@
 -- One instruction of the templates performed, opcode by opcode: from a state that holds what it needs, to the next. Each is a path of one unit.
-use Prim.Native.Nat.{ℕ, zero, suc, _+_, _*_, _≤_, _<_}
-use mathlib.Core.Bool.{true, false}
+use Prim.Native.Nat.{ℕ, zero, suc, _+_, _≤_, _<_}
 use mathlib.Core.List.{List, [], _∷_, _++_}
-use mathlib.Core.Option.{Option, none, some}
-use mathlib.Core.Path.{_≡_, refl, sym, ap, _∙_}
+use mathlib.Core.Option.{some}
+use mathlib.Core.Path.{_≡_, refl, ap, _∙_}
 use native.Mathlib.Nat.{le-refl}
 use native.Mathlib.Omega.{arith}
-use borrow.Author.Tests.{lt-ltb, le-ltb, le-leb, lt-leb, eq-eqb, ne-eqb}
-use lib.Dec.{eqb, leb, ltb}
-use lib.ListN.{length, take, drop, length-append}
+use borrow.Author.Tests.{lt-ltb, le-ltb, le-leb, lt-leb, ne-eqb}
+use lib.ListN.{length, length-append}
 use lib.Seq.{take-append-seam, drop-append-seam}
 use Rattle.formats.specs.Numbers.{bytesOf, numberAt, sum32}
 use Rattle.formats.specs.Refusals.{inputEnded, notATag, tooManyCalls}
-use Rattle.formats.specs.Tokens.{Tree, tokens, leafTag, nodeTag, labelBytes, Tag, ended, aLeaf, aNode, other, tagAt}
-use Rattle.formats.specs.Programs.{Sort, numberValued, treeValued}
+use Rattle.formats.specs.Tokens.{leafTag, nodeTag, labelBytes, ended, aLeaf, aNode, other, tagAt}
 use Rattle.meaning.specs.Levels.{atLevel}
-use Rattle.meaning.specs.Instructions.{Instruction, Operation, Push, Get, Add, Ifnot, Jump, Slide, Drop, LeafTag, NodeTag, WriteNumber, ReadTag, ReadNumber, Call, Return, operationOf, instructionOf}
-use Rattle.meaning.specs.Performing.{Setting, Caller, State, wordsBelow, standing, opened, Step, goes, ends, refuses, one, two, room, push, write, byTag, readNumber, call, kept, leave, operate, perform, step}
+use Rattle.meaning.specs.Instructions.{Operation, Push, Get, Add, Ifnot, Jump, Slide, Drop, LeafTag, NodeTag, WriteNumber, ReadTag, ReadNumber, Call}
+use Rattle.meaning.specs.Performing.{Setting, Caller, State, standing, opened, goes, refuses}
+use Rattle.meaning.specs.Performing.{one, two, room, push, write, byTag, readNumber, call, operate, perform, step}
 use Rattle.meaning.proofs.StreamRun.{stream-run}
+use Rattle.translation.proofs.Addresses.{Held}
 use Rattle.translation.proofs.Paths.{withSpace, Path, one-step}
 
 -- ---- what stands at an address is performed
 
 -- This instruction is next.
 abbrev pub Next : Setting → State → Operation → Type 0
-Next m s op = m .holds (s .address) ≡ some (instructionOf op)
+Next m s op = Held (m .holds) (s .address) op
 
 pub step-is : (m : Setting) (s : State) (op : Operation) → Next m s op → step m s ≡ operate m s op
 unfolding step perform

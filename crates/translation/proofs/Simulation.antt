@@ -4,46 +4,47 @@
 -- comes to the state behind it with the value: a number on top of the frame, a tree's tokens behind the output. It has then read the tokens of the trees
 -- that the expression took, and performed the units of the expressions begun. Kind by kind, with one lemma for each; the calls in an expression are
 -- assumed to keep up.
-use Prim.Native.Nat.{ℕ, zero, suc, _+_, _*_, _≤_, _<_, max}
-use mathlib.Core.Bool.{true, false}
-use mathlib.Core.List.{List, [], _∷_, _++_, append-assoc, map}
-use mathlib.Core.Option.{Option, none, some, Option·some-injective, Option·none-ne-some}
-use mathlib.Core.Path.{_≡_, refl, sym, ap, subst, _∙_}
-use native.Mathlib.Nat.{add-zero, zero-add}
+use Prim.Native.Nat.{ℕ, zero, suc, _+_, _*_, _≤_, _<_}
+use mathlib.Core.List.{List, [], _∷_, _++_, append-assoc}
+use mathlib.Core.Option.{some}
+use mathlib.Core.Path.{_≡_, refl, sym, ap, _∙_}
+use native.Mathlib.Nat.{zero-add}
 use native.Mathlib.Omega.{arith}
-use borrow.Author.Tests.{eqb-true}
-use lib.Dec.{eqb}
 use lib.ListN.{length}
 use Rattle.formats.specs.Numbers.{bytesOf, sum32}
-use Rattle.formats.specs.Refusals.{outOfOrder, tooManyPending, inputEnded, notATag}
-use Rattle.formats.specs.Results.{Result, done, refusal, andThen, check}
+use Rattle.formats.specs.Refusals.{inputEnded, notATag}
+use Rattle.formats.specs.Results.{done}
 use Rattle.formats.specs.Tokens.{Tree, leaf, node, leafTag, nodeTag, tokens, labelBytes}
 use Rattle.formats.specs.Records.{nth}
 use Rattle.formats.specs.Programs.{Expr, const, var, add, ifZero, letIn, leafOf, nodeOf, caseOf, call, Args, noArgs, arg, size, countArgs}
 use Rattle.formats.specs.Programs.{Sort, numberValued, treeValued, Signature, Function, signatureOf, Program, signatures}
-use Rattle.formats.proofs.Results.{done-injective, done-not, then-inv, check-inv}
+use Rattle.formats.proofs.Records.{nth-mapped}
+use Rattle.formats.proofs.Results.{done-injective, then-inv}
 use Rattle.rules.specs.PassOne.{mostWords, wordsOf, wordsOfArgs, valueWords}
-use Rattle.rules.specs.PassTwo.{takeHead, sameNames, joined, walk, walkArgs}
-use Rattle.rules.proofs.PassTwo.{same-names}
+use Rattle.rules.specs.PassTwo.{walk, walkArgs}
 use Rattle.rules.proofs.Words.{words-call, words-least, words-least-args}
-use Rattle.meaning.specs.Levels.{atLevel}
-use Rattle.meaning.specs.Instructions.{Push, Get, Add, Ifnot, Jump, Slide, Drop, LeafTag, NodeTag, WriteNumber, ReadTag, ReadNumber, Call, Return, instructionOf}
+use Rattle.meaning.specs.Instructions.{Operation, Jump, Call}
 use Rattle.meaning.specs.Performing.{Setting, Caller, State, wordsBelow, standing}
-use Rattle.meaning.specs.Evaluation.{Value, number, tree, Environment, numberNamed, treeNamed, withNumber, withTrees, inCall, picked, branch, inBranch, resultNumber}
-use Rattle.meaning.specs.Evaluation.{Takes, Const, Var, Add as Plus, IfZero, Let, Leaf, Node, Case, Call as Calls, TakesArgs, no-more, one-more, counted, unitsIn, ifZeroUnits, caseUnits}
-use Rattle.meaning.specs.OpenCalls.{Outcome, gives, next, numberOr, treeOr, resultTree, evaluate, evaluateArgs, called}
+use Rattle.meaning.specs.Evaluation.{Environment, treeNamed, withNumber, withTrees, inCall, picked, branch, inBranch, resultNumber}
+use Rattle.meaning.specs.Evaluation.{Takes, Const, Var, Add as Plus, IfZero, Let, Leaf, Node, Case, Call as Calls}
+use Rattle.meaning.specs.Evaluation.{TakesArgs, no-more, one-more, counted, unitsIn, ifZeroUnits, caseUnits}
+use Rattle.meaning.specs.OpenCalls.{numberOr, treeOr, resultTree, evaluate, evaluateArgs, called}
 use Rattle.meaning.proofs.Evaluation.{unitsInArgs}
 use Rattle.meaning.proofs.Levels.{level-newest, level-found, level-kept}
-use Rattle.meaning.proofs.Proper.{Proper, proper-const, proper-var, proper-add, proper-ifZero, proper-let, proper-leaf, proper-node, proper-case, proper-call, ProperArgs, proper-none, proper-arg}
+use Rattle.meaning.proofs.Proper.{Proper, proper-const, proper-var, proper-add, proper-ifZero, proper-let, proper-leaf}
+use Rattle.meaning.proofs.Proper.{proper-node, proper-case, proper-call, ProperArgs, proper-none, proper-arg}
 use Rattle.meaning.proofs.Sorts.{ValuesOf, valueOf, Numbers, numbersOf}
 use Rattle.translation.specs.Templates.{behind, behindArgs, Words, wordOf, code, codeArgs, endOf, entryOf}
-use Rattle.translation.proofs.Addresses.{At, Split, at-code, at-args}
-use Rattle.translation.proofs.InOrder.{head-taken, both-branches, case-in-order, Tail, all-left, one-taken, walk-tail}
-use Rattle.translation.proofs.Paths.{withSpace, Path, no-step, join}
-use Rattle.translation.proofs.Carried.{Picks, none-picked, picked as on-top, picks-kept, picks-one, picks-tail, on-its-word, Carries, carried, a-leaf, a-node, no-tag, other-tag, label-cut}
-use Rattle.translation.proofs.Performed.{Next, moved, does-push, does-get, does-jump, does-add, does-slide, does-drop, does-ifnot-zero, does-ifnot-other}
-use Rattle.translation.proofs.Performed.{does-leaf-tag, does-node-tag, does-write-number, does-read-leaf, does-read-node, does-read-number, no-tag-there, other-tag-there, label-cut-there}
-use Rattle.translation.proofs.Goes.{Sticks, sticks-here, sticks-after, InputFault, input-ended, not-a-tag, Goes, faults, goes-there, goes-stuck, goes-begins, goes-first, Then, goes-then, goes-map, goes-next}
+use Rattle.translation.proofs.Addresses.{At, Held, Split, at-code, at-args}
+use Rattle.translation.proofs.InOrder.{head-taken, both-branches, case-in-order, walk-tail}
+use Rattle.translation.proofs.Paths.{Path, no-step, join}
+use Rattle.translation.proofs.Carried.{Picks, none-picked, picked as on-top, picks-kept, picks-one, picks-tail, on-its-word}
+use Rattle.translation.proofs.Carried.{Carries, a-leaf, a-node, no-tag, other-tag, label-cut}
+use Rattle.translation.proofs.Performed.{does-push, does-get, does-jump, does-add, does-slide, does-drop, does-ifnot-zero, does-ifnot-other}
+use Rattle.translation.proofs.Performed.{does-leaf-tag, does-node-tag, does-write-number, does-read-leaf, does-read-node, does-read-number}
+use Rattle.translation.proofs.Performed.{no-tag-there, other-tag-there, label-cut-there}
+use Rattle.translation.proofs.Courses.{refused-at-once, course-behind}
+use Rattle.translation.proofs.Goes.{input-ended, not-a-tag, Goes, faults, goes-there, goes-begins, goes-first, goes-then, goes-map, goes-next}
 
 -- ---- where values go
 
@@ -71,18 +72,15 @@ finished sort x a read s =
 abbrev pub argued : State → List ℕ → (a read : ℕ) → State
 argued s numbers a read = record { address = a; frame = numbers ++ s .frame; callers = s .callers; read = read; output = s .output }
 
--- a known function's signature is known
-known-signature : (fs : List Function) (b : ℕ) (f : Function) → nth fs b ≡ some f → nth (map signatureOf fs) b ≡ some (signatureOf f)
-unfolding nth
-known-signature [] b f e = absurd (Option·none-ne-some f e)
-known-signature (g ∷ fs) zero f e = ap (λ h. some (signatureOf h)) (Option·some-injective g f e)
-known-signature (g ∷ fs) (suc b) f e = known-signature fs b f e
-
 -- ---- one program in one setting, k calls still to be opened
 
 module _ (Faulty : Type 0) (m : Setting) (program : Program) (end : ℕ) (wide : 16 * m .mostOpen ≤ m .mostWords) (k : ℕ) where
   abbrev gs : List Signature
   gs = signatures program
+
+  -- What stands in the setting's code.
+  abbrev Has : ℕ → Operation → Type 0
+  Has = Held (m .holds)
 
   -- The frames below have at most 16 words each, and k calls more may be opened.
   pub record Under (callers : List Caller) : Type 0 where
@@ -120,13 +118,23 @@ module _ (Faulty : Type 0) (m : Setting) (program : Program) (end : ℕ) (wide :
       pub counts : unitsIn derivation ≡ units
       pub left : Left (E .trees) Δ beyond read
 
-  pub record AfterArgs (E : Environment) (xs : Args) (before : List ℕ) (Δ : List ℕ) (beyond : List Tree) (count n : ℕ) (numbers : Numbers count) (units read : ℕ)
-      : Type 0 where
-    pub begun : ℕ
-    pub derivation : TakesArgs program E xs (suc k) begun before (numbers .all)
-    pub is-begun : begun ≡ n
-    pub counts : unitsInArgs derivation ≡ units
-    pub left : Left (E .trees) Δ beyond read
+  -- by a derivation
+  after-by :
+      {E : Environment} {sort : Sort} {e : Expr} {Δ : List ℕ} {beyond : List Tree} {n begun : ℕ} {x : ValuesOf sort} {units read : ℕ}
+      → (d : Takes program E e (suc k) begun (valueOf sort x))
+      → begun ≡ n
+      → unitsIn d ≡ units
+      → Left (E .trees) Δ beyond read
+      → After E sort e Δ beyond n x units read
+  after-by d is-begun counts left = record { begun = _; derivation = d; is-begun = is-begun; counts = counts; left = left }
+
+  pub record AfterArgs (E : Environment) (xs : Args) (before Δ : List ℕ) (beyond : List Tree) (count n : ℕ) (numbers : Numbers count) (units read : ℕ) : Type 0
+    where
+      pub begun : ℕ
+      pub derivation : TakesArgs program E xs (suc k) begun before (numbers .all)
+      pub is-begun : begun ≡ n
+      pub counts : unitsInArgs derivation ≡ units
+      pub left : Left (E .trees) Δ beyond read
 
   -- Behind a call of f with these numbers on this tree: its own two instructions are counted.
   pub record AfterCall (f : Function) (numbers : List ℕ) (t : Tree) (beyond : List Tree) (n : ℕ) (x : ValuesOf (f .sort)) (units read : ℕ) : Type 0 where
@@ -143,7 +151,7 @@ module _ (Faulty : Type 0) (m : Setting) (program : Program) (end : ℕ) (wide :
       → Before g n E words w Δ beyond s
       → walk n r Δ e ≡ done Δ′
       → wordsOf gs w e ≤ mostWords
-      → At (m .holds) (s .address) (code (entryOf program) sort words w (s .address) e)
+      → At Has (s .address) (code (entryOf program) sort words w (s .address) e)
       → (q : ℕ)
       → Goes Faulty m s (valueOf sort) (λ x read. finished sort x (behind e (s .address)) read s) (After E sort e Δ′ beyond)
       (evaluate (called program k) E q e)
@@ -154,7 +162,7 @@ module _ (Faulty : Type 0) (m : Setting) (program : Program) (end : ℕ) (wide :
       → Before g n E words w Δ beyond (argued s before a read)
       → walkArgs n r Δ xs ≡ done Δ′
       → wordsOfArgs gs w xs ≤ mostWords
-      → At (m .holds) a (codeArgs (entryOf program) words w a xs)
+      → At Has a (codeArgs (entryOf program) words w a xs)
       → length before + count ≡ all
       → (q : ℕ)
       → Goes Faulty m (argued s before a read) (numbersOf all) (λ numbers read′. argued s (numbers .all) (behindArgs xs a) read′)
@@ -165,7 +173,7 @@ module _ (Faulty : Type 0) (m : Setting) (program : Program) (end : ℕ) (wide :
   SimCalls =
       (b : ℕ) (f : Function) (numbers : Numbers (f .parameters)) (t : Tree) (beyond : List Tree) (s : State) (a read : ℕ)
       → nth (program .functions) b ≡ some f
-      → m .holds a ≡ some (instructionOf (Call (entryOf program b) (f .parameters)))
+      → Has a (Call (entryOf program b) (f .parameters))
       → Carries Faulty (m .input) end read (t ∷ beyond)
       → Under (s .callers)
       → length (s .frame) ≤ mostWords
@@ -185,27 +193,15 @@ module _ (Faulty : Type 0) (m : Setting) (program : Program) (end : ℕ) (wide :
     -- with the same frame, elsewhere
     before-at : (a read : ℕ) (output : List ℕ) {Δ′ : List ℕ} → Left (E .trees) Δ′ beyond read
         → Before g n E words w Δ′ beyond (record { address = a; frame = s .frame; callers = s .callers; read = read; output = output })
-    before-at a read output left = record {
-      numbers = b .numbers;
-      trees = b .trees;
-      frame = b .frame;
-      held = b .held;
-      left = left;
-      under = b .under;
-    }
+    before-at a read output left =
+        record { numbers = b .numbers; trees = b .trees; frame = b .frame; held = b .held; left = left; under = b .under }
 
     -- with a number found on top of the frame, not named
     before-temporary :
         (i a read : ℕ) {Δ′ : List ℕ} → Left (E .trees) Δ′ beyond read
         → Before g n E words (suc w) Δ′ beyond (finished numberValued i a read s)
-    before-temporary i a read left = record {
-      numbers = b .numbers;
-      trees = b .trees;
-      frame = ap suc (b .frame);
-      held = picks-kept i (b .held);
-      left = left;
-      under = b .under;
-    }
+    before-temporary i a read left =
+        record { numbers = b .numbers; trees = b .trees; frame = ap suc (b .frame); held = picks-kept i (b .held); left = left; under = b .under }
 
     -- with a number on top of the frame, named by the next name
     before-named :
@@ -248,13 +244,8 @@ module _ (Faulty : Type 0) (m : Setting) (program : Program) (end : ℕ) (wide :
   unfolding code behind walk wordsOf evaluate counted
   sim-const i E words w r Δ Δ′ beyond s b walked few laid q =
       goes-begins Faulty m
-      (goes-there Faulty m i 1 (s .read) (does-push m s i (laid .0) (room s (b .under) (omega (arith, b .frame)))) (record {
-        begun = 1;
-        derivation = Const;
-        is-begun = refl;
-        counts = refl;
-        left = rw (done-injective walked) at (b .left);
-      }))
+      (goes-there Faulty m i 1 (s .read) (does-push m s i (laid .0) (room s (b .under) (omega (arith, b .frame))))
+      (after-by Const refl refl (rw (done-injective walked) at (b .left))))
 
   -- a name's number is got from its word
   sim-var : {g n : ℕ} (a : ℕ) → a < g → Sim g n numberValued (var a)
@@ -266,20 +257,14 @@ module _ (Faulty : Type 0) (m : Setting) (program : Program) (end : ℕ) (wide :
       (goes-begins Faulty m
       (goes-there Faulty m (found .entry) 1 (s .read)
       (does-get m s (wordOf words a) (found .entry) (laid .0) on-word (room s (b .under) (omega (arith, b .frame))))
-      (record {
-        begun = 1;
-        derivation = Var (found .is);
-        is-begun = refl;
-        counts = refl;
-        left = rw (done-injective walked) at (b .left);
-      })))
+      (after-by (Var (found .is)) refl refl (rw (done-injective walked) at (b .left)))))
 
   -- two numbers, the first one a temporary below the second
   sim-add : {g n : ℕ} (p q : Expr) → Sim g n numberValued p → Sim g n numberValued q → Sim g n numberValued (add p q)
   unfolding code behind walk wordsOf evaluate resultNumber counted
   sim-add p q sim-p sim-q E words w r Δ Δ′ beyond s b walked few laid at-record =
-      let laid-p = at-code (m .holds) (entryOf program) numberValued words w (s .address) p _ laid in
-      let laid-q = at-code (m .holds) (entryOf program) numberValued words (suc w) (behind p (s .address)) q _ (laid-p .then) in
+      let laid-p = at-code Has (entryOf program) numberValued words w (s .address) p _ laid in
+      let laid-q = at-code Has (entryOf program) numberValued words (suc w) (behind p (s .address)) q _ (laid-p .then) in
       let parts = then-inv (walk _ (suc r) Δ p) _ Δ′ walked in
       goes-begins Faulty m
       (goes-next Faulty m _ (sim-p E words w _ Δ (parts .value) beyond s b (parts .first) (omega arith) (laid-p .first) _) λ n₁ i u₁ read₁ after₁.
@@ -287,13 +272,9 @@ module _ (Faulty : Type 0) (m : Setting) (program : Program) (end : ℕ) (wide :
       (sim-q E words (suc w) _ (parts .value) Δ′ beyond _ (before-temporary b i _ read₁ (after₁ .left)) (parts .second) (omega arith)
       (laid-q .first) _)
       λ n₂ j u₂ read₂ after₂.
-      goes-there Faulty m (sum32 i j) 1 read₂ (does-add m _ i j (s .frame) (laid-q .then .0) refl) (record {
-        begun = suc (after₁ .begun + after₂ .begun);
-        derivation = Plus (after₁ .derivation) (after₂ .derivation);
-        is-begun = omega (arith, after₁ .is-begun, after₂ .is-begun);
-        counts = omega (arith, after₁ .counts, after₂ .counts);
-        left = after₂ .left;
-      }))
+      goes-there Faulty m (sum32 i j) 1 read₂ (does-add m _ i j (s .frame) (laid-q .then .0) refl)
+      (after-by (Plus (after₁ .derivation) (after₂ .derivation))
+      (omega (arith, after₁ .is-begun, after₂ .is-begun)) (omega (arith, after₁ .counts, after₂ .counts)) (after₂ .left)))
 
   -- the test's word is popped; behind the zero part the other one is jumped over
   sim-ifZero : {g n : ℕ} {sort : Sort} (t z o : Expr) → Sim g n numberValued t → Sim g n sort z → Sim g n sort o → Sim g n sort (ifZero t z o)
@@ -303,8 +284,8 @@ module _ (Faulty : Type 0) (m : Setting) (program : Program) (end : ℕ) (wide :
       let atZ = suc (behind t (s .address)) in
       let L = suc (behind z atZ) in
       let M = behind o L in
-      let laid-t = at-code (m .holds) entries numberValued words w (s .address) t _ laid in
-      let laid-z = at-code (m .holds) entries sort words w atZ z _ (laid-t .then .1) in
+      let laid-t = at-code Has entries numberValued words w (s .address) t _ laid in
+      let laid-z = at-code Has entries sort words w atZ z _ (laid-t .then .1) in
       let parts = then-inv (walk _ (suc r) Δ t) _ Δ′ walked in
       let both = both-branches r (walk _ (suc r + size t) (parts .value) z) (walk _ (suc r + size t + size z) (parts .value) o) Δ′ (parts .second) in
       let picks :
@@ -323,32 +304,24 @@ module _ (Faulty : Type 0) (m : Setting) (program : Program) (end : ℕ) (wide :
               more = 1;
               read = read₂;
               path = does-jump m _ M (laid-z .then .0);
-              post = record {
-                begun = suc (after₁ .begun + after₂ .begun);
-                derivation = IfZero (after₁ .derivation) (after₂ .derivation);
-                is-begun = omega (arith, after₁ .is-begun, after₂ .is-begun);
-                counts = omega (arith, after₁ .counts, after₂ .counts);
-                left = after₂ .left;
-              };
+              post =
+                  after-by (IfZero (after₁ .derivation) (after₂ .derivation))
+                  (omega (arith, after₁ .is-begun, after₂ .is-begun)) (omega (arith, after₁ .counts, after₂ .counts)) (after₂ .left);
             })
         | suc j ↦ λ n₁ u₁ read₁ after₁.
             goes-first Faulty m (does-ifnot-other m _ L j (s .frame) (laid-t .then .0) refl)
             (goes-map Faulty m
             (sim-o E words w _ (parts .value) Δ′ beyond _ (before-at b L read₁ (s .output) (after₁ .left)) (both .1) (omega arith) (laid-z .then .1) _)
-            λ n₂ x u₂ read₂ after₂. record {
-              begun = suc (after₁ .begun + after₂ .begun);
-              derivation = IfZero (after₁ .derivation) (after₂ .derivation);
-              is-begun = omega (arith, after₁ .is-begun, after₂ .is-begun);
-              counts = omega (arith, after₁ .counts, after₂ .counts);
-              left = after₂ .left;
-            })
+            λ n₂ x u₂ read₂ after₂.
+            after-by (IfZero (after₁ .derivation) (after₂ .derivation))
+            (omega (arith, after₁ .is-begun, after₂ .is-begun)) (omega (arith, after₁ .counts, after₂ .counts)) (after₂ .left))
       ] in
       goes-begins Faulty m
       (goes-next Faulty m _ (sim-t E words w _ Δ (parts .value) beyond s b (parts .first) (omega arith) (laid-t .first) _) λ n₁ i u₁ read₁ after₁.
       picks i n₁ u₁ read₁ after₁)
 
   -- behind a part under one more name, the word of that name goes
-  does-end : (sort : Sort) (x : ValuesOf sort) (i a b read read′ : ℕ) (s : State) → m .holds a ≡ some (instructionOf (endOf sort))
+  does-end : (sort : Sort) (x : ValuesOf sort) (i a b read read′ : ℕ) (s : State) → Has a (endOf sort)
       → Path m (finished sort x a read (finished numberValued i b read′ s)) (finished sort x (suc a) read s) 1
   unfolding endOf
   does-end numberValued x i a b read read′ s h = does-slide m _ i x (s .frame) h refl
@@ -359,8 +332,8 @@ module _ (Faulty : Type 0) (m : Setting) (program : Program) (end : ℕ) (wide :
   unfolding code behind walk wordsOf evaluate resultNumber counted
   sim-let {sort = sort} p body sim-p sim-body E words w r Δ Δ′ beyond s b walked few laid at-record =
       let entries = entryOf program in
-      let laid-p = at-code (m .holds) entries numberValued words w (s .address) p _ laid in
-      let laid-body = at-code (m .holds) entries sort (w ∷ words) (suc w) (behind p (s .address)) body _ (laid-p .then) in
+      let laid-p = at-code Has entries numberValued words w (s .address) p _ laid in
+      let laid-body = at-code Has entries sort (w ∷ words) (suc w) (behind p (s .address)) body _ (laid-p .then) in
       let parts = then-inv (walk _ (suc r) Δ p) _ Δ′ walked in
       goes-begins Faulty m
       (goes-next Faulty m _ (sim-p E words w _ Δ (parts .value) beyond s b (parts .first) (omega arith) (laid-p .first) _) λ n₁ i u₁ read₁ after₁.
@@ -371,20 +344,16 @@ module _ (Faulty : Type 0) (m : Setting) (program : Program) (end : ℕ) (wide :
         more = 1;
         read = read₂;
         path = does-end sort x i _ (behind p (s .address)) read₂ read₁ s (laid-body .then .0);
-        post = record {
-          begun = suc (after₁ .begun + after₂ .begun);
-          derivation = Let (after₁ .derivation) (after₂ .derivation);
-          is-begun = omega (arith, after₁ .is-begun, after₂ .is-begun);
-          counts = omega (arith, after₁ .counts, after₂ .counts);
-          left = after₂ .left;
-        };
+        post =
+            after-by (Let (after₁ .derivation) (after₂ .derivation))
+            (omega (arith, after₁ .is-begun, after₂ .is-begun)) (omega (arith, after₁ .counts, after₂ .counts)) (after₂ .left);
       })
 
   -- the tag, then the label
   sim-leaf : {g n : ℕ} (p : Expr) → Sim g n numberValued p → Sim g n treeValued (leafOf p)
   unfolding code behind walk wordsOf evaluate resultNumber counted tokens
   sim-leaf p sim-p E words w r Δ Δ′ beyond s b walked few laid at-record =
-      let laid-p = at-code (m .holds) (entryOf program) numberValued words w (suc (s .address)) p _ (laid .1) in
+      let laid-p = at-code Has (entryOf program) numberValued words w (suc (s .address)) p _ (laid .1) in
       goes-begins Faulty m
       (goes-first Faulty m (does-leaf-tag m s (laid .0))
       (goes-next Faulty m _
@@ -392,20 +361,14 @@ module _ (Faulty : Type 0) (m : Setting) (program : Program) (end : ℕ) (wide :
       λ n₁ i u₁ read₁ after₁.
       goes-there Faulty m (leaf i) 1 read₁
       (rw (← append-assoc (s .output) (leafTag ∷ []) (bytesOf labelBytes i)) (does-write-number m _ i (s .frame) (laid-p .then .0) refl))
-      (record {
-        begun = suc (after₁ .begun);
-        derivation = Leaf (after₁ .derivation);
-        is-begun = omega (arith, after₁ .is-begun);
-        counts = omega (arith, after₁ .counts);
-        left = after₁ .left;
-      })))
+      (after-by (Leaf (after₁ .derivation)) (omega (arith, after₁ .is-begun)) (omega (arith, after₁ .counts)) (after₁ .left))))
 
   -- the tag, then the two parts in order
   sim-node : {g n : ℕ} (p q : Expr) → Sim g n treeValued p → Sim g n treeValued q → Sim g n treeValued (nodeOf p q)
   unfolding code behind walk wordsOf evaluate resultTree counted tokens
   sim-node p q sim-p sim-q E words w r Δ Δ′ beyond s b walked few laid at-record =
       let entries = entryOf program in
-      let laid-p = at-code (m .holds) entries treeValued words w (suc (s .address)) p _ (laid .1) in
+      let laid-p = at-code Has entries treeValued words w (suc (s .address)) p _ (laid .1) in
       let parts = then-inv (walk _ (suc r) Δ p) _ Δ′ walked in
       let tag = s .output ++ (nodeTag ∷ []) in
       goes-begins Faulty m
@@ -416,13 +379,9 @@ module _ (Faulty : Type 0) (m : Setting) (program : Program) (end : ℕ) (wide :
       goes-next Faulty m _
       (sim-q E words w _ (parts .value) Δ′ beyond _ (before-at b _ read₁ (tag ++ tokens x) (after₁ .left)) (parts .second) (omega arith) (laid-p .then) _)
       λ n₂ y u₂ read₂ after₂.
-      goes-there Faulty m (node x y) 0 read₂ (rw (← joined-tokens (s .output) x y) (no-step _)) (record {
-        begun = suc (after₁ .begun + after₂ .begun);
-        derivation = Node (after₁ .derivation) (after₂ .derivation);
-        is-begun = omega (arith, after₁ .is-begun, after₂ .is-begun);
-        counts = omega (arith, after₁ .counts, after₂ .counts);
-        left = after₂ .left;
-      })))
+      goes-there Faulty m (node x y) 0 read₂ (rw (← joined-tokens (s .output) x y) (no-step _))
+      (after-by (Node (after₁ .derivation) (after₂ .derivation))
+      (omega (arith, after₁ .is-begun, after₂ .is-begun)) (omega (arith, after₁ .counts, after₂ .counts)) (after₂ .left))))
 
   -- names that were pending before a node's parts were named are so without them
   older-left :
@@ -454,8 +413,8 @@ module _ (Faulty : Type 0) (m : Setting) (program : Program) (end : ℕ) (wide :
       M : ℕ
       M = behind q L
 
-      laid-p : Split (m .holds) atP (behind p atP) (code entries sort (w ∷ words) (suc w) atP p) (endOf sort ∷ (Jump M ∷ code entries sort words w L q))
-      laid-p = at-code (m .holds) entries sort (w ∷ words) (suc w) atP p _ (laid .1 .1)
+      laid-p : Split Has atP (behind p atP) (code entries sort (w ∷ words) (suc w) atP p) (endOf sort ∷ (Jump M ∷ code entries sort words w L q))
+      laid-p = at-code Has entries sort (w ∷ words) (suc w) atP p _ (laid .1 .1)
 
       leaf-read : State
       leaf-read = record { address = suc (s .address); frame = s .frame; callers = s .callers; read = s .read + 1; output = s .output }
@@ -484,13 +443,7 @@ module _ (Faulty : Type 0) (m : Setting) (program : Program) (end : ℕ) (wide :
             more = 2;
             read = read₁;
             path = join (does-end sort x i (behind p atP) atP read₁ (s .read + 1 + labelBytes) s (laid-p .then .0)) (does-jump m _ M (laid-p .then .1 .0));
-            post = record {
-              begun = suc (after₁ .begun);
-              derivation = Case found (after₁ .derivation);
-              is-begun = omega (arith, after₁ .is-begun);
-              counts = omega (arith, after₁ .counts);
-              left = after₁ .left;
-            };
+            post = after-by (Case found (after₁ .derivation)) (omega (arith, after₁ .is-begun)) (omega (arith, after₁ .counts)) (after₁ .left);
           }))))
       on-head rest in-leaf in-node pending (on-top found named) (a-node {l = l} {r = u} tag carries) =
           let older = picks-tail (walk-tail n _ rest Δ′ p in-leaf) named in
@@ -500,20 +453,17 @@ module _ (Faulty : Type 0) (m : Setting) (program : Program) (end : ℕ) (wide :
           (goes-map Faulty m
           (sim-q (withTrees l u E) words w _ (n ∷ (suc n ∷ rest)) Δ′ beyond _ (before-parts b l u L _ named carries) in-node (omega arith)
           (laid-p .then .1 .1) _)
-          λ n₁ x u₁ read₁ after₁. record {
-            begun = suc (after₁ .begun);
-            derivation = Case found (after₁ .derivation);
-            is-begun = omega (arith, after₁ .is-begun);
-            counts = omega (arith, after₁ .counts);
-            left = older-left l u (older .picks) (after₁ .left);
-          })))
+          λ n₁ x u₁ read₁ after₁.
+          after-by (Case found (after₁ .derivation)) (omega (arith, after₁ .is-begun)) (omega (arith, after₁ .counts))
+          (older-left l u (older .picks) (after₁ .left)))))
       on-head rest in-leaf in-node pending (on-top found named) (no-tag faulty tag) =
-          faults inputEnded faulty input-ended (sticks-here s (λ space. no-tag-there m s L space (laid .0) tag))
+          faults inputEnded faulty input-ended (refused-at-once s (λ space. no-tag-there m s L space (laid .0) tag))
       on-head rest in-leaf in-node pending (on-top found named) (other-tag faulty tag) =
-          faults notATag faulty not-a-tag (sticks-here s (λ space. other-tag-there m s L space (laid .0) tag))
+          faults notATag faulty not-a-tag (refused-at-once s (λ space. other-tag-there m s L space (laid .0) tag))
       on-head rest in-leaf in-node pending (on-top found named) (label-cut faulty tag short) =
           faults inputEnded faulty input-ended
-          (sticks-after (does-read-leaf m s L (laid .0) tag) (sticks-here leaf-read (λ space. label-cut-there m leaf-read space (laid .1 .0) roomy short)))
+          (course-behind (does-read-leaf m s L (laid .0) tag)
+          (refused-at-once leaf-read (λ space. label-cut-there m leaf-read space (laid .1 .0) roomy short)))
 
   -- no more arguments
   sim-none : {g n : ℕ} → SimArgs g n 0 noArgs
@@ -531,7 +481,7 @@ module _ (Faulty : Type 0) (m : Setting) (program : Program) (end : ℕ) (wide :
   sim-arg : {g n : ℕ} (count : ℕ) (x : Expr) (xs : Args) → Sim g n numberValued x → SimArgs g n count xs → SimArgs g n (suc count) (arg x xs)
   unfolding codeArgs behindArgs walkArgs wordsOfArgs evaluateArgs resultNumber counted
   sim-arg count x xs sim-x sim-xs E words w r Δ Δ′ beyond s before a read all b walked few laid many q =
-      let laid-x = at-code (m .holds) (entryOf program) numberValued words w a x _ laid in
+      let laid-x = at-code Has (entryOf program) numberValued words w a x _ laid in
       let parts = then-inv (walk _ r Δ x) _ Δ′ walked in
       goes-next Faulty m _ (sim-x E words w _ Δ (parts .value) beyond (argued s before a read) b (parts .first) (omega arith) (laid-x .first) _)
       λ n₁ i u₁ read₁ after₁.
@@ -567,12 +517,12 @@ module _ (Faulty : Type 0) (m : Setting) (program : Program) (end : ℕ) (wide :
       there : ℕ
       there = behindArgs xs (s .address)
 
-      laid-xs : Split (m .holds) (s .address) there (codeArgs (entryOf program) words w (s .address) xs) (Call (entryOf program b) (countArgs xs) ∷ [])
-      laid-xs = at-args (m .holds) (entryOf program) words w (s .address) xs _ laid
+      laid-xs : Split Has (s .address) there (codeArgs (entryOf program) words w (s .address) xs) (Call (entryOf program b) (countArgs xs) ∷ [])
+      laid-xs = at-args Has (entryOf program) words w (s .address) xs _ laid
 
       few-all : (w ≤ mostWords) × (wordsOfArgs gs w xs ≤ mostWords)
       few-all =
-          let both = rw (words-call gs w a b xs (signatureOf f) (known-signature (program .functions) b f known)) at few in
+          let both = rw (words-call gs w a b xs (signatureOf f) (nth-mapped signatureOf (program .functions) b f known)) at few in
           (omega (arith, words-least-args gs w xs), omega arith)
 
       on-tree :
@@ -589,13 +539,10 @@ module _ (Faulty : Type 0) (m : Setting) (program : Program) (end : ℕ) (wide :
           (goes-map Faulty m
           (calls b f numbers t (ts ++ beyond) s there read₁ known (rw many at (laid-xs .then .0)) carries (before .under)
           (rw (sym (before .frame)) at (few-all .0)) at-record)
-          λ n₂ x u₂ read₂ after₂. record {
-            begun = suc (after₁ .begun + after₂ .begun);
-            derivation = Calls (after₁ .derivation) found known (after₂ .derivation);
-            is-begun = omega (arith, after₁ .is-begun, after₂ .is-begun);
-            counts = omega (arith, after₁ .counts, after₂ .counts);
-            left = record { pending = ts; named = named; carries = after₂ .carries };
-          })
+          λ n₂ x u₂ read₂ after₂.
+          after-by (Calls (after₁ .derivation) found known (after₂ .derivation))
+          (omega (arith, after₁ .is-begun, after₂ .is-begun)) (omega (arith, after₁ .counts, after₂ .counts))
+          (record { pending = ts; named = named; carries = after₂ .carries }))
 
   -- as many arguments as the function has number parameters
   count-proper : {g n count : ℕ} {xs : Args} → ProperArgs (program .functions) g n count xs → countArgs xs ≡ count

@@ -1,25 +1,23 @@
 -- The run of a program's code from its start: its course is known from the evaluation. Where the evaluation ends within the calls that may be open, the run
 -- comes to the end of function 0 with the value; where a call is one too many, it is refused there; or the input has a fault, and it is refused at it.
-use Prim.Native.Nat.{ℕ, suc, _+_, _*_, _≤_}
-use mathlib.Core.List.{List, [], _∷_, _++_}
-use mathlib.Core.Path.{_≡_, refl, sym, ap, _∙_}
-use lib.ListN.{length}
+use Prim.Native.Nat.{ℕ, suc, _*_, _≤_}
+use mathlib.Core.List.{List, [], _∷_}
+use mathlib.Core.Path.{_≡_, refl, sym, _∙_}
 use Rattle.formats.specs.Refusals.{tooManyCalls}
-use Rattle.formats.specs.Tokens.{Tree, tokens}
+use Rattle.formats.specs.Tokens.{Tree}
 use Rattle.formats.specs.Programs.{Sort, numberValued, treeValued, Program}
 use Rattle.meaning.specs.Performing.{Setting, start, ends as returning}
 use Rattle.meaning.specs.Running.{ended, refused}
 use Rattle.meaning.specs.Evaluation.{Value, inCall, Ends, unitsIn, resultBytes, resultNumber}
 use Rattle.meaning.specs.OpenCalls.{Outcome, evaluation}
-use Rattle.meaning.specs.Meaning.{HeldTo}
 use Rattle.meaning.proofs.Outcomes.{gives-not}
 use Rattle.meaning.proofs.Proper.{ProperProgram}
 use Rattle.meaning.proofs.OpenCalls.{held}
 use Rattle.meaning.proofs.Sorts.{ValuesOf, valueOf}
 use Rattle.translation.proofs.Carried.{Carries, carried}
-use Rattle.translation.proofs.Courses.{Course, returns, refused-there}
+use Rattle.translation.proofs.Courses.{Course, returns}
 use Rattle.translation.proofs.Evaluated.{Runnable, atEnd, keeps-whole, ends-whole}
-use Rattle.translation.proofs.Goes.{Sticks, InputFault, Goes, arrives, too-many, faults}
+use Rattle.translation.proofs.Goes.{InputFault, Goes, arrives, too-many, faults}
 use Rattle.translation.proofs.Simulation.{appended, After, none-left}
 
 -- where no tree is left the input has been read to the end
@@ -32,40 +30,29 @@ unfolding resultBytes
 bytes-are numberValued i = refl
 bytes-are treeValued t = refl
 
--- a course that is refused
-pub stuck-course : {m : Setting} {why : ℕ} → Sticks m start why → Course m start (refused why)
-stuck-course h = record {
-  last = h .last;
-  units = h .units;
-  path = h .path;
-  final = _;
-  counts = 0;
-  is-final = refused-there;
-  there = h .there;
-}
-
-module _ (Faulty : Type 0) (m : Setting) (program : Program) (end : ℕ) (wide : 16 * m .mostOpen ≤ m .mostWords) (runnable : Runnable program (m .holds)) (t : Tree) where
+module _ (Faulty : Type 0) (m : Setting) (program : Program) (end : ℕ) (wide : 16 * m .mostOpen ≤ m .mostWords) (runnable : Runnable program (m .holds)) where
   open ProperProgram (runnable .proper) using (first, is-first)
 
   -- The course of the run, where o calls may be open.
-  pub data Known (o : ℕ) : Type 0 where
+  pub data Known (t : Tree) (o : ℕ) : Type 0 where
     ends-so :
         (n : ℕ) (v : Value) (ends : Ends program t o n v) (c : Course m start (ended (resultNumber v)))
         → c .units ≡ unitsIn (ends .takes)
         → c .counts ≡ 1
         → c .last .output ≡ resultBytes v
         → c .last .read ≡ end
-        → Known o
-    sticks-so : ((n : ℕ) (v : Value) → Ends program t o n v → ⊥) → Course m start (refused tooManyCalls) → Known o
-    faults-so : (why : ℕ) → Faulty → InputFault why → Course m start (refused why) → Known o
+        → Known t o
+    sticks-so : ((n : ℕ) (v : Value) → Ends program t o n v → ⊥) → Course m start (refused tooManyCalls) → Known t o
+    faults-so : (why : ℕ) → Faulty → InputFault why → Course m start (refused why) → Known t o
 
-  pub known : (k : ℕ) → Carries Faulty (m .input) end 0 (t ∷ []) → suc k ≡ m .mostOpen → Known (suc k)
-  known k carries allowed = view (evaluation program (suc k) t) refl (keeps-whole Faulty m program end wide runnable k t carries allowed)
+  pub known : (t : Tree) (k : ℕ) → Carries Faulty (m .input) end 0 (t ∷ []) → suc k ≡ m .mostOpen → Known t (suc k)
+  known t k carries allowed = view (evaluation program (suc k) t) refl (keeps-whole Faulty m program end wide runnable k t carries allowed)
     where
       view :
           (o : Outcome Value) → evaluation program (suc k) t ≡ o
-          → Goes Faulty m start (valueOf (first .sort)) (atEnd Faulty m program end wide runnable) (After Faulty m program end wide k (inCall [] t) (first .sort) (first .body) [] []) o
-          → Known (suc k)
+          → Goes Faulty m start (valueOf (first .sort)) (atEnd Faulty m program end wide runnable)
+          (After Faulty m program end wide k (inCall [] t) (first .sort) (first .body) [] []) o
+          → Known t (suc k)
       view o e (arrives n x units read path after) =
           ends-so (after .begun) (valueOf (first .sort) x) (record { first = first; is-first = is-first; takes = after .derivation })
           (record {
@@ -79,5 +66,5 @@ module _ (Faulty : Type 0) (m : Setting) (program : Program) (end : ℕ) (wide :
           })
           (sym (after .counts)) refl (bytes-are (first .sort) x) (at-the-end (none-left Faulty m program end wide k (after .left)))
       view o e (too-many n r h) =
-          sticks-so (λ n′ v ends. gives-not n′ n tooManyCalls r v (sym (held program t (runnable .proper) .gives-value (suc k) n′ v .1 ends) ∙ e)) (stuck-course h)
-      view o e (faults why f w h) = faults-so why f w (stuck-course h)
+          sticks-so (λ n′ v ends. gives-not n′ n tooManyCalls r v (sym (held program t (runnable .proper) .gives-value (suc k) n′ v .1 ends) ∙ e)) h
+      view o e (faults why f w h) = faults-so why f w h

@@ -15,7 +15,8 @@ use lib.ListN.{length, length-append}
 use Rattle.formats.specs.Refusals.{inputEnded, outputFull, tooManyCalls, cannotPerform}
 use Rattle.formats.specs.Tokens.{labelBytes, Tag, ended, aLeaf, aNode, other, tagAt}
 use Rattle.meaning.specs.Levels.{atLevel}
-use Rattle.meaning.specs.Instructions.{Instruction, Operation, Push, Get, Add, Ifnot, Jump, Slide, Drop, LeafTag, NodeTag, WriteNumber, ReadTag, ReadNumber, Call, Return, operationOf}
+use Rattle.meaning.specs.Instructions.{Instruction, Operation, Push, Get, Add, Ifnot, Jump, Slide, Drop, LeafTag, NodeTag}
+use Rattle.meaning.specs.Instructions.{WriteNumber, ReadTag, ReadNumber, Call, Return, operationOf}
 use Rattle.meaning.specs.Performing.{Setting, Caller, State, standing, opened, Step, goes, ends, refuses, holding}
 use Rattle.meaning.specs.Performing.{one, two, room, push, write, byTag, readNumber, call, kept, leave, operate, perform, step}
 use Rattle.meaning.specs.StreamRun.{Steps, here, on}
@@ -31,7 +32,7 @@ pub record Wider (m M : Setting) : Type 0 where
   pub calls : m .mostOpen ≤ M .mostOpen
 
 -- with more space, and all else as it is
-pub more-space : (m : Setting) (space : ℕ) → m .space ≤ space → Wider m (withSpace space m)
+more-space : (m : Setting) (space : ℕ) → m .space ≤ space → Wider m (withSpace space m)
 more-space m space h = record { holds = λ a. refl; input = refl; space = h; words = le-refl _; calls = le-refl _ }
 
 -- ---- one instruction
@@ -177,30 +178,18 @@ module _ {m M : Setting} (w : Wider m M) (s : State) where
 
 -- ---- steps
 
--- The instruction is performed.
-abbrev Performed : Step → Type 0
-Performed (goes t) = Unit {0}
-Performed (ends number) = Unit {0}
-Performed (refuses why) = ⊥
-
--- one that is performed is the same under larger limits
-wide-performed : {m M : Setting} {s : State} {r q : Step} → Widened m M s r q → Performed r → q ≡ r
-wide-performed (same fits) h = refl
-wide-performed (few-words less) h = absurd h
-wide-performed (few-calls less) h = absurd h
-wide-performed (short less) h = absurd h
+-- a step that goes on does so under larger limits, to the same state
+wide-goes : {m M : Setting} {s t : State} {r q : Step} → Widened m M s r q → r ≡ goes t → q ≡ goes t
+wide-goes (same fits) e = e
+wide-goes (few-words less) e = cc
+wide-goes (few-calls less) e = cc
+wide-goes (short less) e = cc
 
 module _ {m M : Setting} (w : Wider m M) where
-  performed-too : (s : State) {r : Step} → step m s ≡ r → Performed r → step M s ≡ r
-  performed-too s e h = wide-performed (wide-step w s) (subst Performed (sym e) h) ∙ e
+  wider-goes : (s : State) {t : State} → step m s ≡ goes t → step M s ≡ goes t
+  wider-goes s = wide-goes (wide-step w s)
 
-  -- so a step goes to the same state, or ends with the same number, and steps lead to the same state
-  pub wider-goes : (s : State) {t : State} → step m s ≡ goes t → step M s ≡ goes t
-  wider-goes s e = performed-too s e tt
-
-  pub wider-ends : (s : State) {number : ℕ} → step m s ≡ ends number → step M s ≡ ends number
-  wider-ends s e = performed-too s e tt
-
+  -- so steps lead to the same state
   pub wider-steps : {past : List ℕ} {s t : State} → Steps m past s t → Steps M past s t
   wider-steps d = elim d as (λ past s t d. Steps M past s t) [ here ↦ here | on {s = s} e (d → h) ↦ on (wider-goes s e) h ]
 

@@ -1,7 +1,8 @@
 -- Witnesses for demand 3: a checked program and a tree for each way that an evaluation may go. It ends within 1,024 open calls, with a tree or with a
--- number; it ends, but with more calls open; it is endless. So none of what is stated of checked programs (Demand3) is empty.
+-- number; it ends, but with more calls open; it is endless. So none of what is stated of checked programs (Demand3) is empty. And a program that
+-- pass one refuses with 10 alone: its code has a word count above 16 (CodeLimits).
 use Prim.Native.Nat.{ℕ, zero, suc, _+_, _*_, _^_, _≤_, _<_}
-use mathlib.Core.List.{[], _∷_}
+use mathlib.Core.List.{List, [], _∷_}
 use mathlib.Core.Path.{_≡_, refl, sym, ap, _∙_}
 use native.Mathlib.Omega.{arith}
 use lib.Dec.{lit<, lit≤}
@@ -9,36 +10,34 @@ use Rattle.formats.specs.Numbers.{sum32}
 use Rattle.formats.specs.Refusals.{tooManyCalls}
 use Rattle.formats.specs.Tokens.{Tree, leaf, node, Labelled}
 use Rattle.formats.specs.Records.{nth}
-use Rattle.formats.specs.Programs.{const, var, add, ifZero, caseOf, prefix, size, countArgs, arityOf, signatureOf, total, Program, mostParameters}
-use Rattle.formats.proofs.Results.{then-inv}
+use Rattle.formats.specs.Programs.{const, var, add, ifZero, caseOf, prefix, size, countArgs, Applied, Signature, arityOf, signatureOf, total}
+use Rattle.formats.specs.Programs.{Program, signatures, mostParameters, InRange, Every, Lawful}
+use Rattle.formats.proofs.Programs.{every-append}
 use Rattle.formats.proofs.ProgramCases.{grow, grow-lawful}
-use Rattle.rules.specs.Types.{isInt, fits, resultType}
-use Rattle.rules.specs.Scopes.{inside, startOf, entered, enteredAll}
+use Rattle.rules.specs.Types.{Int, isInt, fits, resultType}
+use Rattle.rules.specs.Scopes.{scope, inside, startOf, entered, enteredAll}
 use Rattle.rules.specs.PassOne.{named, typed, bareNumber, wordsTested, roomy, atEntry, passOver, passOne}
 use Rattle.rules.specs.PassTwo.{takeHead, sameNames, joined, walk, noneLeft, walkAll, passTwo, order}
-use Rattle.rules.proofs.Cases.{numbered, taking, programOf, on, with-one, grow-passes}
+use Rattle.rules.proofs.Cases.{numbered, taking, programOf, on, with-one, lets, grow-passes}
 use Rattle.meaning.specs.Levels.{atLevel}
 use Rattle.meaning.specs.Running.{mostCalls}
 use Rattle.meaning.specs.Evaluation.{Value, number, tree, Ends, resultNumber}
 use Rattle.meaning.specs.OpenCalls.{Outcome, gives, stops, after, next, numberOr, treeOr, resultTree, evaluate, firstRecord, called, evaluation}
-use Rattle.meaning.specs.Meaning.{Endless, HeldTo}
+use Rattle.meaning.specs.Meaning.{Endless}
 use Rattle.meaning.proofs.Outcomes.{after-more, gives-not}
 use Rattle.meaning.proofs.Meaning.{meaning}
 use Rattle.meaning.proofs.MeaningCases.{again, sum, two-leaves}
 use Rattle.meaning.proofs.Witnesses.{again-passes, again-endless}
 use Rattle.translation.specs.Demand3.{Checked}
+use Rattle.translation.specs.CodeLimits.{Sound, Exceeds}
+use Rattle.translation.proofs.Bodies.{passes-one}
+use Rattle.translation.proofs.CodeLimits.{code-limits}
 
 -- A checked program and a tree of 32-bit labels, of which this holds.
 record Witness (program : Program) (t : Tree) (Holds : Type 0) : Type 0 where
   checked : Checked program
   labelled : Labelled t
   holds : Holds
-
--- a checked program passes pass one, so what holds of an evaluation held to a number of open calls holds of it
-held-to : {program : Program} → Checked program → (t : Tree) → HeldTo program t
-unfolding order
-held-to {program} checked t =
-    meaning .held program t (record { lawful = checked .lawful; passes = then-inv (passOne program) _ tt (checked .passes) .first })
 
 -- ---- within 1,024 open calls
 
@@ -52,7 +51,7 @@ unfolding evaluation called evaluate next after resultNumber resultTree numberOr
 ends-with-tree = record {
   checked = grow-checked;
   labelled = (lit< tt, lit< tt);
-  holds = held-to grow-checked two-leaves .gives-value mostCalls 14 _ .0 refl;
+  holds = meaning .held _ two-leaves (passes-one _ grow-checked) .gives-value mostCalls 14 _ .0 refl;
 }
 
 -- Sum is within the limits and passes both passes
@@ -82,7 +81,7 @@ unfolding evaluation called evaluate next after resultNumber numberOr treeOr atL
 ends-with-number = record {
   checked = sum-checked;
   labelled = (lit< tt, lit< tt);
-  holds = held-to sum-checked two-leaves .gives-value mostCalls 8 _ .0 refl;
+  holds = meaning .held _ two-leaves (passes-one _ sum-checked) .gives-value mostCalls 8 _ .0 refl;
 }
 
 -- ---- with more than 1,024 open
@@ -175,7 +174,7 @@ ends-too-deep :
     Witness countdown (leaf 9)
     (Ends countdown (leaf 9) 1102 6606 (number 9) × ((n : ℕ) (v : Value) → Ends countdown (leaf 9) mostCalls n v → ⊥))
 ends-too-deep =
-    let held = held-to countdown-checked (leaf 9) in
+    let held = meaning .held _ (leaf 9) (passes-one _ countdown-checked) in
     let stops-first = stopped-after 2 (stops-down 1023 1100 3 (leaf 9) (lit≤ tt) (lit< tt)) in
     record {
       checked = countdown-checked;
@@ -198,3 +197,43 @@ again-checked = record { lawful = again-passes .lawful; passes = refl }
 endless : Witness again two-leaves (Endless again two-leaves)
 unfolding two-leaves
 endless = record { checked = again-checked; labelled = (lit< tt, lit< tt); holds = again-endless two-leaves }
+
+-- ---- words
+
+-- Sixteen Lets around a constant.
+unfoldable sixteen-lets : Program
+sixteen-lets = programOf (numbered (lets 16 (const 1)) ∷ [])
+
+-- however many there are, their fields are in range, and no Call has arguments ..
+lets-in-range : (k functions : ℕ) → Every (InRange functions) (prefix (lets k (const 1)))
+unfolding prefix lets
+lets-in-range zero functions = (lit< tt, tt)
+lets-in-range (suc k) functions = (tt, (lit< tt, lets-in-range k functions))
+
+lets-applied : (k : ℕ) (arity : ℕ → ℕ) → Applied arity (lets k (const 1))
+unfolding lets
+lets-applied zero arity = tt
+lets-applied (suc k) arity = (tt, lets-applied k arity)
+
+-- .. and every name is bound and every type right
+lets-sound : (gs : List Signature) (k g n w r : ℕ) → Every (Sound gs) (entered (scope g n w Int) r (lets k (const 1)))
+unfolding entered inside named typed isInt lets
+lets-sound gs zero g n w r = ((refl, refl), tt)
+lets-sound gs (suc k) g n w r = ((refl, refl), ((refl, refl), lets-sound gs k _ _ _ _))
+
+lets-lawful : Lawful sixteen-lets
+unfolding sixteen-lets numbered programOf lets size prefix signatureOf total mostParameters
+lets-lawful = record {
+  edition = refl;
+  some-function = lit≤ tt;
+  few-functions = lit≤ tt;
+  few-nodes = lit≤ tt;
+  functions = (record { few-parameters = lit≤ tt; in-range = lets-in-range 16 1; applied = lets-applied 16 (arityOf (signatures sixteen-lets)) }, tt);
+}
+
+-- pass one refuses it with 10, so a word count in its code exceeds 16
+exceeds : Exceeds sixteen-lets
+unfolding passOne passOver atEntry roomy wordsTested typed named enteredAll entered inside startOf resultType isInt size prefix signatureOf sixteen-lets numbered programOf lets
+exceeds =
+    let sound = every-append (Sound (signatures sixteen-lets)) (entered (scope 0 1 0 Int) 2 (lets 16 (const 1))) [] (lets-sound (signatures sixteen-lets) 16 0 1 0 2) tt in
+    code-limits sixteen-lets lets-lawful .words sound .0 (record { place = 34; refused = refl })

@@ -18,8 +18,9 @@ use Rattle.formats.specs.Refusals.{tooManyWords}
 use Rattle.formats.specs.Results.{Result, done, refusal}
 use Rattle.formats.specs.Records.{Kind, Const, Var, Add, IfZero, Let, Leaf, Node, Case, Call, nth}
 use Rattle.formats.specs.Programs.{Expr, const, var, add, ifZero, letIn, leafOf, nodeOf, caseOf, call, Args, noArgs, arg, size}
-use Rattle.formats.specs.Programs.{Sort, numberValued, treeValued, Signature, Function, signatureOf, Program, signatures, mostParameters}
+use Rattle.formats.specs.Programs.{Sort, numberValued, treeValued, Signature, Function, signatureOf, Program, signatures}
 use Rattle.formats.specs.Programs.{Every, LawfulFunctions, Lawful}
+use Rattle.formats.proofs.Records.{nth-mapped}
 use Rattle.formats.proofs.Programs.{every-left, every-right}
 use Rattle.formats.proofs.Results.{done-not}
 use Rattle.rules.specs.Types.{Ty, Int, Tree⁺}
@@ -31,7 +32,8 @@ use Rattle.rules.proofs.PassOne.{Passes, PassesArgs, pass-one, pass-nothing, pa
 use Rattle.rules.proofs.Words.{few-words}
 use Rattle.translation.specs.Templates.{entryOf}
 use Rattle.translation.specs.CodeLimits.{Stands, at-entry, onward, Exceeds, Sound, RefusedFor10}
-use Rattle.translation.proofs.Coded.{signature-known, SoundIn, SoundArgs, called, coded-function}
+use Rattle.translation.proofs.Operands.{few-parameters}
+use Rattle.translation.proofs.Coded.{SoundIn, SoundArgs, called, coded-function}
 use Rattle.translation.proofs.WordWays.{call-words, most-reached, Safe, safe-few, safe-next, safe-at, all-safe}
 
 -- ---- few words pass
@@ -67,7 +69,7 @@ module _ (program : Program) where
       → wordsTested gs (Call v b) ≡ true
       → w < mostWords
   unfolding wordsTested bareNumber signatureOf valueWords
-  call-tested w v b f known few t = by-sort (f .sort) refl (rw (signature-known program b f known, wordsTested) at t)
+  call-tested w v b f known few t = by-sort (f .sort) refl (rw (nth-mapped signatureOf (program .functions) b f known, wordsTested) at t)
     where
       by-sort : (s : Sort) → f .sort ≡ s → bareNumber (signatureOf f) ≡ true → w < mostWords
       by-sort numberValued e bare = rw e at few
@@ -159,11 +161,6 @@ module _ (program : Program) where
       ]
 
   -- where all pass, none takes more; parameters alone do not
-  few-parameters : (j k : ℕ) → k ≤ mostParameters j → k ≤ mostWords
-  unfolding mostParameters
-  few-parameters zero k h = omega arith
-  few-parameters (suc j) k h = omega arith
-
   few-in : (j r : ℕ) (fs : List Function) → LawfulFunctions gs j fs → passOver gs (enteredAll r fs) ≡ done tt
       → (b : ℕ) (f : Function) → nth fs b ≡ some f → wordsIn f ≤ mostWords
   unfolding enteredAll startOf nth
@@ -171,7 +168,7 @@ module _ (program : Program) where
   few-in j r (g ∷ fs) lawful e zero f known =
       let own = pass-left gs (entered (startOf g) r (g .body)) _ e in
       rw (← Option·some-injective g f known)
-      (few-words gs _ _ _ r _ (g .body) (lawful .0 .applied) (few-parameters j _ (lawful .0 .few-parameters)) own)
+      (few-words gs _ _ _ r _ (g .body) (lawful .0 .applied) (omega (arith, few-parameters j _ (lawful .0 .few-parameters))) own)
   few-in j r (g ∷ fs) lawful e (suc b) f known =
       few-in (suc j) _ fs (lawful .1) (pass-right gs (entered (startOf g) r (g .body)) _ e) b f known
 

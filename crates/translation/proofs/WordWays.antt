@@ -14,6 +14,7 @@ use native.Mathlib.Nat.{zero-add, suc-add, add-suc, le-refl, le-trans}
 use native.Mathlib.Omega.{arith}
 use Rattle.formats.specs.Records.{nth}
 use Rattle.formats.specs.Programs.{Expr, call as callOf, Args, countArgs, Sort, numberValued, treeValued, Function, signatureOf, Program, signatures}
+use Rattle.formats.proofs.Records.{nth-mapped}
 use Rattle.rules.specs.PassOne.{mostWords, valueWords, wordsOf, wordsOfArgs}
 use Rattle.rules.proofs.Words.{words-call}
 use Rattle.meaning.specs.Instructions.{Operation, Push, Get, Add, Ifnot, Jump, Slide, Drop, LeafTag, NodeTag}
@@ -21,9 +22,9 @@ use Rattle.meaning.specs.Instructions.{WriteNumber, ReadTag, ReadNumber, Call, 
 use Rattle.translation.specs.Templates.{endOf, wordsKept, entryOf}
 use Rattle.translation.specs.CodeLimits.{Leaves, Leads, push, get, add, ifnot-zero, ifnot-other, jump, slide, drop, leaf-tag, node-tag}
 use Rattle.translation.specs.CodeLimits.{write-number, read-leaf, read-node, read-number, call, Stands, onward}
-use Rattle.translation.proofs.CodeStands.{one-function}
-use Rattle.translation.proofs.Coded.{Holds, Coded, coded-const, coded-var, coded-add, coded-ifZero, coded-let, coded-leaf}
-use Rattle.translation.proofs.Coded.{coded-node, coded-case, coded-call, coded-none, coded-arg, signature-known}
+use Rattle.translation.proofs.CodeStands.{Holds, one-function}
+use Rattle.translation.proofs.Coded.{Coded, coded-const, coded-var, coded-add, coded-ifZero, coded-let, coded-leaf}
+use Rattle.translation.proofs.Coded.{coded-node, coded-case, coded-call, coded-none, coded-arg}
 
 module _ (program : Program) where
   -- ---- a way through
@@ -88,7 +89,7 @@ module _ (program : Program) where
   pub call-words : (w v k : ℕ) (xs : Args) (f : Function) → nth (program .functions) k ≡ some f
       → wordsOf (signatures program) w (callOf v k xs) ≡ max (valueWords (f .sort) w) (wordsOfArgs (signatures program) w xs)
   unfolding signatureOf
-  call-words w v k xs f known = words-call (signatures program) w v k xs (signatureOf f) (signature-known program k f known)
+  call-words w v k xs f known = words-call (signatures program) w v k xs (signatureOf f) (nth-mapped signatureOf (program .functions) k f known)
 
   -- the most words of an expression are reached from its code's first address
   pub most-reached : {s : Sort} {e : Expr} {a b : ℕ} → Coded program s e a b → (w : ℕ) → Stands program a w

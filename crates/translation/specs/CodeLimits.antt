@@ -1,7 +1,7 @@
 -- The limits of a program's code: the statements. They are proved in proofs/CodeLimits.antt.
-use Prim.Native.Nat.{ℕ, zero, suc, _+_, _≤_, _<_}
+use Prim.Native.Nat.{ℕ, suc, _+_, _≤_, _<_}
 use mathlib.Core.Bool.{true}
-use mathlib.Core.List.{List}
+use mathlib.Core.List.{List, _++_}
 use mathlib.Core.Logic.{_↔_}
 use mathlib.Core.Option.{some}
 use mathlib.Core.Path.{_≡_}
@@ -14,7 +14,8 @@ use Rattle.rules.specs.Scopes.{Entry, entry, enteredAll}
 use Rattle.rules.specs.PassOne.{mostWords, named, typed, passOne}
 use Rattle.rules.specs.OrderChecker.{firstNode}
 use Rattle.meaning.specs.Instructions.{Operation, Push, Get, Add, Ifnot, Jump, Slide, Drop, LeafTag, NodeTag, WriteNumber, ReadTag, ReadNumber, Call, instructionOf, mostInstructions}
-use Rattle.translation.specs.Templates.{wordsKept, entryOf, operationsOf}
+use Rattle.meaning.specs.Performing.{Setting, State, goes, operate}
+use Rattle.translation.specs.Templates.{wordsKept, functionCode, entryOf, operationsOf}
 
 -- ---- word counts in code, without running it
 
@@ -27,7 +28,8 @@ pub record Leaves (program : Program) (entry words : ℕ) : Type 0 where
   pub kept : wordsKept (function .sort) ≡ words
 
 -- `Leads program op a w b v`: an instruction at address a, with w words above the base before it, leads to address b with v words. A test leads both
--- ways, as does a tag; a return leads to no other.
+-- ways, as does a tag; a return leads to no other. A step of the machine within one frame leads so (`as-counted` below). A call's arguments leave the frame,
+-- and its result is counted when it is back; the frame of the function that is called is counted from its own entry on.
 pub data Leads (program : Program) : Operation → (a w b v : ℕ) → Type 0 where
   push : {i a w : ℕ} → Leads program (Push i) a w (suc a) (suc w)
   get : {k a w : ℕ} → Leads program (Get k) a w (suc a) (suc w)
@@ -62,7 +64,7 @@ pub record Exceeds (program : Program) : Type 0 where
   pub stands : Stands program address count
   pub above : mostWords < count
 
--- Pass one finds no name that is not bound (9) and no wrong type (8), at any record.
+-- At this record the name is bound (no 9) and the type is right (no 8).
 abbrev pub Sound : List Signature → Entry → Type 0
 Sound gs (entry sc r kind) = (named sc kind ≡ true) × (typed gs sc kind ≡ true)
 
@@ -71,17 +73,36 @@ pub record RefusedFor10 (program : Program) : Type 0 where
   pub place : ℕ
   pub refused : passOne program ≡ refusal tooManyWords place
 
+-- ---- where functions stand
+
+-- The instructions of function b are a part of the program's, the one that begins at its entry.
+pub record InPlace (program : Program) (b : ℕ) (f : Function) : Type 0 where
+  pub before : List Operation
+  pub behind : List Operation
+  pub many : length before ≡ entryOf program b
+  pub joined : operationsOf program ≡ before ++ (functionCode (entryOf program) (entryOf program b) f ++ behind)
+
 -- ---- the theorems
 
+-- Of a program within the limits of "Program file".
 pub record CodeLimits (program : Program) : Type 0 where
   -- 01: "At most 4,128 instructions."
   pub few : length (operationsOf program) ≤ mostInstructions
   -- each field of each instruction fits its bytes
   pub fit : Every (λ op. Ranged (instructionOf op)) (operationsOf program)
-  -- for a program with no 9 or 8, pass one says 10 exactly where some word count in its code exceeds 16
+  -- 01: "each one's instructions go into the part of the code buffer that begins at its entry"
+  pub in-place : (b : ℕ) (f : Function) → nth (program .functions) b ≡ some f → InPlace program b f
+  -- words are counted as the machine moves them, in a step that opens no call and leaves none
+  pub as-counted :
+      (m : Setting) (s t : State) (op : Operation)
+      → operate m s op ≡ goes t
+      → length (t .callers) ≡ length (s .callers)
+      → Leads program op (s .address) (length (s .frame)) (t .address) (length (t .frame))
+  -- for a program with no 9 or 8, pass one says 10 exactly when some word count in its code exceeds 16 (at which record: rules, OrderChecker, `pass-one`)
   pub words :
       Every (Sound (signatures program)) (enteredAll (firstNode program) (program .functions))
       → RefusedFor10 program ↔ Exceeds program
 
+-- Every such program.
 abbrev pub CodeLimitsHold : Type 0
 CodeLimitsHold = (program : Program) → Lawful program → CodeLimits program

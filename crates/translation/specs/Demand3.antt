@@ -1,9 +1,14 @@
--- Demand 3, sentence by sentence: the statement. It is proved in proofs/Demand3.antt.
+-- Demand 3, sentence by sentence. The statement is `Demand3Holds`, at the end; `demand-3` in proofs/Demand3.antt is its proof.
 --
--- Its words: a program's code is `codeOf` (Templates), by document 01's templates. The stream run is `streamRun` (meaning, Running): its answer, and
--- every byte of the output. The source evaluation is `Ends` (meaning, Evaluation): `Ends program t o n v` says that it ends with the value v after n
--- expressions, with at most o calls open at once; an evaluation is endless where there are no such o, n and v.
-use Prim.Native.Nat.{ℕ, suc, _+_, _*_, _≤_}
+-- 01: "Demand 3 runs the translator's code for a program both passes accept, work space lent; its 4n + 1 is meant where it fits 64 bits." Here fuel is any
+-- number.
+--
+-- Its words. A program's code: `codeOf` (Templates), by document 01's templates. The stream run: `streamRun` (meaning, Running), its answer and every byte
+-- of the output. The source evaluation: `Ends program t o n v` (meaning, Evaluation), it ends with the value v after n expressions, with at most o calls
+-- open at once, the first included; it is endless where there are no such o, n and v. `mostCalls` is 1,024. The source's result: `resultBytes v`, a tree's
+-- tokens, none for a number; `resultNumber v`, the number, 0 for a tree. `Opens vs s`: vs are opening bytes of s, none or all included. `writtenBy`: the
+-- output's first bytes, as many as the answer says are written; `untouchedBy`: the bytes behind those.
+use Prim.Native.Nat.{ℕ, _+_, _*_, _≤_}
 use mathlib.Core.List.{List, _++_}
 use mathlib.Core.Logic.{_≢_}
 use mathlib.Core.Path.{_≡_}
@@ -14,7 +19,7 @@ use Rattle.formats.specs.Tokens.{Tree, Labelled, tokens}
 use Rattle.formats.specs.Programs.{Program, Lawful}
 use Rattle.rules.specs.PassTwo.{order}
 use Rattle.meaning.specs.Running.{Ran, valueWords, returnWords, mostCalls, streamRun}
-use Rattle.meaning.specs.StreamRun.{writtenBy}
+use Rattle.meaning.specs.StreamRun.{writtenBy, untouchedBy}
 use Rattle.meaning.specs.Evaluation.{Value, Ends, resultBytes, resultNumber}
 use Rattle.translation.specs.Templates.{codeOf}
 
@@ -23,8 +28,8 @@ pub record Checked (program : Program) : Type 0 where
   pub lawful : Lawful program
   pub passes : order program ≡ done tt
 
--- What its runs are given besides input, output and fuel: its code has anything behind it in its buffer, and the work space is lent, document 01's or
--- more.
+-- A checked program, with what its runs are given besides input, output and fuel: a code buffer that begins with its code, and work space, document
+-- 01's or more.
 pub record Given : Type 0 where
   pub program : Program
   pub checked : Checked program
@@ -34,6 +39,7 @@ pub record Given : Type 0 where
   pub words-lent : valueWords ≤ values
   pub places-lent : returnWords ≤ returns
 
+-- The stream run of its code.
 abbrev pub runOn : Given → (input output : List ℕ) (fuel : ℕ) → Ran
 runOn given input output fuel = streamRun (codeOf (given .program) ++ given .after-code) input output fuel (given .values) (given .returns)
 
@@ -62,6 +68,15 @@ pub record Demand3 (program : Program) (t : Tree) (run : (input output : List �
       (rest output : List ℕ) (fuel o n : ℕ) (v : Value)
       → Ends program t o n v
       → Opens (writtenBy (run (tokens t ++ rest) output fuel)) (resultBytes v)
+  pub written-no-more :
+      (rest output : List ℕ) (fuel o n : ℕ) (v : Value)
+      → Ends program t o n v
+      → run (tokens t ++ rest) output fuel .answer .bytesWritten ≤ length (resultBytes v)
+  -- (no other byte of the output is written, whether the source has a result or not)
+  pub none-other :
+      (rest output : List ℕ) (fuel : ℕ)
+      → untouchedBy (run (tokens t ++ rest) output fuel) (run (tokens t ++ rest) output fuel .output)
+      ≡ untouchedBy (run (tokens t ++ rest) output fuel) output
   -- "and neither answers nor output depend on what stands after the tree."
   pub nothing-after : (rest rest′ output : List ℕ) (fuel : ℕ) → run (tokens t ++ rest) output fuel ≡ run (tokens t ++ rest′) output fuel
   -- "If the source evaluation ends after n expressions with at most 1,024 calls open at once, every fuel from 4n + 1 up suffices, given output space for
@@ -73,7 +88,7 @@ pub record Demand3 (program : Program) (t : Tree) (run : (input output : List �
       → 4 * n + 1 ≤ fuel
       → length (resultBytes v) ≤ length output
       → Whole t v output (run (tokens t ++ rest) output fuel)
-  -- "For every other evaluation, endless ones included, no fuel suffices." Nor does any space.
+  -- "For every other evaluation, endless ones included, no fuel suffices." Nor does any output space.
   pub none-suffices :
       ((n : ℕ) (v : Value) → Ends program t mostCalls n v → ⊥)
       → (rest output : List ℕ) (fuel : ℕ)

@@ -8,7 +8,7 @@ use lib.ListN.{length}
 use Rattle.formats.specs.Numbers.{Bytes}
 use Rattle.formats.specs.Places.{Opens}
 use Rattle.formats.specs.Records.{nth}
-use Rattle.formats.specs.Refusals.{fuelUsedUp, tooManyCalls, cannotPerform}
+use Rattle.formats.specs.Refusals.{fuelUsedUp, outputFull, tooManyCalls, cannotPerform}
 use Rattle.formats.specs.Results.{done, refusal}
 use Rattle.formats.specs.Tokens.{Tree, Labelled, tokens}
 use Rattle.formats.specs.Programs.{treeValued, Function, Program}
@@ -40,6 +40,12 @@ pub record Refused18 (t : Tree) (run : (input output : List ℕ) (fuel : ℕ) �
       → units < fuel
       → space ≤ length output
       → RefusedAfter units tooManyCalls (run (tokens t ++ rest) output fuel)
+  -- every smaller fuel is used up
+  pub fewer :
+      (rest output : List ℕ) (fuel : ℕ)
+      → fuel ≤ units
+      → space ≤ length output
+      → RefusedAfter fuel fuelUsedUp (run (tokens t ++ rest) output fuel)
 
 -- An ended run was one on a tree, whose evaluation ends, and gave what that means.
 pub record Meant (program : Program) (input output : List ℕ) (ran : Ran) : Type 0 where
@@ -60,6 +66,7 @@ pub record OneForOne (input : List ℕ) (ran : Ran) : Type 0 where
   pub written-labelled : Labelled tree-written
   pub written-is : writtenBy ran ≡ tokens tree-written
 
+-- The runs of a checked program's code, each with its input, output and fuel.
 pub record EveryRun (program : Program) (run : (input output : List ℕ) (fuel : ℕ) → Ran) : Type 0 where
   -- With space for the result, the units of the evaluation are spent, with every fuel from there up ..
   pub exact-units :
@@ -75,7 +82,14 @@ pub record EveryRun (program : Program) (run : (input output : List ℕ) (fuel :
       → length (resultBytes v) ≤ length output
       → fuel < unitsOf ends
       → RefusedAfter fuel fuelUsedUp (run (tokens t ++ rest) output fuel)
-  -- Where more than 1,024 calls would open, enough fuel and space give 18.
+  -- With less space than the result takes, given the fuel, the output is full before the run ends.
+  pub less-space :
+      (t : Tree) (n : ℕ) (v : Value) (ends : Ends program t mostCalls n v) (rest output : List ℕ) (fuel : ℕ)
+      → Labelled t
+      → length output < length (resultBytes v)
+      → unitsOf ends ≤ fuel
+      → run (tokens t ++ rest) output fuel .answer .outcome ≡ refusal outputFull (run (tokens t ++ rest) output fuel .answer .bytesRead)
+  -- Where more than 1,024 calls would open (the evaluation does not end within 1,024 open calls), enough fuel and space give 18.
   pub too-many-calls : (t : Tree) → Labelled t → ((n : ℕ) (v : Value) → Ends program t mostCalls n v → ⊥) → Refused18 t run
   -- 01: "19 never follows translated code." On any input, trees or not.
   pub never-19 : (input output : List ℕ) (fuel place : ℕ) → Bytes input → run input output fuel .answer .outcome ≢ refusal cannotPerform place

@@ -1,9 +1,9 @@
--- Document 01: the code of a program. "the code is the one its templates give, with no optimiser: readers compare listings by eye".
+-- The code of a program, by document 01's templates. Demand 2: "the code is the one its templates give, with no optimiser: readers compare listings by
+-- eye".
 use Prim.Native.Nat.{ℕ, zero, suc}
 use mathlib.Core.List.{List, [], _∷_, _++_, map}
-use mathlib.Core.Option.{Option, none, some}
-use lib.ListN.{length}
-use Rattle.formats.specs.Records.{flat, nth}
+use mathlib.Core.Option.{none, some}
+use Rattle.formats.specs.Records.{flat}
 use Rattle.formats.specs.Programs.{Expr, const, var, add, ifZero, letIn, leafOf, nodeOf, caseOf, call, Args, noArgs, arg, countArgs}
 use Rattle.formats.specs.Programs.{Sort, numberValued, treeValued, Function, Program}
 use Rattle.meaning.specs.Levels.{atLevel}
@@ -30,8 +30,8 @@ unfoldable mutual
 
 -- ---- words
 
--- The word that each number name stands on, the newest name first. 01: "get (operand: word above the base)". A name keeps its word, and a number found
--- before it, but not named, has a word of its own below it: so a name's word may be higher than its number.
+-- The word that each number name stands on, the newest name first. 01: "get (operand: word above the base)". A number found before and not named has a word
+-- of its own below, so a name's word may be higher than its number. (01's trap: "Forgetting that a temporary below moves a variable's word.")
 abbrev pub Words : Type 0
 Words = List ℕ
 
@@ -52,8 +52,8 @@ endOf numberValued = Slide
 endOf treeValued = Drop
 
 -- The code of an expression, by the table's column "code": in a program whose functions have these entries; a value of sort s is expected; the names
--- stand on these words, and w words stand above the base on entering; the code begins at address a. A label of the table (L, M) is the address that it
--- stands at.
+-- stand on these words, and w words stand above the base on entering; the code begins at address a. 01: "Let's body and Case's leaf part add one number
+-- name": it stands on word w, where its number was pushed. A label of the table (L, M) is the address that it stands at.
 unfoldable mutual
   pub code : (entries : ℕ → ℕ) (s : Sort) (words : Words) (w a : ℕ) → Expr → List Operation
   -- "push i"
@@ -107,7 +107,8 @@ functionCode entries a f =
 unfoldable pub behindFunction : Function → ℕ → ℕ
 behindFunction f a = suc (behind (f .body) a)
 
--- 01: "Functions follow in order". Where function b begins, if the first of these begins at a.
+-- 01: "Functions follow in order; each one's instructions go into the part of the code buffer that begins at its entry." Where function b begins, if the
+-- first of these begins at a; behind the last where there is no function b.
 unfoldable pub entryFrom : ℕ → List Function → ℕ → ℕ
 entryFrom a fs zero = a
 entryFrom a [] (suc b) = a
@@ -120,6 +121,7 @@ functionsCode entries a (f ∷ fs) = functionCode entries a f ++ functionsCode e
 
 -- ---- programs
 
+-- Where function b of a program begins.
 unfoldable pub entryOf : Program → ℕ → ℕ
 entryOf program b = entryFrom 0 (program .functions) b
 

@@ -128,6 +128,7 @@ module _ (Faulty : Type 0) (m : Setting) (program : Program) (end : ℕ) (wide :
       → After E sort e Δ beyond n x units read
   after-by d is-begun counts left = record { begun = _; derivation = d; is-begun = is-begun; counts = counts; left = left }
 
+  -- The same behind arguments, given the numbers found before them.
   pub record AfterArgs (E : Environment) (xs : Args) (before Δ : List ℕ) (beyond : List Tree) (count n : ℕ) (numbers : Numbers count) (units read : ℕ) : Type 0
     where
       pub begun : ℕ
@@ -144,7 +145,8 @@ module _ (Faulty : Type 0) (m : Setting) (program : Program) (end : ℕ) (wide :
     pub counts : 2 + unitsIn derivation ≡ units
     pub carries : Carries Faulty (m .input) end read beyond
 
-  -- What is to be shown of an expression of a sort under so many names, of arguments, and of calls.
+  -- What is to be shown of an expression of a sort under so many names, of arguments, and of calls. (r and q are record numbers, of pass two and of the
+  -- evaluation.)
   abbrev pub Sim : (g n : ℕ) (sort : Sort) (e : Expr) → Type 0
   Sim g n sort e =
       (E : Environment) (words : Words) (w r : ℕ) (Δ Δ′ : List ℕ) (beyond : List Tree) (s : State)

@@ -47,14 +47,17 @@ runOn given input output fuel = streamRun (codeOf (given .program) ++ given .aft
 abbrev pub readBy : Ran → List ℕ → List ℕ
 readBy ran input = take (ran .answer .bytesRead) input
 
--- "the run ends unrefused, the whole tree has been read, nothing past it, and the whole result written, or the same number given and nothing written":
--- of a tree t, a value v and the output at the start. (A number's `resultBytes` are none, a tree's `resultNumber` is 0.)
+-- What a run gives where the fuel suffices: of a tree t, a value v and the output at the start.
 pub record Whole (t : Tree) (v : Value) (output : List ℕ) (ran : Ran) : Type 0 where
+  -- "the run ends unrefused,"
   pub unrefused : ran .answer .outcome ≡ done tt
+  -- "the whole tree has been read, nothing past it,"
   pub whole-read : ran .answer .bytesRead ≡ length (tokens t)
+  -- "and the whole result written,"
   pub whole-written : ran .answer .bytesWritten ≡ length (resultBytes v)
   pub result : writtenBy ran ≡ resultBytes v
   pub untouched : drop (length (resultBytes v)) (ran .output) ≡ drop (length (resultBytes v)) output
+  -- "or the same number given and nothing written." (A number's `resultBytes` are none; a tree's `resultNumber` is 0.)
   pub same-number : ran .answer .number ≡ resultNumber v
 
 -- "When any checked program is run over the stream on any tree's tokens, with anything after them, any fuel and any output length:" `run` is the run of
@@ -80,7 +83,7 @@ pub record Demand3 (program : Program) (t : Tree) (run : (input output : List �
   -- "and neither answers nor output depend on what stands after the tree."
   pub nothing-after : (rest rest′ output : List ℕ) (fuel : ℕ) → run (tokens t ++ rest) output fuel ≡ run (tokens t ++ rest′) output fuel
   -- "If the source evaluation ends after n expressions with at most 1,024 calls open at once, every fuel from 4n + 1 up suffices, given output space for
-  -- the result: .."
+  -- the result:" the run is `Whole`.
   pub suffices :
       (n : ℕ) (v : Value)
       → Ends program t mostCalls n v

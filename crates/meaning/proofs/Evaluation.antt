@@ -1,7 +1,7 @@
--- Derivations of the evaluation: the value and the number of expressions begun are determined, the number is that of the rules, and a bound of the
--- calls open is one exactly where it is above the nesting of Call rules.
+-- Derivations of the evaluation: the value, the number of expressions begun and the units are determined, the number is that of the rules, and a bound of
+-- the calls open is one exactly where it is above the nesting of Call rules.
 --
--- Two derivations for one expression in one environment go by the same rules: they agree in number and value, and the second's bound is above the
+-- Two derivations for one expression in one environment go by the same rules: they agree in number, units and value, and the second's bound is above the
 -- first's nesting (`agree`: by induction over the first; rule by rule, only the second is taken apart). A derivation can be built anew under any bound
 -- above its nesting, its rules counted (`rebuilt`); it agrees with the first, so that count is the number begun.
 use Prim.Native.Nat.{ℕ, zero, suc, _+_, _*_, _≤_, _<_, max}

@@ -97,6 +97,40 @@ module _ (m : Setting) (s : State) where
     within = λ w. record { words = w .words; calls = w .calls; read = w .read; written = simp length-append fits };
   }
 
+-- ---- a property of whatever becomes of an instruction, through the tests that instructions make
+
+module _ (P : Step → Type 0) where
+  -- where a test is passed, and where it is not; where something is found
+  pub holds-if : (test : Bool) (r o : Step) → (test ≡ true → P r) → P o → P (elim test [ true ↦ r | false ↦ o ])
+  holds-if true r o h g = h refl
+  holds-if false r o h g = g
+
+  pub holds-some :
+      {A : Type 0} (found : Option A) (f : A → Step)
+      → P (refuses cannotPerform)
+      → ((x : A) → P (f x))
+      → P (elim found [ some x ↦ f x | none ↦ refuses cannotPerform ])
+  holds-some (some x) f g h = h x
+  holds-some none f g h = g
+
+  -- one word, or two, and those under them
+  pub holds-one :
+      (words : List ℕ) (f : ℕ → List ℕ → Step)
+      → P (refuses cannotPerform)
+      → ((x : ℕ) (rest : List ℕ) → length words ≡ suc (length rest) → P (f x rest))
+      → P (one words f)
+  unfolding one
+  holds-one [] f g h = g
+  holds-one (x ∷ rest) f g h = h x rest refl
+
+  pub holds-two :
+      (words : List ℕ) (f : ℕ → ℕ → List ℕ → Step)
+      → P (refuses cannotPerform)
+      → ((x y : ℕ) (rest : List ℕ) → length words ≡ suc (suc (length rest)) → P (f x y rest))
+      → P (two words f)
+  unfolding two
+  holds-two words f g h = holds-one words _ g (λ x under e. holds-one under _ g (λ y rest d. h x y rest (e ∙ ap suc d)))
+
 -- ---- what becomes of an instruction is sound: the next state follows, a refusal is one of the five
 
 abbrev Sound : Setting → State → Step → Type 0
@@ -105,38 +139,10 @@ Sound m s (ends number) = Unit {0}
 Sound m s (refuses number) = StepRefusal number
 
 module _ (m : Setting) (s : State) where
-  -- where a test is passed; where something is found
-  sound-if : (test : Bool) (r o : Step) → (test ≡ true → Sound m s r) → Sound m s o → Sound m s (elim test [ true ↦ r | false ↦ o ])
-  sound-if true r o h g = h refl
-  sound-if false r o h g = g
-
-  sound-some :
-      {A : Type 0} (found : Option A) (f : A → Step)
-      → ((x : A) → Sound m s (f x))
-      → Sound m s (elim found [ some x ↦ f x | none ↦ refuses cannotPerform ])
-  sound-some (some x) f h = h x
-  sound-some none f h = cannot
-
-  -- one word, or two, and those under them
-  sound-one :
-      (words : List ℕ) (f : ℕ → List ℕ → Step)
-      → ((x : ℕ) (rest : List ℕ) → length words ≡ suc (length rest) → Sound m s (f x rest))
-      → Sound m s (one words f)
-  unfolding one
-  sound-one [] f h = cannot
-  sound-one (x ∷ rest) f h = h x rest refl
-
-  sound-two :
-      (words : List ℕ) (f : ℕ → ℕ → List ℕ → Step)
-      → ((x y : ℕ) (rest : List ℕ) → length words ≡ suc (suc (length rest)) → Sound m s (f x y rest))
-      → Sound m s (two words f)
-  unfolding two
-  sound-two words f h = sound-one words _ (λ x under e. sound-one under _ (λ y rest d. h x y rest (e ∙ ap suc d)))
-
   -- room for one word more, and that word pushed
   sound-room : (r : Step) → (standing s < m .mostWords → Sound m s r) → Sound m s (room m s r)
   unfolding room
-  sound-room r h = sound-if _ r _ (λ e. h (ltb-true _ _ e)) cannot
+  sound-room r h = holds-if (Sound m s) _ r _ (λ e. h (ltb-true _ _ e)) cannot
 
   sound-push : (x : ℕ) → Sound m s (push m x s)
   unfolding push standing
@@ -146,7 +152,7 @@ module _ (m : Setting) (s : State) where
   sound-write : (words bytes : List ℕ) → length words ≤ length (s .frame) → Sound m s (write m bytes (holding words s))
   unfolding write
   sound-write words bytes h =
-      sound-if _ _ _ (λ e. follows-on (follows-fewer m s (s .address) words h) (follows-writing m _ _ bytes (leb-true _ _ e))) full
+      holds-if (Sound m s) _ _ _ (λ e. follows-on (follows-fewer m s (s .address) words h) (follows-writing m _ _ bytes (leb-true _ _ e))) full
 
   -- a tag or a number read
   sound-tag : (g : Tag) (a : ℕ) → Look (m .input) (s .read) g → Sound m s (byTag g a s)
@@ -160,7 +166,7 @@ module _ (m : Setting) (s : State) where
   unfolding readNumber standing
   sound-number h =
       let x = numberAt labelBytes (m .input) (s .read) in
-      sound-if _ _ _
+      holds-if (Sound m s) _ _ _
       (λ e. follows-on (follows-holding m s (s .address) (x ∷ s .frame) (λ w. omega arith)) (follows-reading m _ _ labelBytes (leb-true _ _ e)))
       ended-there
 
@@ -171,7 +177,7 @@ module _ (m : Setting) (s : State) where
       let front = length-take n (s .frame) in
       let back = length-drop n (s .frame) in
       let waits : Caller = record { back = suc (s .address); words = drop n (s .frame) } in
-      sound-if _ _ _
+      holds-if (Sound m s) _ _ _
       (λ e. let deep = ltb-true _ _ e in follows-frames m s entry (take n (s .frame)) (waits ∷ s .callers) (λ w. omega arith) (λ w. deep))
       too-many
 
@@ -199,27 +205,27 @@ module _ (m : Setting) (s : State) where
   sound-operate : (op : Operation) → Sound m s (operate m s op)
   unfolding operate
   sound-operate (Push x) = sound-push x
-  sound-operate (Get k) = sound-some (atLevel (s .frame) k) _ sound-push
-  sound-operate Add = sound-two _ _ (λ q p rest h. follows-fewer m s _ (sum32 p q ∷ rest) (omega arith))
-  sound-operate (Ifnot a) = sound-one _ _ (λ x rest h. follows-fewer m s _ rest (omega arith))
+  sound-operate (Get k) = holds-some (Sound m s) (atLevel (s .frame) k) _ cannot sound-push
+  sound-operate Add = holds-two (Sound m s) _ _ cannot (λ q p rest h. follows-fewer m s _ (sum32 p q ∷ rest) (omega arith))
+  sound-operate (Ifnot a) = holds-one (Sound m s) _ _ cannot (λ x rest h. follows-fewer m s _ rest (omega arith))
   sound-operate (Jump a) = follows-fewer m s a (s .frame) (le-refl _)
-  sound-operate Slide = sound-two _ _ (λ x under rest h. follows-fewer m s _ (x ∷ rest) (omega arith))
-  sound-operate Drop = sound-one _ _ (λ x rest h. follows-fewer m s _ rest (omega arith))
+  sound-operate Slide = holds-two (Sound m s) _ _ cannot (λ x under rest h. follows-fewer m s _ (x ∷ rest) (omega arith))
+  sound-operate Drop = holds-one (Sound m s) _ _ cannot (λ x rest h. follows-fewer m s _ rest (omega arith))
   sound-operate LeafTag = sound-write (s .frame) _ (le-refl _)
   sound-operate NodeTag = sound-write (s .frame) _ (le-refl _)
-  sound-operate WriteNumber = sound-one _ _ (λ x rest h. sound-write rest _ (omega arith))
+  sound-operate WriteNumber = holds-one (Sound m s) _ _ cannot (λ x rest h. sound-write rest _ (omega arith))
   sound-operate (ReadTag a) = sound-tag _ a (look (m .input) (s .read))
   sound-operate ReadNumber = sound-room _ sound-number
-  sound-operate (Call entry n) = sound-if _ _ _ (λ e. sound-call entry n (leb-true _ _ e)) cannot
+  sound-operate (Call entry n) = holds-if (Sound m s) _ _ _ (λ e. sound-call entry n (leb-true _ _ e)) cannot
   sound-operate (Return k) = sound-kept k (s .frame) _ (λ few h. sound-leave (s .callers) few refl h)
 
   sound-perform : (i : Instruction) → Sound m s (perform m s i)
   unfolding perform
-  sound-perform i = sound-some (operationOf i) _ sound-operate
+  sound-perform i = holds-some (Sound m s) (operationOf i) _ cannot sound-operate
 
   sound : Sound m s (step m s)
   unfolding step
-  sound = sound-some (m .holds (s .address)) _ sound-perform
+  sound = holds-some (Sound m s) (m .holds (s .address)) _ cannot sound-perform
 
   -- the state gone to follows
   pub follows-step : {t : State} → step m s ≡ goes t → Follows m s t

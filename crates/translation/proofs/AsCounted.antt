@@ -1,21 +1,21 @@
--- `Leads` is what the machine does with the words of a frame: a step that opens no call and leaves none leads so. Opcode by opcode, with a law for each test
--- that an instruction may make.
-use Prim.Native.Nat.{ℕ, zero, suc, _+_}
+-- `Leads` is what the machine does with the words of a frame: a step that opens no call and leaves none leads so. Opcode by opcode.
+use Prim.Native.Nat.{ℕ, suc, _+_}
 use mathlib.Core.Bool.{Bool, true, false}
-use mathlib.Core.List.{List, [], _∷_, _++_}
+use mathlib.Core.List.{List, [], _∷_}
 use mathlib.Core.Option.{Option, none, some}
-use mathlib.Core.Path.{_≡_, refl, ap, subst, _∙_}
+use mathlib.Core.Path.{_≡_, refl, ap, subst}
 use native.Mathlib.Omega.{arith}
 use lib.Dec.{eqb, ltb, leb}
 use lib.ListN.{length, take, drop as drop-words}
-use Rattle.formats.specs.Tokens.{leafTag, nodeTag, tagAt, Tag, ended, aLeaf, aNode, other}
+use Rattle.formats.specs.Tokens.{leafTag, nodeTag, labelBytes, tagAt, Tag, ended, aLeaf, aNode, other}
 use Rattle.formats.specs.Refusals.{cannotPerform, outputFull, tooManyCalls, inputEnded}
 use Rattle.formats.specs.Programs.{Program}
 use Rattle.meaning.specs.Levels.{atLevel}
 use Rattle.formats.specs.Numbers.{bytesOf, numberAt}
 use Rattle.meaning.specs.Instructions.{Operation, Push, Get, Add, Ifnot, Jump, Slide, Drop, LeafTag, NodeTag, WriteNumber, ReadTag, ReadNumber, Call, Return}
-use Rattle.meaning.specs.Performing.{Setting, Caller, State, Step, goes, ends, refuses, one, two, room, write, byTag, readNumber, kept, leave, operate}
+use Rattle.meaning.specs.Performing.{Setting, Caller, State, Step, goes, ends, refuses, room, write, byTag, readNumber, kept, leave, operate}
 use Rattle.meaning.specs.Performing.{push as pushed, call as calls, calling, to, writing, holding, reading, opened, standing}
+use Rattle.meaning.proofs.Steps.{holds-if, holds-some, holds-one, holds-two}
 use Rattle.translation.specs.CodeLimits.{Leads, push, get, add, ifnot-zero, ifnot-other, jump, slide, drop, leaf-tag, node-tag, write-number, read-leaf, read-node, read-number}
 
 module _ (program : Program) (m : Setting) (s : State) where
@@ -26,32 +26,11 @@ module _ (program : Program) (m : Setting) (s : State) where
   Led op (ends n) = Unit {0}
   Led op (refuses n) = Unit {0}
 
-  -- behind a test; where the test passes on to a state; where there are words; where there is an entry
-  led-if : (op : Operation) (test : Bool) (r : Step) (n : ℕ) → Led op r → Led op (elim test [ true ↦ r | false ↦ refuses n ])
-  led-if op true r n h = h
-  led-if op false r n h = tt
-
+  -- a state that is gone to if a test passes
   led-goes : (op : Operation) (test : Bool) (t : State) (n : ℕ)
       → Leads program op (s .address) (length (s .frame)) (t .address) (length (t .frame))
       → Led op (elim test [ true ↦ goes t | false ↦ refuses n ])
-  led-goes op true t n h = λ e. h
-  led-goes op false t n h = tt
-
-  led-one : (op : Operation) (words : List ℕ) (f : ℕ → List ℕ → Step)
-      → ((x : ℕ) (rest : List ℕ) → length words ≡ suc (length rest) → Led op (f x rest)) → Led op (one words f)
-  unfolding one
-  led-one op [] f h = tt
-  led-one op (x ∷ rest) f h = h x rest refl
-
-  led-two : (op : Operation) (words : List ℕ) (f : ℕ → ℕ → List ℕ → Step)
-      → ((x y : ℕ) (rest : List ℕ) → length words ≡ suc (suc (length rest)) → Led op (f x y rest)) → Led op (two words f)
-  unfolding two
-  led-two op words f h = led-one op words _ (λ x under e. led-one op under _ (λ y rest d. h x y rest (e ∙ ap suc d)))
-
-  led-some : (op : Operation) (o : Option ℕ) (f : ℕ → Step) → ((x : ℕ) → Led op (f x))
-      → Led op (elim o [ some x ↦ f x | none ↦ refuses cannotPerform ])
-  led-some op (some x) f h = h x
-  led-some op none f h = tt
+  led-goes op test t n h = holds-if (Led op) test (goes t) (refuses n) (λ passed same. h) tt
 
   -- a word pushed, bytes written
   led-push : (op : Operation) (x : ℕ) → Leads program op (s .address) (length (s .frame)) (suc (s .address)) (suc (length (s .frame))) → Led op (pushed m x s)
@@ -68,20 +47,22 @@ module _ (program : Program) (m : Setting) (s : State) where
   leads-so : (op : Operation) → Led op (operate m s op)
   unfolding operate room byTag readNumber calls leave
   leads-so (Push x) = led-push (Push x) x push
-  leads-so (Get k) = led-some (Get k) (atLevel (s .frame) k) (λ x. pushed m x s) (λ x. led-push (Get k) x get)
-  leads-so Add = led-two Add (s .frame) _ (λ x y rest e c. rw e add)
-  leads-so (Ifnot a) = led-one (Ifnot a) (s .frame) _ (λ x rest e c. rw e (by-test a (eqb x 0) rest))
+  leads-so (Get k) = holds-some (Led (Get k)) (atLevel (s .frame) k) (λ x. pushed m x s) tt (λ x. led-push (Get k) x get)
+  leads-so Add = holds-two (Led Add) (s .frame) _ tt (λ x y rest e c. rw e add)
+  leads-so (Ifnot a) = holds-one (Led (Ifnot a)) (s .frame) _ tt (λ x rest e c. rw e (by-test a (eqb x 0) rest))
     where
       by-test : (a : ℕ) (b : Bool) (rest : List ℕ)
           → Leads program (Ifnot a) (s .address) (suc (length rest)) (elim b [ true ↦ suc (s .address) | false ↦ a ]) (length rest)
       by-test a true rest = ifnot-zero
       by-test a false rest = ifnot-other
   leads-so (Jump a) = λ e. jump
-  leads-so Slide = led-two Slide (s .frame) _ (λ x y rest e c. rw e slide)
-  leads-so Drop = led-one Drop (s .frame) _ (λ x rest e c. rw e drop)
+  leads-so Slide = holds-two (Led Slide) (s .frame) _ tt (λ x y rest e c. rw e slide)
+  leads-so Drop = holds-one (Led Drop) (s .frame) _ tt (λ x rest e c. rw e drop)
   leads-so LeafTag = led-write LeafTag (leafTag ∷ []) (s .frame) leaf-tag
   leads-so NodeTag = led-write NodeTag (nodeTag ∷ []) (s .frame) node-tag
-  leads-so WriteNumber = led-one WriteNumber (s .frame) (λ x rest. write m (bytesOf 4 x) (holding rest s)) (λ x rest e. led-write WriteNumber (bytesOf 4 x) rest (rw e write-number))
+  leads-so WriteNumber =
+      holds-one (Led WriteNumber) (s .frame) (λ x rest. write m (bytesOf labelBytes x) (holding rest s)) tt
+      (λ x rest e. led-write WriteNumber (bytesOf labelBytes x) rest (rw e write-number))
   leads-so (ReadTag a) = by-tag a (tagAt (m .input) (s .read))
     where
       by-tag : (a : ℕ) (t : Tag) → Led (ReadTag a) (byTag t a s)
@@ -90,12 +71,13 @@ module _ (program : Program) (m : Setting) (s : State) where
       by-tag a aNode = λ e. read-node
       by-tag a other = tt
   leads-so ReadNumber =
-      led-if ReadNumber (ltb (standing s) (m .mostWords)) (readNumber m s) cannotPerform
-      (led-goes ReadNumber (leb (s .read + 4) (length (m .input)))
-      (to (suc (s .address)) (reading 4 (holding (numberAt 4 (m .input) (s .read) ∷ s .frame) s)))
-      inputEnded
-      read-number)
-  leads-so (Call b n) = led-if (Call b n) (leb n (length (s .frame))) (calls m b n s) cannotPerform (no-call b n (ltb (opened s) (m .mostOpen)))
+      let read = to (suc (s .address)) (reading labelBytes (holding (numberAt labelBytes (m .input) (s .read) ∷ s .frame) s)) in
+      holds-if (Led ReadNumber) (ltb (standing s) (m .mostWords)) (readNumber m s) (refuses cannotPerform)
+      (λ passed. led-goes ReadNumber (leb (s .read + labelBytes) (length (m .input))) read inputEnded read-number)
+      tt
+  leads-so (Call b n) =
+      holds-if (Led (Call b n)) (leb n (length (s .frame))) (calls m b n s) (refuses cannotPerform)
+      (λ passed. no-call b n (ltb (opened s) (m .mostOpen))) tt
     where
       no-call : (b n : ℕ) (test : Bool)
           → Led (Call b n) (elim test [ true ↦ goes (calling b (take n (s .frame)) (drop-words n (s .frame)) s) | false ↦ refuses tooManyCalls ])

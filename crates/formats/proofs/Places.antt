@@ -4,9 +4,9 @@ use mathlib.Core.List.{List, [], _∷_, _++_, append-nil}
 use mathlib.Core.Path.{_≡_, refl, sym, ap, ap₂, subst, _∙_}
 use native.Mathlib.Nat.{add-zero, add-suc, suc-add}
 use native.Mathlib.Omega.{arith}
-use lib.ListN.{length, getD, take, drop, length-append, length-take, length-drop, List·getD-append}
-use lib.Seq.{drop-cons, getD-take, take-add, take-all, length-take-le}
-use Rattle.formats.specs.Places.{Opens, Lies, nothing, one-more}
+use lib.ListN.{length, getD, set, take, drop, length-append, length-take, length-drop, List·getD-append}
+use lib.Seq.{getD-set-same, getD-set-other, drop-cons, getD-take, take-add, take-all, length-take-le}
+use Rattle.formats.specs.Places.{Opens, Lies, nothing, one-more, fromLast}
 
 -- the place goes by its number
 pub lies-place : {s vs : List ℕ} {p q : ℕ} → p ≡ q → Lies s p vs → Lies s q vs
@@ -92,3 +92,21 @@ pub part-last : (s : List ℕ) (p n : ℕ) → length s - p < n → take (length
 part-last s p n h =
     let left = length-drop p s in
     take-all (length s - p) (drop p s) (omega arith) ∙ sym (take-all n (drop p s) (omega arith))
+
+-- ---- entries of an array, the last first
+
+pub length-from : (entries : List ℕ) (l : ℕ) → length (fromLast entries l) ≡ l
+unfolding fromLast
+length-from entries zero = refl
+length-from entries (suc l) = ap suc (length-from entries l)
+
+-- what is written above so many entries does not change them
+from-set : (entries : List ℕ) (i v l : ℕ) → l ≤ i → fromLast (set entries i v) l ≡ fromLast entries l
+unfolding fromLast
+from-set entries i v zero h = refl
+from-set entries i v (suc l) h = ap₂ _∷_ (getD-set-other entries i l v 0 (λ e. omega arith)) (from-set entries i v l (omega arith))
+
+-- an entry written on top of so many is in front of them
+pub from-top : (entries : List ℕ) (l v : ℕ) → l < length entries → fromLast (set entries l v) (suc l) ≡ v ∷ fromLast entries l
+unfolding fromLast
+from-top entries l v h = ap₂ _∷_ (getD-set-same entries l v 0 h) (from-set entries l v l (omega arith))

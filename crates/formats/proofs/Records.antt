@@ -50,7 +50,7 @@ but m n h e = omega arith
 -- ---- flat records
 
 -- a record takes eight bytes
-length-record : (r : Record) → length (bytesOfRecord r) ≡ recordBytes
+pub length-record : (r : Record) → length (bytesOfRecord r) ≡ recordBytes
 unfolding bytesOfRecord
 length-record (fields x a b i) = simp (length-append, length-bytesOf)
 

@@ -6,6 +6,7 @@ pub mod Refusals
 pub mod Tokens
 pub mod Results
 pub mod Records
+pub mod CodeColumn
 pub mod Programs
 pub mod Rows
 pub mod Blocks

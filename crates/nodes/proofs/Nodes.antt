@@ -16,6 +16,7 @@ use Rattle.records.specs.declared.Part.{Part}
 use Rattle.records.specs.declared.Parts.{Parts}
 use Rattle.records.specs.declared.Parts.the-variants.{None, One, Two, Three, Arguments}
 use Rattle.records.specs.declared.Record.{Record}
+use Rattle.records.specs.declared.Template.{Template}
 use Rattle.records.specs.declared.RecordRead.{RecordRead}
 use Rattle.records.specs.declared.RecordRead.the-variants.{Read, Refused}
 use Rattle.nodes.specs.Parts.{partsIn}
@@ -46,8 +47,8 @@ module _ (s : List ℕ) where
       node-said : verdict (nodeIn s k) ≡ verdict (described found)
       node-said = sym (ap verdict told ∙ value-said shapeOf (nodeIn s k))
 
-      pub nodes-more : (node : Record) (parts : Parts) → found ≡ Read node parts → Passing (nodeIn s) all end (k + 1)
-      nodes-more node parts case = pass-more _ all end k more p (node-said ∙ ap (λ f. verdict (described f)) case)
+      pub nodes-more : (node : Record) (parts : Parts) (template : Template) → found ≡ Read node parts template → Passing (nodeIn s) all end (k + 1)
+      nodes-more node parts template case = pass-more _ all end k more p (node-said ∙ ap (λ f. verdict (described f)) case)
 
       pub nodes-refused : (why : Refusal) (place : ℕ) → found ≡ Refused why place → refusal (number why) place ≡ all
       nodes-refused why place case = pass-refused _ all end k (number why) place more p (node-said ∙ ap (λ f. verdict (described f)) case)
@@ -82,9 +83,9 @@ pub ruleset parts-counted = (count-none, count-one, count-two, count-three, coun
 -- ---- `parts_at`
 
 module _ (s : List ℕ) (k : ℕ) (found : RecordRead) (told : described found ≡ onValue shapeOf (nodeIn s k)) where
-  pub parts-read : (node : Record) (parts : Parts) (n : ℕ) → found ≡ Read node parts → n ≡ partCount (arityIn s) (listed parts) → n ≡ partsIn s k
+  pub parts-read : (node : Record) (parts : Parts) (template : Template) (n : ℕ) → found ≡ Read node parts template → n ≡ partCount (arityIn s) (listed parts) → n ≡ partsIn s k
   unfolding partsIn
-  parts-read node parts n case e = byResult (nodeIn s k)
+  parts-read node parts template n case e = byResult (nodeIn s k)
       (λ kind h.
       let same = done-injective (ap described (sym case) ∙ told ∙ ap (onValue shapeOf) h) in
       e ∙ ap (λ (shape : Shape). partCount (arityIn s) (shape .parts)) same ∙ sym (rw (h, partsIn)))

@@ -21,7 +21,7 @@ pub fn node_row(flat: &[u8]) -> Verdict
     while k < end {
         let found = records::record_at(flat, k);
         match found {
-            RecordRead::Read(node, parts) => {
+            RecordRead::Read(node, parts, template) => {
                 k = k + 1;
             }
             RecordRead::Refused(why, place) => {
@@ -51,7 +51,7 @@ pub fn parts_at(flat: &[u8], k: usize) -> usize
 {
     let found = records::record_at(flat, k);
     match found {
-        RecordRead::Read(node, parts) => part_count(flat, parts),
+        RecordRead::Read(node, parts, template) => part_count(flat, parts),
         RecordRead::Refused(why, place) => 0,
     }
 }

@@ -23,6 +23,7 @@ use Rattle.refusal.specs.declared.Verdict.the-variants.{Refused as Refuses}
 use Rattle.records.specs.Read.{Shape, meant, listed, shapeOf, shaped, described}
 use Rattle.records.specs.declared.Parts.{Parts}
 use Rattle.records.specs.declared.Record.{Record}
+use Rattle.records.specs.declared.Template.{Template}
 use Rattle.records.specs.declared.RecordRead.{RecordRead}
 use Rattle.records.specs.declared.RecordRead.the-variants.{Read}
 use Rattle.records.specs.declared.RecordRead.the-variants.{Refused as Unread}
@@ -56,9 +57,9 @@ module _ (s : List ℕ) (k end : ℕ) (c : Scope) where
       is = λ gs e known held within. done-not (ap (onValue shapeOf) (node-held s gs k e held)) (sym is-found ∙ ap described case);
     }
 
-    module _ (node : Record) (parts : Parts) (case : found ≡ Read node parts) where
+    module _ (node : Record) (parts : Parts) (template : Template) (case : found ≡ Read node parts template) where
       -- the record read is the expression's own
-      own-shape : (gs : List Signature) (e : Expr) → Holds s gs k e → shaped node parts ≡ shapeOf (headOf e)
+      own-shape : (gs : List Signature) (e : Expr) → Holds s gs k e → shaped node parts template ≡ shapeOf (headOf e)
       own-shape gs e held = done-injective (ap described (sym case) ∙ is-found ∙ ap (onValue shapeOf) (node-held s gs k e held))
 
       own-kind : (gs : List Signature) (e : Expr) → Holds s gs k e → meant node ≡ headOf e

@@ -209,7 +209,7 @@ fn enter(flat: &[u8], k: usize, end: usize, scope: Scope) -> Walked
     let found = records::record_at(flat, k);
     match found {
         RecordRead::Refused(why, place) => Walked::Refused(why, place),
-        RecordRead::Read(node, parts) => {
+        RecordRead::Read(node, parts, template) => {
             let own = tests(flat, node, scope, k);
             if let Verdict::Refused(why, place) = own {
                 return Walked::Refused(why, place);

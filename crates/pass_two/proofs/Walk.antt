@@ -11,6 +11,7 @@ use borrow.Author.Needs.{needs}
 use denote.Enum.Declared.{tagOf}
 use types.Run.{OneOf, miss}
 use lib.ListN.{length}
+use Rattle.formats.specs.Places.{fromLast}
 use Rattle.formats.specs.Results.{done, onValue}
 use Rattle.formats.specs.Records.{Kind, partCount}
 use Rattle.formats.specs.Records.{IfZero as anIfZero, Case as aCase, Call as aCall}
@@ -21,10 +22,11 @@ use Rattle.formats.proofs.Programs.{some-record}
 use Rattle.refusal.specs.declared.Refusal.{Refusal}
 use Rattle.refusal.specs.declared.Refusal.the-variants.{PrefixForm, OutOfOrder}
 use Rattle.refusal.specs.declared.Verdict.the-variants.{Passed, Refused}
-use Rattle.records.specs.Read.{Shape, meant, listed, described, shapeOf}
+use Rattle.records.specs.Read.{Shape, meant, listed, columnOf, described, shapeOf}
 use Rattle.records.specs.declared.Record.{Record}
 use Rattle.records.specs.declared.Record.the-variants.{Const, Var, Add, IfZero, Let, Leaf, Node, Case, Call}
 use Rattle.records.specs.declared.Parts.{Parts}
+use Rattle.records.specs.declared.Template.{Template}
 use Rattle.records.specs.declared.RecordRead.{RecordRead}
 use Rattle.records.specs.declared.RecordRead.the-variants.{Read, Refused as NotRead}
 use Rattle.records.specs.declared.TreeName.{TreeName}
@@ -35,7 +37,7 @@ use Rattle.rules.proofs.Parts.{Known, headOf, Row, walkParts}
 use Rattle.rules.proofs.Parts.{end as no-part, next as a-part}
 use Rattle.rules.proofs.Walks.{node-held, parts-counted}
 use Rattle.rules.proofs.Lists.{walk-call, Plain, walk-parts, Shaped, shaped, plain, an-if, a-case, a-call}
-use Rattle.pending.specs.List.{fromLast, listOf, Took}
+use Rattle.pending.specs.List.{listOf, Took}
 use Rattle.pending.specs.declared.Pending.{Pending}
 use Rattle.pending.specs.declared.Taken.{Taken}
 use Rattle.pending.proofs.Laws.{counted-list, by-head, not-taken, is-taken}
@@ -147,8 +149,8 @@ module _ (s : List ℕ) (k last n : ℕ) (p : Pending) (read : RecordRead) (told
   pub at-refused : (why : Refusal) (place : ℕ) → read ≡ NotRead why place → Ordered s k last n p (record { verdict = Refused why place; pending = p; next = k })
   at-refused why place is = record { went = stopped k last refl; tells = λ e h. done-not (own-read h) (ap described is) }
 
-  module _ (node : Record) (parts : Parts) (is : read ≡ Read node parts) where
-    own-shape : {e : Expr} → Here s last k e → shapeOf (headOf e) ≡ record { kind = meant node; parts = listed parts }
+  module _ (node : Record) (parts : Parts) (template : Template) (is : read ≡ Read node parts template) where
+    own-shape : {e : Expr} → Here s last k e → shapeOf (headOf e) ≡ record { kind = meant node; parts = listed parts; template = columnOf template }
     own-shape h = done-injective (sym (own-read h) ∙ ap described is)
 
     own-kind : (kind : Kind) (e : Expr) → Here s last k e → meant node ≡ kind → Shaped kind e

@@ -53,7 +53,7 @@ fn order_at(flat: &[u8], k: usize, end: usize, trees: u16, pending: Pending) -> 
             pending: pending,
             next: k,
         },
-        RecordRead::Read(node, parts) => {
+        RecordRead::Read(node, parts, template) => {
             let count = nodes::part_count(flat, parts);
             match node {
                 Record::IfZero => order_if(flat, k, end, trees, pending),

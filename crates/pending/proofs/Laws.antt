@@ -9,22 +9,18 @@ use native.Mathlib.Numerals.{towards-suc}
 use borrow.Author.Tests.{not-true, not-false, eq-eqb, ne-eqb, eqb-true, eqb-false, le-leb, lt-leb}
 use lib.Dec.{leb, eqb}
 use lib.ListN.{length, getD, set, length-set}
-use lib.Seq.{getD-set-same, getD-set-other}
+use Rattle.formats.specs.Places.{fromLast}
 use Rattle.formats.specs.Refusals.{outOfOrder}
 use Rattle.formats.specs.Results.{done, refusal, check}
+use Rattle.formats.proofs.Places.{length-from, from-top}
 use Rattle.formats.proofs.Results.{done-injective, done-not}
 use Rattle.rules.specs.Leftover.{mostPending}
 use Rattle.rules.specs.PassTwo.{takeHead, sameNames}
 use Rattle.pending.specs.declared.Pending.{Pending}
 use Rattle.pending.specs.declared.Taken.{Taken}
-use Rattle.pending.specs.List.{fromLast, lengthOf, listOf, Took, putTwo}
+use Rattle.pending.specs.List.{lengthOf, listOf, Took, putTwo}
 
 -- ---- the list
-
-length-from : (names : List ℕ) (l : ℕ) → length (fromLast names l) ≡ l
-unfolding fromLast
-length-from names zero = refl
-length-from names (suc l) = ap suc (length-from names l)
 
 length-list : (p : Pending) → length (listOf p) ≡ lengthOf p
 unfolding listOf
@@ -79,17 +75,6 @@ pub full-counted : (p : Pending) (l : ℕ) → l ≡ lengthOf p → leb mostPend
 full-counted p l counted = ap (leb mostPending) (counted ∙ sym (length-list p))
 
 -- ---- `put_two`
-
--- what is written above so many names does not change them
-from-set : (names : List ℕ) (i v l : ℕ) → l ≤ i → fromLast (set names i v) l ≡ fromLast names l
-unfolding fromLast
-from-set names i v zero h = refl
-from-set names i v (suc l) h = ap₂ _∷_ (getD-set-other names i l v 0 (λ e. omega arith)) (from-set names i v l (omega arith))
-
--- a name written on top of so many is in front of them
-from-top : (names : List ℕ) (l v : ℕ) → l < length names → fromLast (set names l v) (suc l) ≡ v ∷ fromLast names l
-unfolding fromLast
-from-top names l v h = ap₂ _∷_ (getD-set-same names l v 0 h) (from-set names l v l (omega arith))
 
 module _ (p : Pending) (left right l : ℕ) (counted : l ≡ lengthOf p) where
   pub put-full : mostPending < l + 2 → listOf p ≡ putTwo left right (listOf p)

@@ -1,21 +1,17 @@
 -- The list of pending trees that a `Pending` is, and what the functions on it answer.
-use Prim.Native.Nat.{ℕ, zero, suc, _+_, min}
+use Prim.Native.Nat.{ℕ, _+_, min}
 use mathlib.Core.Bool.{true, false}
-use mathlib.Core.List.{List, [], _∷_}
+use mathlib.Core.List.{List, _∷_}
 use mathlib.Core.Path.{_≡_}
 use lib.Dec.{leb}
-use lib.ListN.{length, getD}
+use lib.ListN.{length}
+use Rattle.formats.specs.Places.{fromLast}
 use Rattle.formats.specs.Refusals.{outOfOrder}
 use Rattle.formats.specs.Results.{check}
 use Rattle.rules.specs.Leftover.{mostPending}
 use Rattle.rules.specs.PassTwo.{takeHead}
 use Rattle.pending.specs.declared.Pending.{Pending}
 use Rattle.pending.specs.declared.Taken.{Taken}
-
--- So many names of an array, the last of them first.
-unfoldable pub fromLast : List ℕ → ℕ → List ℕ
-fromLast names zero = []
-fromLast names (suc l) = getD names l 0 ∷ fromLast names l
 
 -- 01: "The pending trees are a list of at most 16 numbers". How many they are, and the list, its head first.
 abbrev pub lengthOf : Pending → ℕ

@@ -16,14 +16,18 @@ use Rattle.formats.specs.Refusals.{nodeField}
 use Rattle.formats.specs.Results.{done, refusal, check, onValue}
 use Rattle.formats.specs.Records.{Kind, fields, recordBytes, recordAt, kinds, kindOf, nth, same, below, fieldsOf, nodeRecord, partsOf}
 use Rattle.formats.specs.Records.{aNumber, aTree, asWhole, these, argumentsOf, Const, Var, Add, IfZero, Let, Leaf, Node, Case, Call}
+use Rattle.formats.specs.CodeColumn.{templateOf}
 use Rattle.formats.specs.Rows.{headerIn, nodeAt, nodeIn}
 use Rattle.formats.proofs.Numbers.{numberAt-cut}
 use Rattle.formats.proofs.Results.{both-held}
 use Rattle.formats.proofs.Records.{none-past, but}
 use Rattle.refusal.specs.declared.Refusal.the-variants.{NodeField}
+use Rattle.records.specs.declared.Item.the-variants.{Push, Get, Ifnot, Jump, End, LeafTag, NodeTag, WriteNumber, ReadTag, ReadNumber, Add as AddItem, Call as CallItem}
+use Rattle.records.specs.declared.Items.the-variants.{None, One, Two}
+use Rattle.records.specs.declared.Template.{Template}
 use Rattle.records.specs.declared.RecordRead.{RecordRead}
 use Rattle.records.specs.declared.RecordRead.the-variants.{Refused}
-use Rattle.records.specs.Read.{OfKind, StandsAt, Shape, described, shapeOf}
+use Rattle.records.specs.Read.{OfKind, StandsAt, Shape, columnOf, described, shapeOf}
 
 -- ---- fields that should be zero
 
@@ -54,13 +58,16 @@ sum-test x y a c b d i j u all back = same-test _ _
 
 -- the kind of these fields, where the test of their unused ones is the sum's
 of-kind :
-    (functions place x a b i u : ℕ) (k : Kind) (r : RecordRead)
+    (functions place x a b i u : ℕ) (k : Kind) (t : Template) (r : RecordRead)
     → ((edition : ℕ) → kindOf edition (fields x a b i) ≡ some k)
     → (same (fieldsOf k) (fields x a b i) && below functions k) ≡ eqb u 0
-    → described r ≡ check (eqb u 0) nodeField place (shapeOf k)
+    → columnOf t ≡ templateOf k
+    → described r ≡ check (eqb u 0) nodeField place (record { kind = k; parts = partsOf k; template = columnOf t })
     → OfKind functions place x a b i r
 unfolding nodeRecord
-of-kind functions place x a b i u k r kind test told = record { is = λ edition. told ∙ checked (eqb u 0) ∙ ap (onValue shapeOf) (sym (reads edition)) }
+of-kind functions place x a b i u k t r kind test column told = record {
+  is = λ edition. told ∙ ap (λ c. check (eqb u 0) nodeField place (record { kind = k; parts = partsOf k; template = c })) column ∙ checked (eqb u 0) ∙ ap (onValue shapeOf) (sym (reads edition));
+}
   where
     reads : (edition : ℕ) → nodeRecord edition functions place (fields x a b i) ≡ check (eqb u 0) nodeField place k
     reads edition = rw (nodeRecord, kind edition, test)
@@ -70,120 +77,138 @@ of-kind functions place x a b i u k r kind test told = record { is = λ edition.
     checked false = refl
 
 pub of-const :
-    (functions place x a b i u : ℕ) (r : RecordRead)
+    (functions place x a b i u : ℕ) (t : Template) (r : RecordRead)
     → x ≡ 0
     → u ≡ a + b + 0
-    → described r ≡ check (eqb u 0) nodeField place (record { kind = Const i; parts = these [] })
+    → t ≡ record { first = None; second = None; third = None; last = One (Push i) }
+    → described r ≡ check (eqb u 0) nodeField place (record { kind = Const i; parts = these []; template = columnOf t })
     → OfKind functions place x a b i r
-unfolding kindOf kinds nth fieldsOf below partsOf
-of-const functions place x a b i u r number sum told =
-    of-kind functions place x a b i u (Const i) r
+unfolding kindOf kinds nth fieldsOf below partsOf templateOf
+of-const functions place x a b i u t r number sum is told =
+    of-kind functions place x a b i u (Const i) t r
     (λ edition. ap (λ n. nth (kinds edition a b i) n) number)
     (and-true _ ∙ sum-test _ _ _ _ _ _ _ _ u (λ z. (sym number, omega arith, omega arith, omega arith)) (λ p q s t. omega arith))
+    (ap columnOf is)
     told
 
 pub of-var :
-    (functions place x a b i u : ℕ) (r : RecordRead)
+    (functions place x a b i u : ℕ) (t : Template) (r : RecordRead)
     → x ≡ 1
     → u ≡ 0 + b + i
-    → described r ≡ check (eqb u 0) nodeField place (record { kind = Var a; parts = these [] })
+    → t ≡ record { first = None; second = None; third = None; last = One (Get a) }
+    → described r ≡ check (eqb u 0) nodeField place (record { kind = Var a; parts = these []; template = columnOf t })
     → OfKind functions place x a b i r
-unfolding kindOf kinds nth fieldsOf below partsOf
-of-var functions place x a b i u r number sum told =
-    of-kind functions place x a b i u (Var a) r
+unfolding kindOf kinds nth fieldsOf below partsOf templateOf
+of-var functions place x a b i u t r number sum is told =
+    of-kind functions place x a b i u (Var a) t r
     (λ edition. ap (λ n. nth (kinds edition a b i) n) number)
     (and-true _ ∙ sum-test _ _ _ _ _ _ _ _ u (λ z. (sym number, omega arith, omega arith, omega arith)) (λ p q s t. omega arith))
+    (ap columnOf is)
     told
 
 pub of-add :
-    (functions place x a b i u : ℕ) (r : RecordRead)
+    (functions place x a b i u : ℕ) (t : Template) (r : RecordRead)
     → x ≡ 2
     → u ≡ a + b + i
-    → described r ≡ check (eqb u 0) nodeField place (record { kind = Add; parts = these (aNumber ∷ aNumber ∷ []) })
+    → t ≡ record { first = None; second = None; third = None; last = One AddItem }
+    → described r ≡ check (eqb u 0) nodeField place (record { kind = Add; parts = these (aNumber ∷ aNumber ∷ []); template = columnOf t })
     → OfKind functions place x a b i r
-unfolding kindOf kinds nth fieldsOf below partsOf
-of-add functions place x a b i u r number sum told =
-    of-kind functions place x a b i u (Add) r
+unfolding kindOf kinds nth fieldsOf below partsOf templateOf
+of-add functions place x a b i u t r number sum is told =
+    of-kind functions place x a b i u (Add) t r
     (λ edition. ap (λ n. nth (kinds edition a b i) n) number)
     (and-true _ ∙ sum-test _ _ _ _ _ _ _ _ u (λ z. (sym number, omega arith, omega arith, omega arith)) (λ p q s t. omega arith))
+    (ap columnOf is)
     told
 
 pub of-if-zero :
-    (functions place x a b i u : ℕ) (r : RecordRead)
+    (functions place x a b i u : ℕ) (t : Template) (r : RecordRead)
     → x ≡ 3
     → u ≡ a + b + i
-    → described r ≡ check (eqb u 0) nodeField place (record { kind = IfZero; parts = these (aNumber ∷ asWhole ∷ asWhole ∷ []) })
+    → t ≡ record { first = None; second = One Ifnot; third = One Jump; last = None }
+    → described r ≡ check (eqb u 0) nodeField place (record { kind = IfZero; parts = these (aNumber ∷ asWhole ∷ asWhole ∷ []); template = columnOf t })
     → OfKind functions place x a b i r
-unfolding kindOf kinds nth fieldsOf below partsOf
-of-if-zero functions place x a b i u r number sum told =
-    of-kind functions place x a b i u (IfZero) r
+unfolding kindOf kinds nth fieldsOf below partsOf templateOf
+of-if-zero functions place x a b i u t r number sum is told =
+    of-kind functions place x a b i u (IfZero) t r
     (λ edition. ap (λ n. nth (kinds edition a b i) n) number)
     (and-true _ ∙ sum-test _ _ _ _ _ _ _ _ u (λ z. (sym number, omega arith, omega arith, omega arith)) (λ p q s t. omega arith))
+    (ap columnOf is)
     told
 
 pub of-let :
-    (functions place x a b i u : ℕ) (r : RecordRead)
+    (functions place x a b i u : ℕ) (t : Template) (r : RecordRead)
     → x ≡ 4
     → u ≡ a + b + i
-    → described r ≡ check (eqb u 0) nodeField place (record { kind = Let; parts = these (aNumber ∷ asWhole ∷ []) })
+    → t ≡ record { first = None; second = None; third = None; last = One End }
+    → described r ≡ check (eqb u 0) nodeField place (record { kind = Let; parts = these (aNumber ∷ asWhole ∷ []); template = columnOf t })
     → OfKind functions place x a b i r
-unfolding kindOf kinds nth fieldsOf below partsOf
-of-let functions place x a b i u r number sum told =
-    of-kind functions place x a b i u (Let) r
+unfolding kindOf kinds nth fieldsOf below partsOf templateOf
+of-let functions place x a b i u t r number sum is told =
+    of-kind functions place x a b i u (Let) t r
     (λ edition. ap (λ n. nth (kinds edition a b i) n) number)
     (and-true _ ∙ sum-test _ _ _ _ _ _ _ _ u (λ z. (sym number, omega arith, omega arith, omega arith)) (λ p q s t. omega arith))
+    (ap columnOf is)
     told
 
 pub of-leaf :
-    (functions place x a b i u : ℕ) (r : RecordRead)
+    (functions place x a b i u : ℕ) (t : Template) (r : RecordRead)
     → x ≡ 5
     → u ≡ a + b + i
-    → described r ≡ check (eqb u 0) nodeField place (record { kind = Leaf; parts = these (aNumber ∷ []) })
+    → t ≡ record { first = One LeafTag; second = None; third = None; last = One WriteNumber }
+    → described r ≡ check (eqb u 0) nodeField place (record { kind = Leaf; parts = these (aNumber ∷ []); template = columnOf t })
     → OfKind functions place x a b i r
-unfolding kindOf kinds nth fieldsOf below partsOf
-of-leaf functions place x a b i u r number sum told =
-    of-kind functions place x a b i u (Leaf) r
+unfolding kindOf kinds nth fieldsOf below partsOf templateOf
+of-leaf functions place x a b i u t r number sum is told =
+    of-kind functions place x a b i u (Leaf) t r
     (λ edition. ap (λ n. nth (kinds edition a b i) n) number)
     (and-true _ ∙ sum-test _ _ _ _ _ _ _ _ u (λ z. (sym number, omega arith, omega arith, omega arith)) (λ p q s t. omega arith))
+    (ap columnOf is)
     told
 
 pub of-node :
-    (functions place x a b i u : ℕ) (r : RecordRead)
+    (functions place x a b i u : ℕ) (t : Template) (r : RecordRead)
     → x ≡ 6
     → u ≡ a + b + i
-    → described r ≡ check (eqb u 0) nodeField place (record { kind = Node; parts = these (aTree ∷ aTree ∷ []) })
+    → t ≡ record { first = One NodeTag; second = None; third = None; last = None }
+    → described r ≡ check (eqb u 0) nodeField place (record { kind = Node; parts = these (aTree ∷ aTree ∷ []); template = columnOf t })
     → OfKind functions place x a b i r
-unfolding kindOf kinds nth fieldsOf below partsOf
-of-node functions place x a b i u r number sum told =
-    of-kind functions place x a b i u (Node) r
+unfolding kindOf kinds nth fieldsOf below partsOf templateOf
+of-node functions place x a b i u t r number sum is told =
+    of-kind functions place x a b i u (Node) t r
     (λ edition. ap (λ n. nth (kinds edition a b i) n) number)
     (and-true _ ∙ sum-test _ _ _ _ _ _ _ _ u (λ z. (sym number, omega arith, omega arith, omega arith)) (λ p q s t. omega arith))
+    (ap columnOf is)
     told
 
 pub of-case :
-    (functions place x a b i u : ℕ) (r : RecordRead)
+    (functions place x a b i u : ℕ) (t : Template) (r : RecordRead)
     → x ≡ 7
     → u ≡ 0 + b + i
-    → described r ≡ check (eqb u 0) nodeField place (record { kind = Case a; parts = these (asWhole ∷ asWhole ∷ []) })
+    → t ≡ record { first = Two ReadTag ReadNumber; second = Two End Jump; third = None; last = None }
+    → described r ≡ check (eqb u 0) nodeField place (record { kind = Case a; parts = these (asWhole ∷ asWhole ∷ []); template = columnOf t })
     → OfKind functions place x a b i r
-unfolding kindOf kinds nth fieldsOf below partsOf
-of-case functions place x a b i u r number sum told =
-    of-kind functions place x a b i u (Case a) r
+unfolding kindOf kinds nth fieldsOf below partsOf templateOf
+of-case functions place x a b i u t r number sum is told =
+    of-kind functions place x a b i u (Case a) t r
     (λ edition. ap (λ n. nth (kinds edition a b i) n) number)
     (and-true _ ∙ sum-test _ _ _ _ _ _ _ _ u (λ z. (sym number, omega arith, omega arith, omega arith)) (λ p q s t. omega arith))
+    (ap columnOf is)
     told
 
 pub of-call :
-    (functions place x a b i u : ℕ) (r : RecordRead)
+    (functions place x a b i u : ℕ) (t : Template) (r : RecordRead)
     → x ≡ 8
     → eqb u 0 ≡ (ltb b functions && eqb i 0)
-    → described r ≡ check (eqb u 0) nodeField place (record { kind = Call a b; parts = argumentsOf b })
+    → t ≡ record { first = None; second = None; third = None; last = One (CallItem b) }
+    → described r ≡ check (eqb u 0) nodeField place (record { kind = Call a b; parts = argumentsOf b; template = columnOf t })
     → OfKind functions place x a b i r
-unfolding kindOf kinds nth fieldsOf below partsOf
-of-call functions place x a b i u r number sum told =
-    of-kind functions place x a b i u (Call a b) r
+unfolding kindOf kinds nth fieldsOf below partsOf templateOf
+of-call functions place x a b i u t r number sum is told =
+    of-kind functions place x a b i u (Call a b) t r
     (λ edition. ap (λ n. nth (kinds edition a b i) n) number)
     (ap (λ t. t && ltb b functions) (sum-test 8 x a a b b 0 i i (λ z. (sym number, refl, refl, sym z)) (λ p q s t. sym t)) ∙ and-comm (eqb i 0) (ltb b functions) ∙ sym sum)
+    (ap columnOf is)
     told
 
 -- a kind number above the last

@@ -7,10 +7,17 @@ use Rattle.formats.specs.Numbers.{numberAt}
 use Rattle.formats.specs.Results.{Result, done, refusal, onValue}
 use Rattle.formats.specs.Records.{Kind, fields, recordBytes, nodeRecord, aNumber, aTree, asWhole, these, argumentsOf, partsOf}
 use Rattle.formats.specs.Records.{Part as TypeOfPart, Parts as PartsOfKind}
+use Rattle.formats.specs.CodeColumn.{pushNumber, getName, addTwo, ifnotLast, jumpBehind, endName, leafTag, nodeTag, writeNumber, readTagLast, readNumber, callFunction, templateOf}
+use Rattle.formats.specs.CodeColumn.{Item as ItemOfColumn, Template as TemplateOfKind}
 use Rattle.formats.specs.Records.{Const as aConst, Var as aVar, Add as anAdd, IfZero as anIfZero, Let as aLet, Leaf as aLeaf, Node as aNode, Case as aCase, Call as aCall}
 use Rattle.refusal.specs.Number.{number}
 use Rattle.records.specs.declared.Record.{Record}
 use Rattle.records.specs.declared.Record.the-variants.{Const, Var, Add, IfZero, Let, Leaf, Node, Case, Call}
+use Rattle.records.specs.declared.Item.{Item}
+use Rattle.records.specs.declared.Item.the-variants as item
+use Rattle.records.specs.declared.Items.{Items}
+use Rattle.records.specs.declared.Items.the-variants as items
+use Rattle.records.specs.declared.Template.{Template}
 use Rattle.records.specs.declared.Part.{Part}
 use Rattle.records.specs.declared.Part.the-variants.{Number, Tree, Whole}
 use Rattle.records.specs.declared.Parts.{Parts}
@@ -42,20 +49,44 @@ listed (Two p q) = these (typeOf p ∷ typeOf q ∷ [])
 listed (Three p q r) = these (typeOf p ∷ typeOf q ∷ typeOf r ∷ [])
 listed (Arguments b) = argumentsOf b
 
--- A kind and its parts.
+-- An item of the column "code".
+abbrev pub itemOf : Item → ItemOfColumn
+itemOf (item.Push i) = pushNumber i
+itemOf (item.Get a) = getName a
+itemOf item.Add = addTwo
+itemOf item.Ifnot = ifnotLast
+itemOf item.Jump = jumpBehind
+itemOf item.End = endName
+itemOf item.LeafTag = leafTag
+itemOf item.NodeTag = nodeTag
+itemOf item.WriteNumber = writeNumber
+itemOf item.ReadTag = readTagLast
+itemOf item.ReadNumber = readNumber
+itemOf (item.Call b) = callFunction b
+
+abbrev pub row : Items → List ItemOfColumn
+row items.None = []
+row (items.One x) = itemOf x ∷ []
+row (items.Two x y) = itemOf x ∷ itemOf y ∷ []
+
+abbrev pub columnOf : Template → TemplateOfKind
+columnOf t = record { first = row (t .first); second = row (t .second); third = row (t .third); last = row (t .last) }
+
+-- A kind, its parts and its template.
 pub record Shape : Type 0 where
   pub kind : Kind
   pub parts : PartsOfKind
+  pub template : TemplateOfKind
 
 abbrev pub shapeOf : Kind → Shape
-shapeOf kind = record { kind = kind; parts = partsOf kind }
+shapeOf kind = record { kind = kind; parts = partsOf kind; template = templateOf kind }
 
-abbrev pub shaped : Record → Parts → Shape
-shaped r ps = record { kind = meant r; parts = listed ps }
+abbrev pub shaped : Record → Parts → Template → Shape
+shaped r ps t = record { kind = meant r; parts = listed ps; template = columnOf t }
 
--- A record read: its kind and parts, or the refusal's number and place.
+-- A record read: its kind, parts and template, or the refusal's number and place.
 abbrev pub described : RecordRead → Result Shape
-described (Read r ps) = done (shaped r ps)
+described (Read r ps t) = done (shaped r ps t)
 described (Refused why place) = refusal (number why) place
 
 -- What these fields read as, in every edition.

@@ -1,4 +1,4 @@
-// Node records: the nine kinds with their operands and parts, read from flat records, 8 bytes each.
+// Node records: the nine kinds with their operands, parts and templates, read from flat records, 8 bytes each.
 use refusal::Refusal;
 ghost use Prim.Native.Nat.{_+_};
 ghost use mathlib.Core.Path.{_≡_};
@@ -8,6 +8,7 @@ ghost use Rattle.formats.specs.Refusals.{nodeField};
 ghost use Rattle.formats.specs.Results.{check, onValue};
 ghost use Rattle.formats.specs.Rows.{nodeIn};
 ghost use Rattle.records.specs.Read.{OfKind, StandsAt, described, shaped, shapeOf};
+ghost use Rattle.records.specs.declared.Items.the-variants.{None, One};
 
 const RECORD_BYTES: usize = 8;
 
@@ -61,9 +62,41 @@ pub enum Parts {
     Arguments(u16),
 }
 
-// A record read: its kind with its operands, and its parts; or why it is refused, and the number of the record.
+// An item of a template: an instruction whose address or word is found when it is laid down. `Ifnot` and `ReadTag` go to the last part, `Jump` goes
+// behind the whole; `Get` is of a number name, `Call` of a function.
+pub enum Item {
+    Push(u32),
+    Get(u8),
+    Add,
+    Ifnot,
+    Jump,
+    End,
+    LeafTag,
+    NodeTag,
+    WriteNumber,
+    ReadTag,
+    ReadNumber,
+    Call(u16),
+}
+
+// Items in a row.
+pub enum Items {
+    None,
+    One(Item),
+    Two(Item, Item),
+}
+
+// A kind's template: what stands before its first, second and third part, and behind them all.
+pub struct Template {
+    pub first: Items,
+    pub second: Items,
+    pub third: Items,
+    pub last: Items,
+}
+
+// A record read: its kind with its operands, its parts and its template; or why it is refused, and the number of the record.
 pub enum RecordRead {
-    Read(Record, Parts),
+    Read(Record, Parts, Template),
     Refused(Refusal, usize),
 }
 
@@ -84,18 +117,54 @@ fn call_sum(b: u16, i: u32, functions: u8) -> u64
     1
 }
 
-// The record with its parts where the fields that it does not use sum to 0.
-fn row(node: Record, parts: Parts, sum: u64, at: usize) -> RecordRead
-    ensures { λ r. ⌜ described r ≡ check (eqb sum 0) nodeField at (shaped node parts) ⌝ }
+// An item behind all parts.
+fn last(item: Item) -> Template
+    ensures { λ r. ⌜ r ≡ record { first = None; second = None; third = None; last = One item } ⌝ }
+{
+    Template {
+        first: Items::None,
+        second: Items::None,
+        third: Items::None,
+        last: Items::One(item),
+    }
+}
+
+// Items before the first, second and third part.
+fn before(first: Items, second: Items, third: Items) -> Template
+    ensures { λ r. ⌜ r ≡ record { first = first; second = second; third = third; last = None } ⌝ }
+{
+    Template {
+        first: first,
+        second: second,
+        third: third,
+        last: Items::None,
+    }
+}
+
+// An item before the one part, and one behind it.
+fn around(first: Item, last: Item) -> Template
+    ensures { λ r. ⌜ r ≡ record { first = One first; second = None; third = None; last = One last } ⌝ }
+{
+    Template {
+        first: Items::One(first),
+        second: Items::None,
+        third: Items::None,
+        last: Items::One(last),
+    }
+}
+
+// The record with its parts and its template where the fields that it does not use sum to 0.
+fn row(node: Record, parts: Parts, template: Template, sum: u64, at: usize) -> RecordRead
+    ensures { λ r. ⌜ described r ≡ check (eqb sum 0) nodeField at (shaped node parts template) ⌝ }
 {
     if sum == 0 {
-        return RecordRead::Read(node, parts);
+        return RecordRead::Read(node, parts, template);
     }
     RecordRead::Refused(Refusal::NodeField, at)
 }
 
-// The one match over the kind number: an arm has the kind's operands, its parts with their types, and the fields that it
-// does not use.
+// The one match over the kind number: an arm has the kind's operands, its parts with their types, its template, and the fields that it does not
+// use.
 fn record_of(kind: u8, a: u8, b: u16, i: u32, functions: u8, at: usize) -> RecordRead
     ensures { λ r. ⌜ OfKind functions at kind a b i r ⌝ }
 {
@@ -103,27 +172,70 @@ fn record_of(kind: u8, a: u8, b: u16, i: u32, functions: u8, at: usize) -> Recor
     let bi = sum_of(0, b, i);
     let abi = sum_of(a, b, i);
     match kind {
-        0 => row(Record::Const(Constant { i: i }), Parts::None, ab, at),
-        1 => row(Record::Var(NumberName { a: a }), Parts::None, bi, at),
-        2 => row(Record::Add, Parts::Two(Part::Number, Part::Number), abi, at),
-        3 => row(
-            Record::IfZero,
-            Parts::Three(Part::Number, Part::Whole, Part::Whole),
+        0 => row(
+            Record::Const(Constant { i: i }),
+            Parts::None,
+            last(Item::Push(i)),
+            ab,
+            at,
+        ),
+        1 => row(
+            Record::Var(NumberName { a: a }),
+            Parts::None,
+            last(Item::Get(a)),
+            bi,
+            at,
+        ),
+        2 => row(
+            Record::Add,
+            Parts::Two(Part::Number, Part::Number),
+            last(Item::Add),
             abi,
             at,
         ),
-        4 => row(Record::Let, Parts::Two(Part::Number, Part::Whole), abi, at),
-        5 => row(Record::Leaf, Parts::One(Part::Number), abi, at),
-        6 => row(Record::Node, Parts::Two(Part::Tree, Part::Tree), abi, at),
+        3 => row(
+            Record::IfZero,
+            Parts::Three(Part::Number, Part::Whole, Part::Whole),
+            before(Items::None, Items::One(Item::Ifnot), Items::One(Item::Jump)),
+            abi,
+            at,
+        ),
+        4 => row(
+            Record::Let,
+            Parts::Two(Part::Number, Part::Whole),
+            last(Item::End),
+            abi,
+            at,
+        ),
+        5 => row(
+            Record::Leaf,
+            Parts::One(Part::Number),
+            around(Item::LeafTag, Item::WriteNumber),
+            abi,
+            at,
+        ),
+        6 => row(
+            Record::Node,
+            Parts::Two(Part::Tree, Part::Tree),
+            before(Items::One(Item::NodeTag), Items::None, Items::None),
+            abi,
+            at,
+        ),
         7 => row(
             Record::Case(TreeName { a: a }),
             Parts::Two(Part::Whole, Part::Whole),
+            before(
+                Items::Two(Item::ReadTag, Item::ReadNumber),
+                Items::Two(Item::End, Item::Jump),
+                Items::None,
+            ),
             bi,
             at,
         ),
         8 => row(
             Record::Call(Called { a: a, b: b }),
             Parts::Arguments(b),
+            last(Item::Call(b)),
             call_sum(b, i, functions),
             at,
         ),

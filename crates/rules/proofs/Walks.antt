@@ -152,7 +152,7 @@ row-upto end = omega arith
 row-upto (next here later) = let behind-it = row-upto later in omega arith
 
 -- as many as there are arguments
-length-args : (k : ℕ) (xs : Args) → length (argsAt k xs) ≡ countArgs xs
+pub length-args : (k : ℕ) (xs : Args) → length (argsAt k xs) ≡ countArgs xs
 unfolding argsAt countArgs
 length-args k noArgs = refl
 length-args k (arg x xs) = ap suc (length-args (k + size x) xs)

@@ -19,7 +19,7 @@ use Rattle.rules.proofs.PassOne.{Passes, PassesArgs, pass-inv, pass-add
 -- ---- a number needs a word
 
 -- where the words are tested, one more has room
-tested : (gs : List Signature) (g n w r : ℕ) (τ : Ty) (kind : Kind) (xs : List Entry) → wordsTested gs kind ≡ true
+pub tested : (gs : List Signature) (g n w r : ℕ) (τ : Ty) (kind : Kind) (xs : List Entry) → wordsTested gs kind ≡ true
     → passOver gs (entry (scope g n w τ) r kind ∷ xs) ≡ done tt
     → w < mostWords
 unfolding roomy
@@ -43,7 +43,7 @@ no-number e = absurd (false≢true (ap isInt (sym e)))
 mutual
   unfolding entered wordsTested countArgs arityOf
 
-  room : (gs : List Signature) (g n w r : ℕ) (e : Expr) → Applied (arityOf gs) e → Passes gs (scope g n w Int) r e → w < mostWords
+  pub room : (gs : List Signature) (g n w r : ℕ) (e : Expr) → Applied (arityOf gs) e → Passes gs (scope g n w Int) r e → w < mostWords
   room gs g n w r (const i) a e = tested gs g n w r Int (Const i) _ refl e
   room gs g n w r (var v) a e = tested gs g n w r Int (Var v) _ refl e
   room gs g n w r (add p q) a e = room gs g n w _ p (a .0) (pass-add gs g n w r Int p q e .1)

@@ -25,5 +25,7 @@ pub mod WholeRuns
 pub mod CodeCalls
 pub mod Demand3
 pub mod EveryRun
+pub mod Calls
 pub mod Cases
+pub mod Worked
 pub mod Witnesses

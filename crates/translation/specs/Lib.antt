@@ -3,3 +3,6 @@ pub mod Templates
 pub mod Demand3
 pub mod EveryRun
 pub mod CodeLimits
+pub mod Calls
+pub mod Listing
+pub mod ThisCall

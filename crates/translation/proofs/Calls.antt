@@ -1,0 +1,213 @@
+-- What the translator and the runner give: a law for each way that a call may go, and demand 3 about a call that comes to its run.
+use Prim.Native.Nat.{ℕ, _≤_}
+use mathlib.Core.Bool.{Bool, true, false, _&&_}
+use mathlib.Core.List.{List, [], _++_, append-nil}
+use mathlib.Core.Path.{_≡_, refl, sym, ap, subst, _∙_}
+use borrow.Author.Tests.{le-leb, leb-true}
+use lib.Dec.{leb}
+use lib.ListN.{length}
+use Rattle.formats.specs.Numbers.{Bytes}
+use Rattle.formats.specs.Refusals.{spaceTooShort}
+use Rattle.formats.specs.Results.{Result, done, refusal, andThen, onValue, verdict, check}
+use Rattle.formats.specs.Tokens.{Tree, Labelled, tokens}
+use Rattle.formats.specs.Programs.{Program}
+use Rattle.formats.specs.Rows.{readProgram}
+use Rattle.formats.specs.Blocks.{flatIn, programIn, within, lent}
+use Rattle.formats.proofs.Results.{byResult, then-done, then-refused, then-inv, check-inv, passed-is, refused-is}
+use Rattle.formats.proofs.Rows.{flattens}
+use Rattle.formats.proofs.Files.{within-room, flat-in-bytes}
+use Rattle.rules.specs.PassTwo.{order, checkRecords, checkFile}
+use Rattle.meaning.specs.Running.{Answer, Ran, valueWords, returnWords, streamRun}
+use Rattle.translation.specs.Templates.{codeOf}
+use Rattle.translation.specs.Demand3.{Given, runOn}
+use Rattle.translation.specs.Calls.{checkedRecords, translateRecords, translateFile, prepared, refusedBefore, runFile, Called, Ready}
+use Rattle.translation.specs.ThisCall.{ThisCall, AnyCall, ranWith}
+use Rattle.translation.proofs.Demand3.{demand-3}
+use Rattle.translation.proofs.EveryRun.{every-run}
+
+-- ---- what comes before a run
+
+-- what the checks say is what is said of the program that they accept
+pub as-checked : (s : List ℕ) → checkRecords s ≡ verdict (checkedRecords s)
+unfolding checkRecords checkedRecords
+as-checked s = by (readProgram s)
+  where
+    same : (program : Program) (r : Result (Unit {0})) → r ≡ verdict (onValue (λ u. program) r)
+    same program (done u) = refl
+    same program (refusal number place) = refl
+
+    by : (r : Result Program) → andThen r order ≡ verdict (andThen r (λ program. onValue (λ u. program) (order program)))
+    by (done program) = same program (order program)
+    by (refusal number place) = refl
+
+-- what the checks refuse is not translated ..
+pub not-translated : (room : ℕ) (file : List ℕ) (number place : ℕ) → checkFile file ≡ refusal number place → translateFile room file ≡ refusal number place
+unfolding checkFile translateFile translateRecords
+not-translated room file number place e = byResult (flatIn file)
+    (λ s h.
+    let stop : checkRecords s ≡ refusal number place = sym (then-done checkRecords h) ∙ e in
+    then-done (translateRecords room) h ∙ then-refused _ (refused-is (checkedRecords s) number place (sym (as-checked s) ∙ stop)))
+    (λ n q h.
+    let stop : flatIn file ≡ refusal number place = refused-is (flatIn file) number place (ap verdict h ∙ sym (then-refused checkRecords h) ∙ e) in
+    then-refused (translateRecords room) stop)
+
+-- .. and what they pass is, or has no room
+pub record Translated (room : ℕ) (file : List ℕ) : Type 0 where
+  pub code : List ℕ
+  pub is : translateFile room file ≡ within room code
+
+pub is-translated : (room : ℕ) (file : List ℕ) → checkFile file ≡ done tt → Translated room file
+unfolding checkFile translateFile translateRecords
+is-translated room file e =
+    let f = then-inv (flatIn file) checkRecords tt e in
+    let v = passed-is (checkedRecords (f .value)) (sym (as-checked (f .value)) ∙ f .second) in
+    record { code = codeOf (v .value); is = then-done _ (f .first) ∙ then-done _ (v .is) }
+
+-- code that is given has room
+pub has-room : (room : ℕ) (file bytes : List ℕ) → translateFile room file ≡ done bytes → length bytes ≤ room
+unfolding translateFile translateRecords within
+has-room room file bytes e =
+    let f = then-inv (flatIn file) (translateRecords room) bytes e in
+    let v = then-inv (checkedRecords (f .value)) _ bytes (f .second) in
+    let c = check-inv (leb (length (codeOf (v .value))) room) spaceTooShort 0 (codeOf (v .value)) bytes (v .second) in
+    rw (c .same) at (leb-true (length (codeOf (v .value))) room (c .held))
+
+module _ (room values returns : ℕ) (file : List ℕ) where
+  -- the file's refusals come first
+  pub prepared-refused : (number place : ℕ) → translateFile room file ≡ refusal number place → prepared room values returns file ≡ refusal number place
+  unfolding prepared
+  prepared-refused number place e = then-refused _ e
+
+  -- then 13, for the code and for work words
+  pub prepared-short : checkFile file ≡ done tt → (leb valueWords values && leb returnWords returns) ≡ false → prepared room values returns file ≡ refusal spaceTooShort 0
+  unfolding prepared within
+  prepared-short e short =
+      let t = is-translated room file e in
+      ap (λ r. andThen r then-words) (t .is) ∙ by (leb (length (t .code)) room)
+    where
+      then-words : List ℕ → Result (List ℕ)
+      then-words code = check (leb valueWords values && leb returnWords returns) spaceTooShort 0 code
+
+      by : (b : Bool) → andThen (check b spaceTooShort 0 (is-translated room file e .code)) then-words ≡ refusal spaceTooShort 0
+      by true = rw short
+      by false = refl
+
+  pub prepared-code : (bytes : List ℕ) → translateFile room file ≡ done bytes → valueWords ≤ values → returnWords ≤ returns → prepared room values returns file ≡ done bytes
+  unfolding prepared
+  prepared-code bytes e hv hr = then-done _ e ∙ (rw (le-leb valueWords values hv, le-leb returnWords returns hr))
+
+-- ---- calls
+
+module _ (file input output code : List ℕ) (fuel values returns : ℕ) where
+  -- a call that is refused before its run
+  pub called-refused : (number place : ℕ) → prepared (length code) values returns file ≡ refusal number place
+      → runFile file input output code fuel values returns ≡ record { answer = refusedBefore number place; output = output; code = code }
+  unfolding runFile
+  called-refused number place e = rw (e, runFile)
+
+  -- a call that comes to its run
+  pub called-runs : (bytes : List ℕ) → prepared (length code) values returns file ≡ done bytes
+      → runFile file input output code fuel values returns
+      ≡ record {
+        answer = streamRun bytes input output fuel values returns .answer;
+        output = streamRun bytes input output fuel values returns .output;
+        code = lent code (done bytes);
+      }
+  unfolding runFile
+  called-runs bytes e = rw (e, runFile)
+
+-- ---- a call that comes to its run
+
+-- where both passes accept the program of flat records, and its code has room, it is translated
+pub translated : (room : ℕ) (s : List ℕ) (program : Program) → readProgram s ≡ done program → order program ≡ done tt → length (codeOf program) ≤ room
+    → translateRecords room s ≡ done (codeOf program)
+unfolding translateRecords checkedRecords
+translated room s program e passes fits =
+    then-done _ (then-done _ e ∙ ap (onValue (λ u. program)) passes) ∙ within-room room (codeOf program) fits
+
+module _ (file code : List ℕ) (values returns : ℕ) (bytes : Bytes file) (program : Program) (ready : Ready file code values returns program) where
+  -- its code is what the run is made of
+  pub ready-prepared : prepared (length code) values returns file ≡ done (codeOf program)
+  unfolding translateFile programIn
+  ready-prepared =
+      let f = then-inv (flatIn file) readProgram program (ready .in-file) in
+      let t = translated (length code) (f .value) program (f .second) (ready .passes) (ready .room) in
+      prepared-code (length code) values returns file (codeOf program) (then-done _ (f .first) ∙ t) (ready .words-lent) (ready .places-lent)
+
+  -- the program with what its runs are given, nothing behind its code
+  given : Given
+  unfolding programIn
+  given =
+      let f = then-inv (flatIn file) readProgram program (ready .in-file) in
+      record {
+        program = program;
+        checked = record { lawful = flattens (f .value) program (flat-in-bytes file (f .value) bytes (f .first)) (f .second) .lawful; passes = ready .passes };
+        after-code = [];
+        values = values;
+        returns = returns;
+        words-lent = ready .words-lent;
+        places-lent = ready .places-lent;
+      }
+
+  -- the run is the one that demand 3 speaks of
+  abbrev ranOn : (input output : List ℕ) (fuel : ℕ) → Ran
+  ranOn = runOn given
+
+  as-run : (input output : List ℕ) (fuel : ℕ) → streamRun (codeOf program) input output fuel values returns ≡ runOn given input output fuel
+  unfolding given
+  as-run input output fuel = ap (λ (s : List ℕ). streamRun s input output fuel values returns) (sym (append-nil (codeOf program)))
+
+  -- so is what the definition of the call gives
+  ready-called : (input output : List ℕ) (fuel : ℕ)
+      → runFile file input output code fuel values returns
+      ≡ record { answer = ranOn input output fuel .answer; output = ranOn input output fuel .output; code = lent code (done (codeOf program)) }
+  ready-called input output fuel =
+      called-runs file input output code fuel values returns (codeOf program) ready-prepared
+      ∙ ap (λ (r : Ran). record { answer = r .answer; output = r .output; code = lent code (done (codeOf program)) }) (as-run input output fuel)
+
+  -- demand 3 about this call
+  module _ (t : Tree) (labelled : Labelled t) (rest output : List ℕ) (fuel : ℕ) where
+    on-tree : ThisCall program t rest output fuel (runFile file (tokens t) output code fuel values returns) (ranOn (tokens t ++ rest) output fuel .answer) (ranOn (tokens t ++ rest) output fuel .output)
+    unfolding given
+    on-tree =
+        let holds = demand-3 given t labelled in
+        let alone : ranOn (tokens t ++ rest) output fuel ≡ ranOn (tokens t) output fuel =
+        holds .nothing-after rest [] output fuel ∙ ap (λ (s : List ℕ). ranOn s output fuel) (append-nil (tokens t)) in
+        record {
+          read-opening = holds .read-opening rest output fuel;
+          read-no-more = holds .read-no-more rest output fuel;
+          written-opening = holds .written-opening rest output fuel;
+          written-no-more = holds .written-no-more rest output fuel;
+          none-other = holds .none-other rest output fuel;
+          same-answer = ap (λ (r : Ran). r .answer) alone ∙ ap (λ (r : Called). r .answer) (sym (ready-called (tokens t) output fuel));
+          same-output = ap (λ (r : Ran). r .output) alone ∙ ap (λ (r : Called). r .output) (sym (ready-called (tokens t) output fuel));
+          suffices = λ n v ends enough space. holds .suffices n v ends rest output fuel enough space;
+          none-suffices = λ none. holds .none-suffices none rest output fuel;
+        }
+
+  any-run : (input output : List ℕ) (fuel : ℕ) → Bytes input → AnyCall program input output (ranOn input output fuel .answer) (ranOn input output fuel .output)
+  unfolding given
+  any-run input output fuel bs =
+      let holds = every-run given in
+      record {
+        never-19 = λ place. holds .never-19 input output fuel place bs;
+        ended-is-meant = holds .ended-is-meant input output fuel bs;
+        one-for-one = λ first known sort ended. holds .one-for-one first input output fuel known sort bs ended;
+      }
+
+  -- what was answered, and the output at exit, are those
+  module _ (input output : List ℕ) (fuel : ℕ) (answer : Answer) (after : List ℕ)
+      (answered : answer ≡ runFile file input output code fuel values returns .answer)
+      (left : after ≡ runFile file input output code fuel values returns .output) where
+    its-answer : answer ≡ ranOn input output fuel .answer
+    its-answer = answered ∙ ap (λ (r : Called). r .answer) (ready-called input output fuel)
+
+    its-output : after ≡ ranOn input output fuel .output
+    its-output = left ∙ ap (λ (r : Called). r .output) (ready-called input output fuel)
+
+    pub this-call : (t : Tree) (rest : List ℕ) → Labelled t → input ≡ tokens t ++ rest
+        → ThisCall program t rest output fuel (runFile file (tokens t) output code fuel values returns) answer after
+    this-call t rest labelled is = rw (its-answer, its-output, is) (on-tree t labelled rest output fuel)
+
+    pub any-call : Bytes input → AnyCall program input output answer after
+    any-call bs = rw (its-answer, its-output) (any-run input output fuel bs)

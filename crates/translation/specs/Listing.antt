@@ -1,0 +1,43 @@
+-- Document 01, "Worked programs": the listing of a program file, which is what the listing program prints.
+use Prim.Native.Nat.{ℕ, zero, suc, _*_, _/_}
+use mathlib.Core.List.{List, [], _∷_}
+use lib.IntN.{ℤ}
+use lib.ListN.{length}
+use Rattle.formats.specs.Numbers.{signed32}
+use Rattle.formats.specs.Results.{Result, done, refusal}
+use Rattle.formats.specs.Records.{fields, recordAt}
+use Rattle.meaning.specs.Instructions.{Instruction, instructionBytes, mostInstructions}
+use Rattle.translation.specs.Calls.{translateFile}
+
+-- 01: "prints, a line each, address, opcode, byte 1, operand, number".
+pub data Line : Type 0 where
+  line : (address opcode byte1 operand : ℕ) (number : ℤ) → Line
+
+-- 01: "after a heading with the count (a refused file gives one line: refused, number, position)".
+pub data Listing : Type 0 where
+  -- the heading, "code" and the count, and the lines
+  listed : (count : ℕ) (lines : List Line) → Listing
+  -- the one line, "refused", the number and the position
+  refused : (number position : ℕ) → Listing
+
+-- The line of the instruction at address a. 01: "instruction numbers are two's complement".
+unfoldable pub lineOf : ℕ → Instruction → Line
+lineOf a (fields opcode byte1 operand number) = line a opcode byte1 operand (signed32 number)
+
+-- The lines of so many instructions, the first at address a.
+unfoldable pub linesFrom : List ℕ → ℕ → ℕ → List Line
+linesFrom code zero a = []
+linesFrom code (suc n) a = lineOf a (recordAt code a) ∷ linesFrom code n (suc a)
+
+-- How many instructions a code has.
+unfoldable pub instructionsIn : List ℕ → ℕ
+instructionsIn code = length code / instructionBytes
+
+-- The listing of a code, or of a refusal.
+unfoldable pub listingOf : Result (List ℕ) → Listing
+listingOf (done code) = listed (instructionsIn code) (linesFrom code (instructionsIn code) 0)
+listingOf (refusal number position) = refused number position
+
+-- The listing of a program file, whatever its bytes. There is room for every program's code (01: "At most 4,128 instructions"), so 13 is never told.
+unfoldable pub listing : List ℕ → Listing
+listing file = listingOf (translateFile (instructionBytes * mostInstructions) file)

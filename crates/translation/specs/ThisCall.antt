@@ -1,0 +1,63 @@
+-- Demand 3 about one call of the runner: what was answered, and the output at exit. The runner's contract carries it (crate `runner`).
+--
+-- `before` is the output at entry and `after` the output at exit; `answer` is what the call answered. The words are those of Demand3.
+use Prim.Native.Nat.{ℕ, _+_, _*_, _≤_}
+use mathlib.Core.List.{List, _++_}
+use mathlib.Core.Logic.{_≢_}
+use mathlib.Core.Option.{some}
+use mathlib.Core.Path.{_≡_}
+use lib.ListN.{length, take, drop}
+use Rattle.formats.specs.Places.{Opens}
+use Rattle.formats.specs.Records.{nth}
+use Rattle.formats.specs.Refusals.{cannotPerform}
+use Rattle.formats.specs.Results.{done, refusal}
+use Rattle.formats.specs.Tokens.{Tree, tokens}
+use Rattle.formats.specs.Programs.{treeValued, Function, Program}
+use Rattle.meaning.specs.Running.{Answer, Ran, mostCalls}
+use Rattle.meaning.specs.Evaluation.{Value, Ends, resultBytes}
+use Rattle.translation.specs.Demand3.{Whole}
+use Rattle.translation.specs.EveryRun.{Meant, OneForOne}
+use Rattle.translation.specs.Calls.{Called}
+
+-- Answer and output at exit, as what a run gives.
+abbrev pub ranWith : Answer → List ℕ → Ran
+ranWith answer after = record { answer = answer; output = after }
+
+-- "When any checked program is run over the stream on any tree's tokens, with anything after them, any fuel and any output length:" a call on the
+-- tokens of t and the rest behind them. `alone` is what the definition gives on the tokens of t alone.
+pub record ThisCall (program : Program) (t : Tree) (rest before : List ℕ) (fuel : ℕ) (alone : Called) (answer : Answer) (after : List ℕ) : Type 0 where
+  -- "the bytes read are opening bytes of that tree, none or all included;"
+  pub read-opening : Opens (take (answer .bytesRead) (tokens t ++ rest)) (tokens t)
+  pub read-no-more : answer .bytesRead ≤ length (tokens t)
+  -- "the bytes written are opening bytes of the source's result where it has one;" with however many calls open
+  pub written-opening : (o n : ℕ) (v : Value) → Ends program t o n v → Opens (take (answer .bytesWritten) after) (resultBytes v)
+  pub written-no-more : (o n : ℕ) (v : Value) → Ends program t o n v → answer .bytesWritten ≤ length (resultBytes v)
+  -- (no other byte of the output is written, whether the source has a result or not)
+  pub none-other : drop (answer .bytesWritten) after ≡ drop (answer .bytesWritten) before
+  -- "and neither answers nor output depend on what stands after the tree."
+  pub same-answer : answer ≡ alone .answer
+  pub same-output : after ≡ alone .output
+  -- "If the source evaluation ends after n expressions with at most 1,024 calls open at once, every fuel from 4n + 1 up suffices, given output space for
+  -- the result:" the run is `Whole`.
+  pub suffices :
+      (n : ℕ) (v : Value)
+      → Ends program t mostCalls n v
+      → 4 * n + 1 ≤ fuel
+      → length (resultBytes v) ≤ length before
+      → Whole t v before (ranWith answer after)
+  -- "For every other evaluation, endless ones included, no fuel suffices."
+  pub none-suffices : ((n : ℕ) (v : Value) → Ends program t mostCalls n v → ⊥) → answer .outcome ≢ done tt
+
+-- A call on any input, trees or not (the statements of EveryRun).
+pub record AnyCall (program : Program) (input before : List ℕ) (answer : Answer) (after : List ℕ) : Type 0 where
+  -- 01: "19 never follows translated code."
+  pub never-19 : (place : ℕ) → answer .outcome ≢ refusal cannotPerform place
+  -- It ends on nothing else than a tree, and then it gives what the program means.
+  pub ended-is-meant : answer .outcome ≡ done tt → Meant program input before (ranWith answer after)
+  -- Where function 0 gives a tree: one whole tree read for one whole tree written.
+  pub one-for-one :
+      (first : Function)
+      → nth (program .functions) 0 ≡ some first
+      → first .sort ≡ treeValued
+      → answer .outcome ≡ done tt
+      → OneForOne input (ranWith answer after)

@@ -16,7 +16,7 @@ use Rattle.refusal.specs.declared.Verdict.the-variants.{Passed, Refused}
 use Rattle.meaning.specs.Running.{Answer as Due}
 use Rattle.machine.specs.Told.{answered}
 use Rattle.machine.specs.declared.Answer.{Answer}
-use Rattle.run_answers.specs.RunAnswer.{runPlaces, refusalOf, placeOf, placesWith, Stores, Answers}
+use Rattle.run_answers.specs.RunAnswer.{runPlaces, refusalOf, placeOf, signExtended, placesWith, Stores, Answers}
 
 -- ---- `store`
 
@@ -26,10 +26,13 @@ module _ (ran : Answer) (n place : ℕ) (before : List ℕ) where
 
   -- stores from the first place on are the numbers written there
   pub store-done :
-      runPlaces ≤ length before
+      (word : ℕ)
+      → runPlaces ≤ length before
+      → word ≡ signExtended (ran .number)
       → Stores (answered ran) n place before
-      (set (set (set (set (set before 0 place) 1 (ran .units)) 2 (ran .read)) 3 (ran .written)) 4 (ran .number)) n
-  store-done h = record { given = rw (le-ltb _ _ h) refl; places = written-sets before 0 (placesWith place (answered ran)) h }
+      (set (set (set (set (set before 0 place) 1 (ran .units)) 2 (ran .read)) 3 (ran .written)) 4 word) n
+  store-done word h e =
+      record { given = rw (le-ltb _ _ h) refl; places = rw e (written-sets before 0 (placesWith place (answered ran)) h) }
 
 pub ruleset store-ways = (store-short, store-done)
 

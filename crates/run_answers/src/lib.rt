@@ -6,10 +6,13 @@ ghost use mathlib.Core.Path.{_≡_};
 ghost use lib.Dec.{leb};
 ghost use lib.ListN.{length};
 ghost use Rattle.machine.specs.Told.{answered};
-ghost use Rattle.run_answers.specs.RunAnswer.{runPlaces, Stores, Answers};
+ghost use Rattle.run_answers.specs.RunAnswer.{runPlaces, signExtended, Stores, Answers};
 
 // How many places an answer takes.
 const RUN_PLACES: usize = 5;
+
+// 2^64 - 2^32: the upper 32 bits of a 64-bit word.
+const UPPER_BITS: u64 = 18446744069414584320;
 
 // Whether so many places are lent.
 pub fn has_room(answer: &[u64]) -> bool
@@ -18,8 +21,19 @@ pub fn has_room(answer: &[u64]) -> bool
     RUN_PLACES <= answer.len()
 }
 
-// Stores a refusal's place, units, bytes read, bytes written and the number as the answer's first places, and gives the refusal's number. With
-// fewer places: 13, and the answer is untouched.
+// The number that a 32-bit word stands for in two's complement, as a 64-bit word: sign-extended.
+fn sign_extended(word: u32) -> u64
+    ensures { λ r. ⌜ r ≡ signExtended word ⌝ }
+{
+    if word < 2147483648 {
+        word as u64
+    } else {
+        word as u64 + UPPER_BITS
+    }
+}
+
+// Stores a refusal's place, units, bytes read, bytes written and the number, sign-extended to 64 bits, as the answer's first places, and gives the
+// refusal's number. With fewer places: 13, and the answer is untouched.
 fn store(ran: Answer, number: u32, place: usize, answer: &mut [u64]) -> u32
     ensures { λ r. ⌜ Stores (answered ran) number place (now (answer .entry)) (now (answer .exit)) r ⌝ }
 {
@@ -30,7 +44,7 @@ fn store(ran: Answer, number: u32, place: usize, answer: &mut [u64]) -> u32
     answer[1] = ran.units;
     answer[2] = ran.read as u64;
     answer[3] = ran.written as u64;
-    answer[4] = ran.number as u64;
+    answer[4] = sign_extended(ran.number);
     number
 }
 

@@ -24,8 +24,8 @@ slice-write-answer-3 c = simp length-set (omega arith)
 slice-write-answer-4 : tie.Need-slice-write-answer-4
 slice-write-answer-4 c = simp length-set (omega arith)
 
-cast-answer : tie.Need-cast-answer
-cast-answer c = search needs
+sign-extended-requires : tie.Need-sign-extended-requires
+sign-extended-requires c κs = search needs
 
 slice-write-answer-5 : tie.Need-slice-write-answer-5
 slice-write-answer-5 c = simp length-set (omega arith)
@@ -46,7 +46,7 @@ store-spec =
     slice-write-answer-2
     slice-write-answer-3
     slice-write-answer-4
-    cast-answer
+    sign-extended-requires
     slice-write-answer-5
     same-length
     returns-2)

@@ -23,7 +23,9 @@ use Rattle.machine.specs.Told.{answered as runAnswered, Performed}
 use Rattle.run_answers.specs.RunAnswer.{runPlaces, Answers as RunAnswers}
 use Rattle.run_answers.proofs.Laws.{run-too-few}
 use Rattle.hogvax_c.specs.Fills.{Fills}
+use Rattle.runner.specs.Runs.{Runs as RunnerRuns}
 use Rattle.hogvax_c.specs.Runs.{Runs}
+use Rattle.hogvax_c.specs.RunsFile.{RunsFile}
 
 -- ---- the tree reader
 
@@ -86,3 +88,41 @@ module _ (due : Ran) (output values returns before : List ℕ) (r : ℕ) (room :
       }
 
 pub ruleset run-ways = (not-run, run-told)
+
+-- ---- the run of a program file
+
+module _ (file input output code values returns before : List ℕ) (fuel r : ℕ) (room : Bool) (test : room ≡ leb runPlaces (length before)) where
+  -- too few places: nothing is run
+  pub file-not-run : not room ≡ true → r ≡ spaceTooShort → RunsFile file input output output code code values values returns returns before before fuel r
+  file-not-run u e =
+      let h = leb-false runPlaces (length before) (sym test ∙ not-true room u) in
+      record {
+        answers = run-too-few _ before r h e;
+        output-holds = rw (lt-ltb _ _ h) refl;
+        code-holds = rw (lt-ltb _ _ h) refl;
+        not-run = λ few. (refl, refl);
+        values-length = refl;
+        returns-length = refl;
+        demand-3 = λ enough. absurd (omega arith);
+      }
+
+  -- what was run is told
+  pub file-told :
+      (output′ code′ values′ returns′ after : List ℕ) (ran : Answer)
+      → not room ≡ false
+      → RunnerRuns file input output output′ code code′ values values′ returns returns′ fuel ran
+      → RunAnswers (runAnswered ran) before after r
+      → RunsFile file input output output′ code code′ values values′ returns returns′ before after fuel r
+  file-told output′ code′ values′ returns′ after ran u p a =
+      let h = leb-true runPlaces (length before) (sym test ∙ not-false room u) in
+      record {
+        answers = rw (← (p .answer)) a;
+        output-holds = rw (le-ltb _ _ h) (p .output-is);
+        code-holds = rw (le-ltb _ _ h) (p .code-is);
+        not-run = λ few. absurd (omega arith);
+        values-length = p .values-length;
+        returns-length = p .places-length;
+        demand-3 = λ enough program ready t rest labelled is. rw (← (p .answer)) (p .demand-3 program ready t rest labelled is);
+      }
+
+pub ruleset file-ways = (file-not-run, file-told)

@@ -1,3 +1,4 @@
 -- What the exported functions answer.
 pub mod Fills
 pub mod Runs
+pub mod RunsFile

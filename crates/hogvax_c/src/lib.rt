@@ -10,6 +10,8 @@ ghost use Rattle.answers.specs.Answer.{Answers};
 ghost use Rattle.meaning.specs.Running.{streamRun};
 ghost use Rattle.hogvax_c.specs.Fills.{Fills};
 ghost use Rattle.hogvax_c.specs.Runs.{Runs};
+ghost use Rattle.hogvax_c.specs.RunsFile.{RunsFile};
+ghost use Rattle.translation.specs.Calls.{translateFile};
 
 // The length of the first tree's own bytes, which begin the input; 0 on a refusal.
 #[no_mangle]
@@ -72,9 +74,9 @@ pub extern "C" fn hogvax_check_records(flat: &[u8], answer: &mut [u64]) -> u32
     answers::tell_verdict(pass_two::check_order(flat), answer)
 }
 
-// The stream run of any code. The refusal's number, 0 where the run ended; the refusal's place, units, bytes read, bytes written and the number go
-// to the answer's first five places. What the run wrote stays in `output`, and the rest is untouched. Fewer than 16,384 `values` or 2,048 `returns`:
-// 13; what they hold after a run is free. With fewer than five places in `answer`: 13, and all buffers are untouched.
+// The stream run of any code. The refusal's number, 0 where the run ended; the refusal's place, units, bytes read, bytes written and the number,
+// sign-extended to 64 bits, go to the answer's first five places. What the run wrote stays in `output`, and the rest is untouched. Fewer than 16,384
+// `values` or 2,048 `returns`: 13; what they hold after a run is free. With fewer than five places in `answer`: 13, and all buffers are untouched.
 #[no_mangle]
 pub extern "C" fn hogvax_perform(
     code: &[u8],
@@ -91,5 +93,41 @@ pub extern "C" fn hogvax_perform(
         return refusal::number_of(Refusal::SpaceTooShort);
     }
     let ran = machine::perform(code, input, fuel, output, values, returns);
+    run_answers::tell_run(ran, answer)
+}
+
+// The code of a program file, 8 bytes an instruction, written to the start of `code`. The refusal's number, 0 where it is written; the refusal's
+// place and the bytes written go to the answer's first two places. With fewer places: 13, and both buffers are untouched.
+#[no_mangle]
+pub extern "C" fn hogvax_translate(file: &[u8], code: &mut [u8], answer: &mut [u64]) -> u32
+    ensures { λ r. ⌜ Fills (translateFile (length (now (code .entry))) (now (file .entry))) (now (code .entry)) (now (code .exit)) (now (answer .entry)) (now (answer .exit)) r ⌝ }
+{
+    if !answers::has_room(answer) {
+        return refusal::number_of(Refusal::SpaceTooShort);
+    }
+    let filled = translate::translate_file(file, code);
+    answers::tell(filled, answer)
+}
+
+// Checks, translates and runs the program of a file. The answer is that of `hogvax_perform`. Every refusal of the file, of both passes and 13 comes
+// before code is written; then the code goes to the start of `code` and stays. Refused before its first instruction, a call leaves `output` and `code`
+// untouched. With fewer than five places in `answer`: 13, and all buffers are untouched.
+#[no_mangle]
+pub extern "C" fn hogvax_run(
+    file: &[u8],
+    input: &[u8],
+    fuel: u64,
+    output: &mut [u8],
+    code: &mut [u8],
+    values: &mut [u32],
+    returns: &mut [u64],
+    answer: &mut [u64],
+) -> u32
+    ensures { λ r. ⌜ RunsFile (now (file .entry)) (now (input .entry)) (now (output .entry)) (now (output .exit)) (now (code .entry)) (now (code .exit)) (now (values .entry)) (now (values .exit)) (now (returns .entry)) (now (returns .exit)) (now (answer .entry)) (now (answer .exit)) fuel r ⌝ }
+{
+    if !run_answers::has_room(answer) {
+        return refusal::number_of(Refusal::SpaceTooShort);
+    }
+    let ran = runner::run(file, input, fuel, output, code, values, returns);
     run_answers::tell_run(ran, answer)
 }

@@ -1,11 +1,12 @@
 -- What the translator and the runner give: a law for each way that a call may go, and demand 3 about a call that comes to its run.
 use Prim.Native.Nat.{ℕ, _≤_}
 use mathlib.Core.Bool.{Bool, true, false, _&&_}
-use mathlib.Core.List.{List, [], _++_, append-nil}
+use mathlib.Core.List.{List, [], _++_, append-nil, map}
 use mathlib.Core.Path.{_≡_, refl, sym, ap, subst, _∙_}
+use native.Mathlib.Omega.{arith}
 use borrow.Author.Tests.{le-leb, leb-true}
 use lib.Dec.{leb}
-use lib.ListN.{length}
+use lib.ListN.{length, length-map}
 use Rattle.formats.specs.Numbers.{Bytes}
 use Rattle.formats.specs.Refusals.{spaceTooShort}
 use Rattle.formats.specs.Results.{Result, done, refusal, andThen, onValue, verdict, check}
@@ -14,14 +15,18 @@ use Rattle.formats.specs.Programs.{Program}
 use Rattle.formats.specs.Rows.{readProgram}
 use Rattle.formats.specs.Blocks.{flatIn, programIn, within, lent}
 use Rattle.formats.proofs.Results.{byResult, then-done, then-refused, then-inv, check-inv, passed-is, refused-is}
+use Rattle.formats.proofs.ProgramFiles.{program-files}
+use Rattle.formats.proofs.Records.{length-flat}
 use Rattle.formats.proofs.Rows.{flattens}
 use Rattle.formats.proofs.Files.{within-room, flat-in-bytes}
 use Rattle.rules.specs.PassTwo.{order, checkRecords, checkFile}
 use Rattle.meaning.specs.Running.{Answer, Ran, valueWords, returnWords, streamRun}
-use Rattle.translation.specs.Templates.{codeOf}
+use Rattle.meaning.specs.Instructions.{instructionOf}
+use Rattle.translation.specs.Templates.{operationsOf, codeOf}
 use Rattle.translation.specs.Demand3.{Given, runOn}
 use Rattle.translation.specs.Calls.{checkedRecords, translateRecords, translateFile, prepared, refusedBefore, runFile, Called, Ready}
-use Rattle.translation.specs.ThisCall.{ThisCall, AnyCall, ranWith}
+use Rattle.translation.specs.ThisCall.{ThisCall, AnyCall, ranWith, AllRunnable}
+use Rattle.translation.proofs.CodeLimits.{code-limits}
 use Rattle.translation.proofs.Demand3.{demand-3}
 use Rattle.translation.proofs.EveryRun.{every-run}
 
@@ -211,3 +216,22 @@ module _ (file code : List ℕ) (values returns : ℕ) (bytes : Bytes file) (pro
 
     pub any-call : Bytes input → AnyCall program input output answer after
     any-call bs = rw (its-answer, its-output) (any-run input output fuel bs)
+
+-- ---- every checked program can be run
+
+pub all-runnable : AllRunnable
+unfolding codeOf
+all-runnable program checked =
+    let own = program-files .one-file program (checked .lawful) in
+    let records = map instructionOf (operationsOf program) in
+    record {
+      file = own .file;
+      bytes = own .bytes;
+      ready = λ code values returns room hv hr. record {
+        in-file = own .holds;
+        passes = checked .passes;
+        room = omega (arith, length-flat records, length-map (operationsOf program) instructionOf, code-limits program (checked .lawful) .few);
+        words-lent = hv;
+        places-lent = hr;
+      };
+    }

@@ -7,17 +7,19 @@ use mathlib.Core.Logic.{_≢_}
 use mathlib.Core.Option.{some}
 use mathlib.Core.Path.{_≡_}
 use lib.ListN.{length, take, drop}
+use Rattle.formats.specs.Numbers.{Bytes}
 use Rattle.formats.specs.Places.{Opens}
 use Rattle.formats.specs.Records.{nth}
 use Rattle.formats.specs.Refusals.{cannotPerform}
 use Rattle.formats.specs.Results.{done, refusal}
 use Rattle.formats.specs.Tokens.{Tree, tokens}
 use Rattle.formats.specs.Programs.{treeValued, Function, Program}
-use Rattle.meaning.specs.Running.{Answer, Ran, mostCalls}
+use Rattle.meaning.specs.Instructions.{instructionBytes, mostInstructions}
+use Rattle.meaning.specs.Running.{Answer, Ran, valueWords, returnWords, mostCalls}
 use Rattle.meaning.specs.Evaluation.{Value, Ends, resultBytes}
-use Rattle.translation.specs.Demand3.{Whole}
+use Rattle.translation.specs.Demand3.{Checked, Whole}
 use Rattle.translation.specs.EveryRun.{Meant, OneForOne}
-use Rattle.translation.specs.Calls.{Called}
+use Rattle.translation.specs.Calls.{Called, Ready}
 
 -- Answer and output at exit, as what a run gives.
 abbrev pub ranWith : Answer → List ℕ → Ran
@@ -61,3 +63,17 @@ pub record AnyCall (program : Program) (input before : List ℕ) (answer : Answe
       → first .sort ≡ treeValued
       → answer .outcome ≡ done tt
       → OneForOne input (ranWith answer after)
+
+-- Every checked program can be run so: it has a file, and with code buffer and work space of document 01's lengths the call comes to its run.
+pub record Runnable (program : Program) : Type 0 where
+  pub file : List ℕ
+  pub bytes : Bytes file
+  pub ready :
+      (code : List ℕ) (values returns : ℕ)
+      → instructionBytes * mostInstructions ≤ length code
+      → valueWords ≤ values
+      → returnWords ≤ returns
+      → Ready file code values returns program
+
+abbrev pub AllRunnable : Type 0
+AllRunnable = (program : Program) → Checked program → Runnable program

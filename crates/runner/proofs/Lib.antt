@@ -1,0 +1,2 @@
+-- Proofs about the runner.
+pub mod Laws

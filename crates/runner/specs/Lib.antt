@@ -1,0 +1,2 @@
+-- What a call of the runner gives.
+pub mod Runs

@@ -1,0 +1,67 @@
+// The runner: from a program file and token bytes to the run's answer. Checker, translator and stream run in one call.
+use machine::Answer;
+use refusal::Filled;
+use refusal::Refusal;
+use refusal::Verdict;
+ghost use mathlib.Core.Path.{_≡_};
+ghost use Rattle.refusal.specs.Number.{number};
+ghost use Rattle.machine.specs.Told.{answered};
+ghost use Rattle.translation.specs.Calls.{refusedBefore};
+ghost use Rattle.runner.specs.Runs.{Runs, TooFewWords};
+
+// The work words of a run.
+const VALUE_WORDS: usize = 16384;
+
+const RETURN_WORDS: usize = 2048;
+
+// The answer of a call that is refused before its run.
+fn refused(why: Refusal, place: usize) -> Answer
+    ensures { λ r. ⌜ answered r ≡ refusedBefore (number why) place ⌝ }
+{
+    Answer {
+        verdict: Verdict::Refused(why, place),
+        units: 0,
+        read: 0,
+        written: 0,
+        number: 0,
+    }
+}
+
+// The answer where work words are missing: the file's own refusals come first.
+fn too_few_words(file: &[u8]) -> Answer
+    ensures { λ r. ⌜ TooFewWords (now (file .entry)) r ⌝ }
+{
+    let checked = order::check_file(file);
+    match checked {
+        Verdict::Refused(why, place) => refused(why, place),
+        Verdict::Passed => refused(Refusal::SpaceTooShort, 0),
+    }
+}
+
+// Runs the program of a file on an input: the rows of the file, both passes, every 13, and then the program's code, which goes to the start of `code`
+// and stays, is run. Its contract carries demand 3 about this very call.
+pub fn run(
+    file: &[u8],
+    input: &[u8],
+    fuel: u64,
+    output: &mut [u8],
+    code: &mut [u8],
+    values: &mut [u32],
+    places: &mut [u64],
+) -> Answer
+    ensures { λ r. ⌜ Runs (now (file .entry)) (now (input .entry)) (now (output .entry)) (now (output .exit)) (now (code .entry)) (now (code .exit)) (now (values .entry)) (now (values .exit)) (now (places .entry)) (now (places .exit)) fuel r ⌝ }
+{
+    if values.len() < VALUE_WORDS {
+        return too_few_words(file);
+    }
+    if places.len() < RETURN_WORDS {
+        return too_few_words(file);
+    }
+    let laid = translate::translate_file(file, code);
+    match laid {
+        Filled::Refused(why, place) => refused(why, place),
+        Filled::Written(bytes) => {
+            machine::perform(&code[..bytes], input, fuel, output, values, places)
+        }
+    }
+}

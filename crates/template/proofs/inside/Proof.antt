@@ -1,0 +1,28 @@
+-- `template::inside` meets its contract: a law for each kind of record.
+use borrow.Author.Needs.{needs}
+use Rattle.template.proofs.Scopes.{insides}
+use Rattle.template.proofs.inside.Statement.{statement}
+use Rattle.template.proofs.inside.Tie as tie
+
+pub inside-spec : {M : Type 1} → statement M
+inside-spec =
+    tie.close
+    (tie.spec
+    (λ c. search needs) (λ c κs. search needs)
+    (λ c. search insides)
+    (λ c κs. search needs) (λ c. search needs) (λ c κs. search needs)
+    (λ c. search insides)
+    (λ c. search needs) (λ c κs. search needs)
+    (λ c. search insides)
+    (λ c κs. search needs) (λ c. search needs) (λ c κs. search needs) (λ c. search needs) (λ c κs. search needs) (λ c. search needs)
+    (λ c κs. search needs)
+    (λ c. search insides)
+    (λ c. search needs) (λ c κs. search needs)
+    (λ c. search insides)
+    (λ c. search insides)
+    (λ c. search insides)
+    (λ c. search insides)
+    (λ c. search insides)
+    (λ c. search insides)
+    (λ c. search insides)
+    (λ c. search insides))

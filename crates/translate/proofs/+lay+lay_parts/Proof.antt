@@ -1,0 +1,116 @@
+-- The proof of the cycle of calls {lay, lay_parts}. The measure is the records left, doubled, so that at the same record the parts are above the first
+-- of them. Each way out is a law of proofs/Walk.
+use Prim.Native.Nat.{ℕ, _+_, _-_, _*_, _<_}
+use borrow.Author.Needs.{needs}
+use borrow.Fn.Kinds.{In}
+use borrow.Fn.PlainCycle.{Measures, is, falls, and}
+use Rattle.translate.proofs.Walk.{expressions, parts, asked}
+use Rattle.translate.proofs.lay.Reads as lay
+use Rattle.translate.proofs.lay.Kinds as lay-kinds
+use Rattle.translate.proofs.+lay+lay_parts.Lts-lay as lay-lts
+use Rattle.translate.proofs.lay_parts.Reads as lay-parts
+use Rattle.translate.proofs.lay_parts.Kinds as lay-parts-kinds
+use Rattle.translate.proofs.+lay+lay_parts.Lts-lay_parts as lay-parts-lts
+use Rattle.nodes.proofs.part_count.Reads as part-count-reads
+use Rattle.records.proofs.record_at.Reads as record-at-reads
+use Rattle.template.proofs.inside.Reads as inside-reads
+use Rattle.template.proofs.items_before.Reads as items-before-reads
+use Rattle.template.proofs.lay_items.Reads as lay-items-reads
+use Rattle.template.proofs.length_of.Reads as length-of-reads
+use Rattle.translate.proofs.+lay+lay_parts.{statement}
+use Rattle.translate.proofs.+lay+lay_parts.Tie.{close}
+
+abbrev μ-lay : Measures 3 lay-kinds.ps ℕ
+μ-lay κs a = 2 * (a .1 .1 .1 .1 .1 .1 .0 - a .1 .1 .1 .1 .1 .0)
+
+abbrev μ-lay-parts : Measures 3 lay-parts-kinds.ps ℕ
+μ-lay-parts κs a = 2 * (a .1 .1 .1 .1 .1 .1 .1 .1 .1 .0 - a .1 .1 .1 .1 .1 .1 .1 .1 .0) + 1
+
+abbrev lay-at : ℕ → In 3 lay-kinds.ps
+lay-at t = and 3 lay-kinds.ps (is 3 lay-kinds.ps μ-lay t) lay.Pre
+
+abbrev lay-below : ℕ → In 3 lay-kinds.ps
+lay-below t = and 3 lay-kinds.ps (falls 3 lay-kinds.ps _<_ μ-lay t) lay.Pre
+
+abbrev lay-parts-at : ℕ → In 3 lay-parts-kinds.ps
+lay-parts-at t = and 3 lay-parts-kinds.ps (is 3 lay-parts-kinds.ps μ-lay-parts t) lay-parts.Pre
+
+abbrev lay-parts-below : ℕ → In 3 lay-parts-kinds.ps
+lay-parts-below t =
+    and 3 lay-parts-kinds.ps (falls 3 lay-parts-kinds.ps _<_ μ-lay-parts t) lay-parts.Pre
+
+pub +lay+lay-parts-spec : {M : Type 1} → statement M
++lay+lay-parts-spec = close μ-lay μ-lay-parts
+    (λ t. lay-lts.spec (
+      record-at-reads.Asked,
+      record-at-reads.Learnt,
+      part-count-reads.Asked,
+      part-count-reads.Learnt,
+      lay-parts-below t,
+      lay-parts.Post,
+    )
+    (lay-at t)
+    lay.Post
+    (λ c. search expressions)
+    (λ c κs. search needs) (λ c. search needs) (λ c. search needs) (λ c κs. search needs) (λ c. search needs)
+    (λ c κs. search asked)
+    (λ c. search expressions)
+    (λ c. search needs)
+    (λ c. search expressions))
+    λ t. lay-parts-lts.spec (
+      length-of-reads.Asked,
+      length-of-reads.Learnt,
+      lay-items-reads.Asked,
+      lay-items-reads.Learnt,
+      items-before-reads.Asked,
+      items-before-reads.Learnt,
+      inside-reads.Asked,
+      inside-reads.Learnt,
+      lay-below t,
+      lay.Post,
+      lay-parts-below t,
+      lay-parts.Post,
+    )
+    (lay-parts-at t)
+    lay-parts.Post
+    (λ c κs. search needs) (λ c. search asked) (λ c. search asked) (λ c. search asked) (λ c κs. search needs) (λ c. search needs)
+    (λ c. search parts)
+    (λ c κs. search needs) (λ c κs. search needs) (λ c. search asked) (λ c κs. search needs) (λ c κs. search asked) (λ c. search needs)
+    (λ c. search parts)
+    (λ c. search asked)
+    (λ c κs.
+    let entered = c .before .before .before .before .before in
+    let start = entered .before .before .before .before .before .before .before .before .before .before .before .pre in
+    let length = entered .before .before .before .length-of2 in
+    let items = entered .before .before .before .before .items-before in
+    let part = entered .lay in
+    let on = c .before .if2 in
+    search asked)
+    (λ c.
+    let entered = c .before .before .before .before .before .before .before .before .before .before in
+    let start = entered .before .before .before .before .before .before .before .before .before .before .before .pre in
+    let length = entered .before .before .before .length-of2 in
+    let items = entered .before .before .before .before .items-before in
+    let part = entered .lay in
+    let rest = c .before .before .before .before .lay-parts in
+    search asked)
+    (λ c.
+    let entered = c .before .before .before .before .before .before .before .before .before .before .before in
+    let start = entered .before .before .before .before .before .before .before .before .before .before .before .pre in
+    let length = entered .before .before .before .length-of2 in
+    let items = entered .before .before .before .before .items-before in
+    let part = entered .lay in
+    let rest = c .before .before .before .before .before .lay-parts in
+    search asked)
+    (λ c κs. search needs) (λ c. search needs)
+    (λ c.
+    let entered = c .before .before .before .before .before .before .before .before .before .before .before .before .before .before in
+    let start = entered .before .before .before .before .before .before .before .before .before .before .before .pre in
+    let length = entered .before .before .before .length-of2 in
+    let items = entered .before .before .before .before .items-before in
+    let part = entered .lay in
+    let inner = entered .before .before .inside in
+    let more = entered .before .before .before .before .before .if1 in
+    let rest = c .before .before .before .before .before .before .before .before .lay-parts in
+    let wrote = c .before .before .lay-items2 in
+    search parts)

@@ -1,0 +1,225 @@
+-- A program's functions one after the other: what is left of them at function j, whose body is at record k, and where its code begins.
+use Prim.Native.Nat.{ℕ, zero, suc, _+_, _-_, _*_, _≤_, _<_}
+use mathlib.Core.List.{List, [], _∷_, _++_, append-assoc, append-nil, map}
+use mathlib.Core.Path.{_≡_, refl, sym, ap, ap₂, subst, _∙_}
+use native.Mathlib.Nat.{add-zero, add-suc, le-refl}
+use native.Mathlib.Numerals.{add-one}
+use native.Mathlib.Omega.{arith}
+use lib.ListN.{length, getD, length-append, length-map}
+use Rattle.formats.specs.Numbers.{Bytes, numberAt}
+use Rattle.formats.specs.Results.{Result, done, verdict, onValue}
+use Rattle.formats.specs.Records.{recordAt}
+use Rattle.formats.specs.Programs.{Expr, const, var, add, ifZero, letIn, leafOf, nodeOf, caseOf, call, Args, noArgs, arg, prefix, prefixes, size, total, countArgs, Every, InRange, Sort, numberValued, treeValued, Function, signatureOf, Program, signatures, mostParameters, LawfulFunctions, Signature, Lawful}
+use Rattle.formats.specs.Rows.{headerIn, functionIn, readProgram}
+use Rattle.formats.proofs.Programs.{every-left, every-right}
+use Rattle.formats.proofs.Results.{then-inv, value-inv}
+use Rattle.formats.proofs.Rows.{flattens}
+use Rattle.meaning.specs.Instructions.{Operation, Call, Return}
+use Rattle.rules.specs.Types.{resultType}
+use Rattle.rules.specs.Scopes.{scope, startOf, entered, enteredAll}
+use Rattle.rules.specs.PassOne.{passOver, passOne}
+use Rattle.rules.specs.PassTwo.{order, passTwo}
+use Rattle.rules.proofs.Parts.{Known, Holds, Bodies, no-more, one-more}
+use Rattle.rules.proofs.PassOne.{pass-left, pass-right}
+use Rattle.rules.proofs.Walks.{program-held}
+use Rattle.translation.specs.Calls.{checkedRecords}
+use Rattle.translation.specs.Templates.{Words, firstWords, wordsKept, behind, code, codeArgs, functionCode, behindFunction, entryFrom, functionsCode, entryOf, operationsOf}
+use Rattle.translation.proofs.Operands.{length-function}
+use Rattle.translate.specs.Walk.{EnteringFunction}
+
+-- ---- a program that was checked
+
+pub record WasChecked (s : List ℕ) (program : Program) : Type 0 where
+  pub is-read : readProgram s ≡ done program
+  pub passes : passOne program ≡ done tt
+  pub in-order : order program ≡ done tt
+
+pub was-checked : (s : List ℕ) (program : Program) → checkedRecords s ≡ done program → WasChecked s program
+unfolding checkedRecords order
+was-checked s program e =
+    let r = then-inv (readProgram s) _ program e in
+    let o = value-inv (λ u. r .value) (order (r .value)) program (r .second) in
+    let first = then-inv (passOne (r .value)) (λ u. passTwo (r .value)) _ (o .first) in
+    record {
+      is-read = r .first ∙ ap done (o .second);
+      passes = ap passOne (sym (o .second)) ∙ first .first;
+      in-order = ap order (sym (o .second)) ∙ o .first;
+    }
+
+-- ---- addresses
+
+-- The address behind functions, the first of which begins at a.
+unfoldable pub behindAll : List Function → ℕ → ℕ
+behindAll [] a = a
+behindAll (f ∷ fs) a = behindAll fs (behindFunction f a)
+
+pub behind-more : (fs : List Function) (f : Function) (a : ℕ) → behindAll (fs ++ (f ∷ [])) a ≡ behindFunction f (behindAll fs a)
+unfolding behindAll
+behind-more [] f a = refl
+behind-more (g ∷ fs) f a = behind-more fs f (behindFunction g a)
+
+entry-behind : (a : ℕ) (before others : List Function) (j : ℕ) → length before ≡ j → entryFrom a (before ++ others) j ≡ behindAll before a
+unfolding entryFrom behindAll
+entry-behind a [] [] zero e = refl
+entry-behind a [] (f ∷ fs) zero e = refl
+entry-behind a [] others (suc j) e = absurd (omega arith)
+entry-behind a (f ∷ fs) others zero e = absurd (omega arith)
+entry-behind a (f ∷ fs) others (suc j) e = entry-behind (behindFunction f a) fs others j (omega arith)
+
+module _ (entries : ℕ → ℕ) where
+  pub code-more : (a : ℕ) (fs : List Function) (f : Function)
+      → functionsCode entries a (fs ++ (f ∷ [])) ≡ functionsCode entries a fs ++ functionCode entries (behindAll fs a) f
+  unfolding functionsCode behindAll
+  code-more a [] f = append-nil (functionCode entries a f)
+  code-more a (g ∷ fs) f =
+      ap (λ (l : List Operation). functionCode entries a g ++ l) (code-more (behindFunction g a) fs f)
+      ∙ sym (append-assoc (functionCode entries a g) (functionsCode entries (behindFunction g a) fs) _)
+
+  pub length-all : (a : ℕ) (fs : List Function) → a + length (functionsCode entries a fs) ≡ behindAll fs a
+  unfolding functionsCode behindAll
+  length-all a [] = add-zero a
+  length-all a (f ∷ fs) =
+      omega (arith, length-append (functionCode entries a f) (functionsCode entries (behindFunction f a) fs), length-function entries a f, length-all (behindFunction f a) fs)
+
+-- ---- what is left of a program's functions
+
+module _ (s : List ℕ) (end : ℕ) (program : Program) where
+  -- `before` are those before function j
+  pub record FunctionsLeft (before : List Function) (k j : ℕ) : Type 0 where
+    pub others : List Function
+    pub split : program .functions ≡ before ++ others
+    pub many : length before ≡ j
+    pub known : Known s (signatures program)
+    pub held : Bodies s (signatures program) j k others
+    pub passes : passOver (signatures program) (enteredAll k others) ≡ done tt
+    pub lawful : LawfulFunctions (signatures program) j others
+    pub ends : k + total (map signatureOf others) ≡ end
+
+  -- the next function, entered, and what is then left
+  pub record Next (before : List Function) (k j : ℕ) : Type 0 where
+    pub here : Function
+    pub entering : EnteringFunction s j k end here
+    pub in-range : Every (InRange (length (program .functions))) (prefix (here .body))
+    pub left : FunctionsLeft (before ++ (here ∷ [])) (k + size (here .body)) (j + 1)
+
+  few : (j : ℕ) → mostParameters j ≤ 4
+  unfolding mostParameters
+  few zero = omega arith
+  few (suc j) = omega arith
+
+  pub next-function : (before : List Function) (k j : ℕ) → FunctionsLeft before k j → j < length (program .functions) → Next before k j
+  unfolding enteredAll startOf total signatureOf
+  next-function before k j l more = by (l .others) (l .split) (l .held) (l .passes) (l .lawful) (l .ends)
+    where
+      gs : List Signature
+      gs = signatures program
+
+      by : (fs : List Function)
+          → program .functions ≡ before ++ fs
+          → Bodies s gs j k fs
+          → passOver gs (enteredAll k fs) ≡ done tt
+          → LawfulFunctions gs j fs
+          → k + total (map signatureOf fs) ≡ end
+          → Next before k j
+      by [] split no-more passes lawful ends =
+          absurd (omega (arith, ap length split, length-append before [], l .many))
+      by (f ∷ fs) split (one-more signed holds behind) passes lawful ends = record {
+        here = f;
+        entering = record {
+          signed = gs;
+          known = l .known;
+          signature = signed;
+          holds = holds;
+          fits = omega arith;
+          few-parameters = omega (arith, lawful .0 .few-parameters, few j);
+          passes = pass-left gs (entered (startOf f) k (f .body)) _ passes;
+        };
+        in-range = subst (λ n. Every (InRange n) (prefix (f .body))) (length-map (program .functions) signatureOf) (lawful .0 .in-range);
+        left = record {
+          others = fs;
+          split = split ∙ sym (append-assoc before (f ∷ []) fs);
+          many = omega (arith, length-append before (f ∷ []), l .many);
+          known = l .known;
+          held = rw add-one behind;
+          passes = pass-right gs (entered (startOf f) k (f .body)) _ passes;
+          lawful = rw add-one (lawful .1);
+          ends = omega arith;
+        };
+      }
+
+  -- at first all of them
+  pub all-left : (functions nodes : ℕ) → Bytes s → WasChecked s program → functions ≡ getD s 1 0 → nodes ≡ numberAt 2 s 2 → end ≡ 1 + functions + nodes
+      → FunctionsLeft [] (1 + functions) 0
+  unfolding headerIn recordAt passOne
+  all-left functions nodes bytes w ef en el =
+      let h = program-held s program bytes (w .is-read) in
+      let place : suc (length (program .functions)) ≡ 1 + functions = omega (arith, h .functions) in
+      record {
+        others = program .functions;
+        split = refl;
+        many = refl;
+        known = h .known;
+        held = rw place at (h .held);
+        passes = rw place at (w .passes);
+        lawful = flattens s program bytes (w .is-read) .lawful .functions;
+        ends = omega (arith, h .nodes);
+      }
+
+  -- at last none
+  pub none-left : (before : List Function) (k j : ℕ) → FunctionsLeft before k j → length (program .functions) ≤ j → before ≡ program .functions
+  none-left before k j l over = sym (l .split ∙ by (l .others) (l .split))
+    where
+      by : (fs : List Function) → program .functions ≡ before ++ fs → before ++ fs ≡ before
+      by [] split = append-nil (before)
+      by (f ∷ fs) split = absurd (omega (arith, ap length split, length-append before (f ∷ fs), l .many))
+
+  -- where function j begins
+  pub entry-here : (before : List Function) (k j : ℕ) → FunctionsLeft before k j → entryOf program j ≡ behindAll before 0
+  unfolding entryOf
+  entry-here before k j l = ap (λ (fs : List Function). entryFrom 0 fs j) (l .split) ∙ entry-behind 0 before (l .others) j (l .many)
+
+-- ---- entries that are the same for a program's functions give the same code
+
+module _ (es fs : ℕ → ℕ) (functions : ℕ) (same : (b : ℕ) → b < functions → es b ≡ fs b) where
+  mutual
+    unfolding code codeArgs prefix prefixes
+
+    same-code : (s : Sort) (words : Words) (w a : ℕ) (e : Expr) → Every (InRange functions) (prefix e) → code es s words w a e ≡ code fs s words w a e
+    same-code s words w a (const i) h = refl
+    same-code s words w a (var k) h = refl
+    same-code s words w a (add p q) h =
+        let first = same-code numberValued words w a p (every-left _ (prefix p) (prefix q) (h .1)) in
+        let second = same-code numberValued words (suc w) (behind p a) q (every-right _ (prefix p) (prefix q) (h .1)) in
+        rw (first, second)
+    same-code s words w a (ifZero t z o) h =
+        let others = every-right _ (prefix t) _ (h .1) in
+        let first = same-code numberValued words w a t (every-left _ (prefix t) _ (h .1)) in
+        let at-z = suc (behind t a) in
+        let second = same-code s words w at-z z (every-left _ (prefix z) (prefix o) others) in
+        let third = same-code s words w (suc (behind z at-z)) o (every-right _ (prefix z) (prefix o) others) in
+        rw (first, second, third)
+    same-code s words w a (letIn p body) h =
+        let first = same-code numberValued words w a p (every-left _ (prefix p) (prefix body) (h .1)) in
+        let second = same-code s (w ∷ words) (suc w) (behind p a) body (every-right _ (prefix p) (prefix body) (h .1)) in
+        rw (first, second)
+    same-code s words w a (leafOf p) h = let first = same-code numberValued words w (suc a) p (h .1) in rw first
+    same-code s words w a (nodeOf p q) h =
+        let first = same-code treeValued words w (suc a) p (every-left _ (prefix p) (prefix q) (h .1)) in
+        let second = same-code treeValued words w (behind p (suc a)) q (every-right _ (prefix p) (prefix q) (h .1)) in
+        rw (first, second)
+    same-code s words w a (caseOf k p q) h =
+        let first = same-code s (w ∷ words) (suc w) (suc (suc a)) p (every-left _ (prefix p) (prefix q) (h .1)) in
+        let second = same-code s words w (suc (suc (behind p (suc (suc a))))) q (every-right _ (prefix p) (prefix q) (h .1)) in
+        rw (first, second)
+    same-code s words w a (call k b xs) h =
+        ap₂ (λ x n. x ++ (Call n (countArgs xs) ∷ [])) (same-args words w a xs (h .1)) (same b (h .0 .1))
+
+    same-args : (words : Words) (w a : ℕ) (xs : Args) → Every (InRange functions) (prefixes xs) → codeArgs es words w a xs ≡ codeArgs fs words w a xs
+    same-args words w a noArgs h = refl
+    same-args words w a (arg x xs) h =
+        ap₂ _++_ (same-code numberValued words w a x (every-left _ (prefix x) (prefixes xs) h)) (same-args words (suc w) (behind x a) xs (every-right _ (prefix x) (prefixes xs) h))
+
+  pub same-function : (a : ℕ) (f : Function) → Every (InRange functions) (prefix (f .body)) → functionCode es a f ≡ functionCode fs a f
+  unfolding functionCode
+  same-function a f h =
+      ap (λ x. x ++ (Return (wordsKept (f .sort)) ∷ [])) (same-code (f .sort) (firstWords (f .parameters)) (f .parameters) a (f .body) h)

@@ -1,0 +1,103 @@
+-- Code laid down by the column "code" as data is Templates' code: one case for each kind.
+use Prim.Native.Nat.{ℕ, zero, suc, _+_}
+use mathlib.Core.List.{List, [], _∷_, _++_, append-assoc, append-nil, map}
+use mathlib.Core.Path.{_≡_, refl, sym, ap, ap₂, _∙_}
+use native.Mathlib.Nat.{add-zero, add-suc, suc-add}
+use native.Mathlib.Omega.{arith}
+use lib.ListN.{length, length-append, length-map}
+use Rattle.formats.specs.CodeColumn.{Item, callFunction, onlyLast, templateOf, before}
+use Rattle.formats.specs.Records.{Kind, Call, partsOf, partCount}
+use Rattle.formats.specs.Programs.{Expr, const, var, add, ifZero, letIn, leafOf, nodeOf, caseOf, call, Args, noArgs, arg, size, Placed, argsAt, partsAt, Sort, numberValued}
+use Rattle.rules.proofs.Parts.{headOf}
+use Rattle.rules.proofs.Walks.{length-args}
+use Rattle.meaning.specs.Instructions.{Operation}
+use Rattle.translation.specs.Templates.{Words, behind, behindArgs, code, codeArgs, endOf}
+use Rattle.translation.proofs.Addresses.{length-code}
+use Rattle.translation.specs.Templates.{wordOf}
+use Rattle.template.specs.Around.{Around, around, partAround}
+use Rattle.template.specs.Items.{operationFor}
+use Rattle.translate.specs.Laying.{past, partsCode, lastPart, behindParts}
+
+-- ---- addresses
+
+pub past-length : (items : List Item) (a : ℕ) → past items a ≡ a + length items
+unfolding past
+past-length [] a = sym (add-zero a)
+past-length (x ∷ xs) a = past-length xs (suc a) ∙ suc-add a (length xs) ∙ sym (add-suc a (length xs))
+
+module _ (entries arity : ℕ → ℕ) (kind : Kind) (x : Around) (last whole : ℕ) where
+  -- the address behind parts' code
+  pub length-parts : (i a : ℕ) (ps : List Placed) → a + length (partsCode entries arity kind x last whole i a ps) ≡ behindParts kind i a ps
+  unfolding partsCode behindParts
+  length-parts i a [] =
+      let items = templateOf kind .last in
+      omega (arith, length-map items (operationFor entries arity x last whole), past-length items a)
+  length-parts i a (p ∷ ps) =
+      let items = before (templateOf kind) i in
+      let ops = map (operationFor entries arity x last whole) items in
+      let inner = partAround kind i x in
+      let own = code entries (inner .sort) (inner .words) (inner .standing) (past items a) (p .expr) in
+      let others = partsCode entries arity kind x last whole (suc i) (behind (p .expr) (past items a)) ps in
+      let rest = length-parts (suc i) (behind (p .expr) (past items a)) ps in
+      let here = length-code entries (inner .sort) (inner .words) (inner .standing) (past items a) (p .expr) in
+      omega (arith, length-append ops (own ++ others), length-append own others, length-map items (operationFor entries arity x last whole), past-length items a)
+
+-- ---- kind by kind
+
+-- a Call's arguments have nothing before them
+nothing-before : (items : List Item) (i : ℕ) → before (onlyLast items) i ≡ []
+unfolding before
+nothing-before items zero = refl
+nothing-before items (suc zero) = refl
+nothing-before items (suc (suc zero)) = refl
+nothing-before items (suc (suc (suc i))) = refl
+
+module _ (entries arity : ℕ → ℕ) (s : Sort) (words : Words) (w : ℕ) where
+  -- a Call's arguments from number i on, and the call behind them
+  args-code : (a b k last whole : ℕ) (i at : ℕ) (xs : Args)
+      → codeArgs entries words (w + i) at xs ++ (operationFor entries arity (around s words w) last whole (callFunction b) ∷ [])
+      ≡ partsCode entries arity (Call a b) (around s words w) last whole i at (argsAt k xs)
+  unfolding codeArgs partsCode argsAt templateOf before past partAround
+  args-code a b k last whole i at noArgs = refl
+  args-code a b k last whole i at (arg x xs) =
+      let own = code entries numberValued words (w + i) at x in
+      let call = operationFor entries arity (around s words w) last whole (callFunction b) ∷ [] in
+      append-assoc own (codeArgs entries words (suc (w + i)) (behind x at) xs) call
+      ∙ ap (λ (n : ℕ). own ++ (codeArgs entries words n (behind x at) xs ++ call)) (sym (add-suc w i))
+      ∙ ap (λ (l : List Operation). own ++ l) (args-code a b (k + size x) last whole (suc i) (behind x at) xs)
+      ∙ (rw nothing-before)
+
+  -- where a record has as many parts as its kind says, by these numbers of parameters
+  pub by-column : (a k : ℕ) (e : Expr) → length (partsAt k e) ≡ partCount arity (partsOf (headOf e))
+      → code entries s words w a e
+      ≡ partsCode entries arity (headOf e) (around s words w) (lastPart (headOf e) a 0 a (partsAt k e)) (behind e a) 0 a (partsAt k e)
+  unfolding code behind partsCode lastPart partsAt headOf templateOf before past partAround operationFor partsOf partCount
+  by-column a k (const i) counted = refl
+  by-column a k (var v) counted = refl
+  by-column a k (add p q) counted = refl
+  by-column a k (ifZero t z o) counted = rw append-nil
+  by-column a k (letIn p body) counted = refl
+  by-column a k (leafOf p) counted = refl
+  by-column a k (nodeOf p q) counted = rw append-nil
+  by-column a k (caseOf v p q) counted = rw append-nil
+  by-column a k (call v b xs) counted = (rw (sym (length-args (suc k) xs) ∙ counted, add-zero)) ∙ args-code v b (suc k) _ _ 0 a xs
+
+-- the address behind it
+behind-args : (a b k i at : ℕ) (xs : Args) → behindParts (Call a b) i at (argsAt k xs) ≡ suc (behindArgs xs at)
+unfolding behindParts behindArgs argsAt templateOf past
+behind-args a b k i at noArgs = refl
+behind-args a b k i at (arg x xs) =
+    ap (λ (items : List Item). behindParts (Call a b) (suc i) (behind x (past items at)) (argsAt (k + size x) xs)) (nothing-before (callFunction b ∷ []) i)
+    ∙ behind-args a b (k + size x) (suc i) (behind x at) xs
+
+pub behind-column : (a k : ℕ) (e : Expr) → behindParts (headOf e) 0 a (partsAt k e) ≡ behind e a
+unfolding behind behindParts partsAt headOf templateOf before past
+behind-column a k (const i) = refl
+behind-column a k (var v) = refl
+behind-column a k (add p q) = refl
+behind-column a k (ifZero t z o) = refl
+behind-column a k (letIn p body) = refl
+behind-column a k (leafOf p) = refl
+behind-column a k (nodeOf p q) = refl
+behind-column a k (caseOf v p q) = refl
+behind-column a k (call v b xs) = behind-args v b (suc k) 0 a xs

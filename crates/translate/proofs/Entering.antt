@@ -1,0 +1,169 @@
+-- Expressions that are entered, and their parts: what a walk over records knows of them.
+use Prim.Native.Nat.{ℕ, zero, suc, _+_, _-_, _≤_, _<_}
+use mathlib.Core.List.{List, [], _∷_}
+use mathlib.Core.Path.{_≡_, refl, sym, ap, ap₂, subst, _∙_}
+use native.Mathlib.Nat.{le-trans}
+use native.Mathlib.Numerals.{add-one}
+use native.Mathlib.Omega.{arith}
+use lib.ListN.{length}
+use Rattle.formats.specs.CodeColumn.{templateOf}
+use Rattle.formats.specs.Results.{done, onValue}
+use Rattle.formats.specs.Records.{Kind, Const, Var, Add, IfZero, Let, Leaf, Node, Case, Call, partsOf, partCount}
+use Rattle.formats.specs.Programs.{Expr, const, var, add, ifZero, letIn, leafOf, nodeOf, caseOf, call, size, Placed, behind, partsAt, Applied, Sort, numberValued, treeValued, Signature, arityOf}
+use Rattle.formats.specs.Rows.{arityIn, nodeIn}
+use Rattle.formats.proofs.Results.{done-injective, then-inv}
+use Rattle.formats.proofs.Programs.{some-record}
+use Rattle.records.specs.Read.{Shape as ShapeRead, meant, listed, columnOf, described, shapeOf, shaped}
+use Rattle.records.specs.declared.Record.{Record}
+use Rattle.records.specs.declared.Parts.{Parts}
+use Rattle.records.specs.declared.Template.{Template}
+use Rattle.records.specs.declared.RecordRead.{RecordRead}
+use Rattle.records.specs.declared.RecordRead.the-variants.{Read}
+use Rattle.rules.specs.Types.{Ty, resultType}
+use Rattle.rules.specs.Scopes.{scope, inside, entry, entered}
+use Rattle.rules.specs.PassOne.{wordsTested, atEntry, passOver}
+use Rattle.rules.proofs.Parts.{Known, headOf, Holds, Row, next, passParts}
+use Rattle.rules.proofs.PassOne.{Passes, pass-let}
+use Rattle.rules.proofs.Words.{tested, room}
+use Rattle.rules.proofs.Walks.{node-held, parts-held, parts-counted, pass-parts, row-upto}
+use Rattle.rules.proofs.Lists.{row-front, row-others}
+use Rattle.template.specs.Around.{Around, partAround, sortOf, aroundOf, mostNames, Named, Binds, Enterable, Enters}
+use Rattle.template.specs.declared.Scope.{Scope}
+use Rattle.translate.specs.declared.Shape.{Shape}
+use Rattle.translate.specs.Walk.{Entering, EnteringParts}
+
+-- ---- a word for a number that is named
+
+binder-room : (gs : List Signature) (g n w r : ℕ) (τ : Ty) (e : Expr) → Applied (arityOf gs) e → Passes gs (scope g n w τ) r e → Binds (headOf e) → w < mostNames
+unfolding headOf entered wordsTested
+binder-room gs g n w r τ (const i) a h binds = absurd binds
+binder-room gs g n w r τ (var v) a h binds = absurd binds
+binder-room gs g n w r τ (add p q) a h binds = absurd binds
+binder-room gs g n w r τ (ifZero t z o) a h binds = absurd binds
+binder-room gs g n w r τ (letIn p body) a h binds = room gs g n w _ p (a .0) (pass-let gs g n w r τ p body h .0)
+binder-room gs g n w r τ (leafOf p) a h binds = absurd binds
+binder-room gs g n w r τ (nodeOf p q) a h binds = absurd binds
+binder-room gs g n w r τ (caseOf v p q) a h binds = tested gs g n w r τ (Case v) _ refl h
+binder-room gs g n w r τ (call v b xs) a h binds = absurd binds
+
+-- ---- the scope of a part, in pass one and here
+
+record Agrees (kind : Kind) (i : ℕ) (x : Around) (g n : ℕ) : Type 0 where
+  numbers : ℕ
+  trees : ℕ
+  is : inside kind i (scope g n (x .standing) (resultType (x .sort)))
+      ≡ scope numbers trees (partAround kind i x .standing) (resultType (partAround kind i x .sort))
+
+agrees : (kind : Kind) (i : ℕ) (x : Around) (g n : ℕ) → Agrees kind i x g n
+unfolding inside partAround resultType
+agrees (Const c) i x g n = record { numbers = g; trees = n; is = refl }
+agrees (Var a) i x g n = record { numbers = g; trees = n; is = refl }
+agrees Add zero x g n = record { numbers = g; trees = n; is = refl }
+agrees Add (suc i) x g n = record { numbers = g; trees = n; is = refl }
+agrees IfZero zero x g n = record { numbers = g; trees = n; is = refl }
+agrees IfZero (suc i) x g n = record { numbers = g; trees = n; is = refl }
+agrees Let zero x g n = record { numbers = g; trees = n; is = refl }
+agrees Let (suc i) x g n = record { numbers = suc g; trees = n; is = refl }
+agrees Leaf i x g n = record { numbers = g; trees = n; is = refl }
+agrees Node i x g n = record { numbers = g; trees = n; is = refl }
+agrees (Case a) zero x g n = record { numbers = suc g; trees = n; is = refl }
+agrees (Case a) (suc i) x g n = record { numbers = g; trees = suc (suc n); is = refl }
+agrees (Call a b) i x g n = record { numbers = g; trees = n; is = refl }
+
+-- ---- from an expression to its parts
+
+module _ {s : List ℕ} {k end : ℕ} {c : Scope} {e : Expr} (read : RecordRead) (node : Record) (parts : Parts) (template : Template) (count : ℕ)
+    (told : described read ≡ onValue shapeOf (nodeIn s k)) (is : read ≡ Read node parts template)
+    (counted : count ≡ partCount (arityIn s) (listed parts)) (h : Entering s k end c e) where
+  -- what is read is the expression's own record
+  own-shape : shaped node parts template ≡ shapeOf (headOf e)
+  own-shape = done-injective (ap described (sym is) ∙ told ∙ ap (onValue shapeOf) (node-held s (h .signed) k e (h .holds)))
+
+  pub own-kind : meant node ≡ headOf e
+  own-kind = ap (λ (x : ShapeRead). x .kind) own-shape
+
+  pub own-count : length (partsAt k e) ≡ partCount (arityIn s) (partsOf (headOf e))
+  own-count = parts-counted s (h .signed) k e (h .known) (h .holds)
+
+  -- its parts are entered
+  pub parts-entered : k < end → EnteringParts s (record { node = node; template = template; count = count }) 0 (k + 1) end c (partsAt k e) (k + size e)
+  parts-entered more =
+      let sc = scope (h .numbers) (h .trees) (c .standing) (resultType (sortOf (c .tree))) in
+      let below = then-inv (atEntry (h .signed) (entry sc k (headOf e))) _ tt (sym (pass-parts (h .signed) sc k e) ∙ h .passes) in
+      record {
+        templated = ap (λ (x : ShapeRead). x .template) own-shape ∙ ap templateOf (sym own-kind);
+        counted = omega (arith, own-count, counted, ap (λ (x : ShapeRead). partCount (arityIn s) (x .parts)) own-shape);
+        signed = h .signed;
+        known = h .known;
+        row = rw add-one (parts-held s (h .signed) k e (h .holds));
+        fits = h .fits;
+        numbers = h .numbers;
+        trees = h .trees;
+        passes = rw own-kind (below .second);
+        named = h .named;
+        words = omega (arith, h .words);
+        room = λ binds. binder-room (h .signed) (h .numbers) (h .trees) (c .standing) k (resultType (sortOf (c .tree))) e (h .holds .applied) (h .passes) (subst Binds own-kind binds);
+      }
+
+-- ---- from parts to the first of them, and the others
+
+-- a part is placed where it stands
+row-place : {s : List ℕ} {gs : List Signature} {k j m : ℕ} {e : Expr} {ps : List Placed} → Row s gs k (behind j e ∷ ps) m → j ≡ k
+row-place (next here later) = refl
+
+module _ {s : List ℕ} {shape : Shape} {i k end m : ℕ} {c : Scope} {j : ℕ} {e : Expr} {ps : List Placed} (h : EnteringParts s shape i k end c (behind j e ∷ ps) m) where
+  -- part i can be entered
+  pub enterable : Enterable (meant (shape .node)) i c
+  enterable = record { named = h .named; fits = omega (arith, h .words); room = h .room }
+
+  -- it passes, and so do the others
+  record Passed : Type 0 where
+    first : passOver (h .signed) (entered (inside (meant (shape .node)) i (scope (h .numbers) (h .trees) (c .standing) (resultType (sortOf (c .tree))))) j e) ≡ done tt
+    others : passParts (h .signed) (meant (shape .node)) (suc i) (scope (h .numbers) (h .trees) (c .standing) (resultType (sortOf (c .tree)))) ps ≡ done tt
+
+  passed : Passed
+  unfolding passParts
+  passed =
+      let t = then-inv (passOver (h .signed) (entered (inside (meant (shape .node)) i _) j e)) _ tt (h .passes) in
+      record { first = t .first; others = t .second }
+
+  ends-by : k + size e ≤ m
+  ends-by = row-upto (row-others (h .row))
+
+  -- the first part is entered
+  pub first-entered : (inner : Scope) → Enters (shape .node) i c inner → Entering s k end inner e
+  first-entered inner enters =
+      let kind = meant (shape .node) in
+      let sc = agrees kind i (aroundOf c) (h .numbers) (h .trees) in
+      let same = enters .is enterable in
+      let place : j ≡ k = row-place (h .row) in
+      let inside-is : inside kind i (scope (h .numbers) (h .trees) (c .standing) (resultType (sortOf (c .tree)))) ≡ scope (sc .numbers) (sc .trees) (inner .standing) (resultType (sortOf (inner .tree))) =
+      sc .is ∙ ap (λ (x : Around). scope (sc .numbers) (sc .trees) (x .standing) (resultType (x .sort))) (sym same) in
+      record {
+        signed = h .signed;
+        known = h .known;
+        holds = row-front (h .row);
+        fits = omega (arith, h .fits, ends-by);
+        numbers = sc .numbers;
+        trees = sc .trees;
+        passes = ap₂ (λ x r. passOver (h .signed) (entered x r e)) (sym inside-is) (sym place) ∙ passed .first;
+        named = enters .named enterable;
+        words = omega (arith, h .words, enters .standing enterable);
+      }
+
+  -- the others are
+  pub rest-entered : (n : ℕ) → n ≡ k + size e → EnteringParts s shape (i + 1) n end c ps m
+  rest-entered n is = record {
+    templated = h .templated;
+    counted = omega (arith, h .counted);
+    signed = h .signed;
+    known = h .known;
+    row = rw is (row-others (h .row));
+    fits = h .fits;
+    numbers = h .numbers;
+    trees = h .trees;
+    passes = rw add-one (passed .others);
+    named = h .named;
+    words = omega (arith, h .words, is, some-record e, ends-by, h .fits);
+    room = h .room;
+  }

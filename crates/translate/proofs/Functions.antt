@@ -1,0 +1,135 @@
+-- A function laid down: what is known on entering its body, its body, and its return.
+use Prim.Native.Nat.{ℕ, zero, suc, _+_, _-_, _*_, _≤_, _<_, min}
+use mathlib.Core.Bool.{Bool, true, false}
+use mathlib.Core.List.{List, [], _∷_, _++_}
+use mathlib.Core.Path.{_≡_, refl, sym, ap, ap₂, _∙_}
+use native.Mathlib.Nat.{add-zero}
+use native.Mathlib.Numerals.{add-one}
+use native.Mathlib.Omega.{arith}
+use borrow.Author.Tests.{eq-eqb, ne-eqb}
+use lib.Dec.{eqb}
+use lib.ListN.{length, getD, length-append}
+use Rattle.formats.specs.Places.{fromLast}
+use Rattle.formats.specs.Results.{done}
+use Rattle.formats.specs.Records.{recordBytes, bytesOfRecord, fields}
+use Rattle.formats.specs.Programs.{size, Sort, numberValued, treeValued, sortNumber, Function, signatureOf}
+use Rattle.formats.specs.Rows.{arityIn, sortIn, functionIn}
+use Rattle.formats.specs.Written.{written}
+use Rattle.formats.proofs.Rows.{function-read}
+use Rattle.meaning.specs.Instructions.{Operation, Return, instructionOf}
+use Rattle.rules.specs.Types.{resultType}
+use Rattle.rules.specs.Scopes.{scope, entered}
+use Rattle.rules.specs.PassOne.{passOver}
+use Rattle.translation.specs.Templates.{behind, code, firstWords, wordsKept, functionCode, behindFunction}
+use Rattle.translation.proofs.Addresses.{length-code}
+use Rattle.template.specs.Around.{Around, around, sortOf, wordsIn, aroundOf, mostNames, Named}
+use Rattle.template.specs.Items.{entriesIn}
+use Rattle.template.specs.declared.Scope.{Scope}
+use Rattle.translate.specs.declared.Laid.{Laid}
+use Rattle.translate.specs.Laying.{laidAt}
+use Rattle.translate.specs.Walk.{Small, Went, Entering, Lays, Starts, EnteringFunction, LaysFunction}
+use Rattle.translate.proofs.Written.{length-laid, laid-behind, laid-one}
+
+-- ---- `start`
+
+-- the words 0 to 15
+abbrev pub rising : List ℕ
+rising = 0 ∷ 1 ∷ 2 ∷ 3 ∷ 4 ∷ 5 ∷ 6 ∷ 7 ∷ 8 ∷ 9 ∷ 10 ∷ 11 ∷ 12 ∷ 13 ∷ 14 ∷ 15 ∷ []
+
+-- the first of them, as many as a function may have parameters
+first-words : (n : ℕ) → n ≤ 4 → fromLast rising n ≡ firstWords n
+unfolding fromLast firstWords
+first-words zero h = refl
+first-words (suc zero) h = refl
+first-words (suc (suc zero)) h = refl
+first-words (suc (suc (suc zero))) h = refl
+first-words (suc (suc (suc (suc zero)))) h = refl
+first-words (suc (suc (suc (suc (suc n))))) h = absurd (omega arith)
+
+-- the sort by its number
+sorted : (n : ℕ) (sort : Sort) → n ≡ sortNumber sort → sortOf (eqb n 1) ≡ sort
+unfolding sortNumber
+sorted n numberValued e = ap (λ k. sortOf (eqb k 1)) e
+sorted n treeValued e = ap (λ k. sortOf (eqb k 1)) e
+
+pub started : (s : List ℕ) (j m n : ℕ) → m ≡ arityIn s j → n ≡ sortIn s j
+    → Starts s j (record { words = rising; names = m; standing = m; tree = eqb n 1 })
+unfolding wordsIn signatureOf
+started s j m n em en = record {
+  is = λ f known few.
+      let g = function-read s j (signatureOf f) known in
+      let same : m ≡ f .parameters = em ∙ sym (g .arity) in
+      let least : min m mostNames ≡ f .parameters = omega arith in
+      let words : fromLast rising (min m mostNames) ≡ firstWords (f .parameters) = ap (fromLast rising) least ∙ first-words (f .parameters) few in
+      ap₂ (λ x y. around x y m) (sorted n (f .sort) (en ∙ sym (g .sort))) words ∙ ap (around (f .sort) (firstWords (f .parameters))) same;
+  named = record { few = omega arith };
+}
+
+-- ---- `words_kept`
+
+pub kept-tree : (tree : Bool) → tree ≡ true → 0 ≡ wordsKept (sortOf tree)
+unfolding wordsKept
+kept-tree tree e = rw (e, wordsKept)
+
+pub kept-number : (tree : Bool) → tree ≡ false → 1 ≡ wordsKept (sortOf tree)
+unfolding wordsKept
+kept-number tree e = rw (e, wordsKept)
+
+pub ruleset kept = (kept-tree, kept-number)
+
+-- ---- `lay_function`
+
+module _ (s entries code′ : List ℕ) (entry j k end : ℕ) (c : Scope) (starts : Starts s j c) (body : Laid) (between : List ℕ)
+    (small : Small k end entry 0 1) (l : Lays s entries code′ between entry 0 k end c body) where
+  -- the body is entered
+  body-entered : (f : Function) → EnteringFunction s j k end f → Entering s k end c (f .body)
+  body-entered f h =
+      let is = starts .is f (h .signature) (h .few-parameters) in
+      let words : c .standing ≡ f .parameters = ap (λ (x : Around). x .standing) is in
+      let sort : sortOf (c .tree) ≡ f .sort = ap (λ (x : Around). x .sort) is in
+      record {
+        signed = h .signed;
+        known = h .known;
+        holds = h .holds;
+        fits = h .fits;
+        numbers = f .parameters;
+        trees = 1;
+        passes = ap₂ (λ n t. passOver (h .signed) (entered (scope (f .parameters) 1 n (resultType t)) k (f .body))) words sort ∙ h .passes;
+        named = starts .named;
+        words = omega (arith, small .few, h .few-parameters);
+      }
+
+  pub function-laid : (n : ℕ) (after : List ℕ) → n ≡ wordsKept (sortOf (c .tree))
+      → after ≡ written between (recordBytes * body .at) (bytesOfRecord (fields 13 n 0 0))
+      → LaysFunction s entries code′ after entry j k end (record { next = body .next; at = body .at + 1; last = 0 })
+  unfolding functionCode behindFunction instructionOf
+  function-laid n after keeps wrote = record {
+    went = record {
+      on = l .went .on;
+      inside = l .went .inside;
+      up = omega arith;
+      small = omega (arith, l .went .small);
+      last-small = omega arith;
+    };
+    next = λ f h. l .came (f .body) (body-entered f h) .next;
+    address = λ f h. omega (arith, address f h);
+    lays = λ f h room.
+        let is = starts .is f (h .signature) (h .few-parameters) in
+        let sort : sortOf (c .tree) ≡ f .sort = ap (λ (x : Around). x .sort) is in
+        let own = code (entriesIn entries) (f .sort) (firstWords (f .parameters)) (f .parameters) entry (f .body) in
+        let first : between ≡ laidAt code′ 0 own =
+        l .lays (f .body) (body-entered f h) (omega arith)
+        ∙ ap₂ (λ (x : Around) a. laidAt code′ 0 (code (entriesIn entries) (x .sort) (x .words) (x .standing) a (f .body))) is (add-zero entry) in
+        let long : body .at ≡ 0 + length own = omega (arith, address f h, length-code (entriesIn entries) (f .sort) (firstWords (f .parameters)) (f .parameters) entry (f .body)) in
+        wrote
+        ∙ ap (λ m. written between (recordBytes * body .at) (bytesOfRecord (fields 13 m 0 0))) (keeps ∙ ap wordsKept sort)
+        ∙ laid-one between (body .at) (Return (wordsKept (f .sort)))
+        ∙ ap (λ (b : List ℕ). laidAt b (body .at) (Return (wordsKept (f .sort)) ∷ [])) first
+        ∙ laid-behind code′ 0 own (Return (wordsKept (f .sort)) ∷ []) (body .at) long (omega arith);
+  }
+    where
+      address : (f : Function) → EnteringFunction s j k end f → entry + body .at ≡ behind (f .body) entry
+      address f h = l .came (f .body) (body-entered f h) .address ∙ ap (behind (f .body)) (add-zero entry)
+
+pub body-asked : (k end entry : ℕ) → Small k end entry 0 1 → Small k end entry 0 0
+body-asked k end entry small = record { before-end = small .before-end; few = small .few; base-small = small .base-small; small = omega (arith, small .small) }

@@ -1,0 +1,9 @@
+-- Proofs about laying code down.
+pub mod Written
+pub mod Column
+pub mod Entering
+pub mod Walk
+pub mod Functions
+pub mod All
+pub mod Loops
+pub mod Calls

@@ -1,0 +1,327 @@
+-- The functions that lay down an expression and its parts: a law for each way out of them, and what their calls ask.
+use Prim.Native.Nat.{ℕ, suc, _+_, _-_, _*_, _^_, _≤_, _<_}
+use mathlib.Core.List.{List, [], _∷_, _++_, map}
+use mathlib.Core.Path.{_≡_, refl, sym, ap, ap₂, subst, _∙_}
+use native.Mathlib.Nat.{le-refl}
+use native.Mathlib.Numerals.{add-one}
+use native.Mathlib.Omega.{arith}
+use borrow.Author.Needs.{needs}
+use mir.Syntax.{w64}
+use mir.Val.{Fits}
+use lib.ListN.{length, length-append, length-map}
+use Rattle.formats.specs.CodeColumn.{Item, templateOf, before}
+use Rattle.formats.specs.Results.{onValue}
+use Rattle.formats.specs.Records.{Kind, recordBytes, partCount}
+use Rattle.formats.specs.Programs.{Expr, size, Placed, partsAt}
+use Rattle.formats.specs.Programs.{behind as placed}
+use Rattle.formats.specs.Rows.{arityIn, nodeIn}
+use Rattle.formats.proofs.Results.{done-not}
+use Rattle.formats.proofs.Programs.{some-record}
+use Rattle.refusal.specs.declared.Refusal.{Refusal}
+use Rattle.records.specs.Read.{meant, listed, row, columnOf, described, shapeOf}
+use Rattle.records.specs.declared.Record.{Record}
+use Rattle.records.specs.declared.Items.{Items}
+use Rattle.records.specs.declared.Parts.{Parts}
+use Rattle.records.specs.declared.Template.{Template}
+use Rattle.records.specs.declared.RecordRead.{RecordRead}
+use Rattle.records.specs.declared.RecordRead.the-variants.{Read, Refused}
+use Rattle.rules.proofs.Parts.{headOf, Row}
+use Rattle.rules.proofs.Parts.{end as no-part, next as a-part}
+use Rattle.rules.proofs.Walks.{node-held}
+use Rattle.meaning.specs.Instructions.{Operation}
+use Rattle.translation.specs.Templates.{behind, code}
+use Rattle.translation.proofs.Addresses.{length-code}
+use Rattle.template.specs.Around.{Around, partAround, sortOf, wordsIn, aroundOf, Enters}
+use Rattle.template.specs.Items.{ItemsBefore, operationFor, entriesIn, operationsFor, putAll}
+use Rattle.template.specs.declared.Scope.{Scope}
+use Rattle.template.proofs.Items.{few-items}
+use Rattle.translate.specs.declared.Laid.{Laid}
+use Rattle.translate.specs.declared.Shape.{Shape}
+use Rattle.translate.specs.Laying.{laidAt, past, partsCode, lastPart, behindParts}
+use Rattle.translate.specs.Walk.{Small, SmallParts, dueFrom, Went, Entering, Came, Lays, EnteringParts, CameParts, LaysParts}
+use Rattle.translate.proofs.Written.{length-laid, laid-behind, laid-front, laid-each}
+use Rattle.translate.proofs.Column.{past-length, length-parts, by-column, behind-column}
+use Rattle.translate.proofs.Entering.{own-kind, own-count, parts-entered, enterable, first-entered, rest-entered}
+
+-- ---- `lay`
+
+module _ (s entries code′ : List ℕ) (base at k end : ℕ) (c : Scope) where
+  -- nothing is laid down
+  abbrev stays : Laid
+  stays = record { next = k; at = at; last = at }
+
+  stayed : Small k end base at 0 → Went k end at 0 stays
+  stayed small = record {
+    on = le-refl k;
+    inside = small .before-end;
+    up = le-refl at;
+    small = omega arith;
+    last-small = omega (arith, small .small);
+  }
+
+  -- past the end no expression stands
+  pub lay-past : Small k end base at 0 → end ≤ k → Lays s entries code′ code′ base at k end c stays
+  lay-past small over = record {
+    went = stayed small;
+    came = λ e h. absurd (omega (arith, some-record e, h .fits));
+    lays = λ e h. absurd (omega (arith, some-record e, h .fits));
+  }
+
+  module _ (read : RecordRead) (told : described read ≡ onValue shapeOf (nodeIn s k)) where
+    -- no expression begins with a record that is refused
+    pub lay-unread : (why : Refusal) (place : ℕ) → Small k end base at 0 → read ≡ Refused why place → Lays s entries code′ code′ base at k end c stays
+    lay-unread why place small is = record {
+      went = stayed small;
+      came = λ e h. never e h;
+      lays = λ e h. never e h;
+    }
+      where
+        never : {A : Type 0} (e : Expr) → Entering s k end c e → A
+        never e h = done-not (told ∙ ap (onValue shapeOf) (node-held s (h .signed) k e (h .holds))) (ap described is)
+
+    pub lay-read : (node : Record) (parts : Parts) (template : Template) (count : ℕ) (after : List ℕ) (r : Laid)
+        → read ≡ Read node parts template
+        → count ≡ partCount (arityIn s) (listed parts)
+        → k < end
+        → LaysParts s entries code′ after base at at (record { node = node; template = template; count = count }) 0 (k + 1) end c r
+        → Lays s entries code′ after base at k end c r
+    lay-read node parts template count after r is counted more l = record {
+      went = record {
+        on = omega (arith, l .went .on);
+        inside = l .went .inside;
+        up = l .went .up;
+        small = omega (arith, l .went .small);
+        last-small = l .went .last-small;
+      };
+      came = λ e h.
+          let p = through e h in
+          let kind = own-kind read node parts template count told is counted h in
+          record { next = p .next; address = p .address ∙ ap (λ q. behindParts q 0 (base + at) (partsAt k e)) kind ∙ behind-column (base + at) k e };
+      lays = λ e h room.
+          let p = through e h in
+          let kind = own-kind read node parts template count told is counted h in
+          let many = own-count read node parts template count told is counted h in
+          let whole : base + r .at ≡ behind e (base + at) = p .address ∙ ap (λ q. behindParts q 0 (base + at) (partsAt k e)) kind ∙ behind-column (base + at) k e in
+          let last : base + r .last ≡ lastPart (headOf e) (base + at) 0 (base + at) (partsAt k e) = p .last-part ∙ ap (λ q. lastPart q (base + at) 0 (base + at) (partsAt k e)) kind in
+          l .lays (partsAt k e) (k + size e) (entered-parts e h) room
+          ∙ ap (laidAt code′ at)
+          (ap (λ q. partsCode (entriesIn entries) (arityIn s) q (aroundOf c) (base + r .last) (base + r .at) 0 (base + at) (partsAt k e)) kind
+          ∙ ap₂ (λ x y. partsCode (entriesIn entries) (arityIn s) (headOf e) (aroundOf c) x y 0 (base + at) (partsAt k e)) last whole
+          ∙ sym (by-column (entriesIn entries) (arityIn s) (sortOf (c .tree)) (wordsIn c) (c .standing) (base + at) k e many));
+    }
+      where
+        entered-parts : (e : Expr) → Entering s k end c e → EnteringParts s (record { node = node; template = template; count = count }) 0 (k + 1) end c (partsAt k e) (k + size e)
+        entered-parts e h = parts-entered read node parts template count told is counted h more
+
+        through : (e : Expr) → Entering s k end c e → CameParts base at at (meant node) 0 (partsAt k e) (k + size e) r
+        through e h = l .came (partsAt k e) (k + size e) (entered-parts e h)
+
+pub ruleset expressions = (lay-past, lay-unread, lay-read)
+
+-- ---- `lay_parts`
+
+-- a row has no part, or a first one
+data Split (s : List ℕ) (shape : Shape) (i k end : ℕ) (c : Scope) : List Placed → ℕ → Type 0 where
+  none : EnteringParts s shape i k end c [] k → Split s shape i k end c [] k
+  some : {m : ℕ} {e : Expr} {ps : List Placed} → EnteringParts s shape i k end c (placed k e ∷ ps) m → Split s shape i k end c (placed k e ∷ ps) m
+
+split : {s : List ℕ} {shape : Shape} {i k end m : ℕ} {c : Scope} {ps : List Placed} → EnteringParts s shape i k end c ps m → Split s shape i k end c ps m
+split {s} {shape} {i} {k} {end} {m} {c} {ps} h = by ps m (h .row) h
+  where
+    by : (ps : List Placed) (m : ℕ) → Row s (h .signed) k ps m → EnteringParts s shape i k end c ps m → Split s shape i k end c ps m
+    by ps m no-part h = none h
+    by ps m (a-part e more) h = some h
+
+module _ (s entries code′ : List ℕ) (base at last : ℕ) (shape : Shape) (i k end : ℕ) (c : Scope) where
+  -- the parts are through: what stands behind them
+  pub parts-done : (n : ℕ) (after : List ℕ) → SmallParts i k end base at last → shape .count ≤ i
+      → n ≡ length (row (shape .template .last))
+      → after ≡ putAll code′ at (operationsFor s entries c (base + last) (base + (at + n)) (row (shape .template .last)))
+      → LaysParts s entries code′ after base at last shape i k end c (record { next = k; at = at + n; last = last })
+  unfolding behindParts lastPart partsCode
+  parts-done n after small over many wrote = record {
+    went = record {
+      on = le-refl k;
+      inside = small .small .before-end;
+      up = omega arith;
+      small = omega (arith, few-items (shape .template .last));
+      last-small = small .last-small;
+    };
+    came = λ ps m h. came (split h);
+    lays = λ ps m h room. lays (split h) room;
+  }
+    where
+      -- what stands last, by the column
+      items : {ps : List Placed} {m : ℕ} → EnteringParts s shape i k end c ps m → row (shape .template .last) ≡ templateOf (meant (shape .node)) .last
+      items h = ap (λ t. t .last) (h .templated)
+
+      came : {ps : List Placed} {m : ℕ} → Split s shape i k end c ps m → CameParts base at last (meant (shape .node)) i ps m (record { next = k; at = at + n; last = last })
+      came (none h) = record {
+        next = refl;
+        address = let e = ap length (items h) in omega (arith, past-length (templateOf (meant (shape .node)) .last) (base + at));
+        last-part = refl;
+      }
+      came (some h) = absurd (omega (arith, h .counted))
+
+      lays : {ps : List Placed} {m : ℕ} → Split s shape i k end c ps m → recordBytes * (at + n) ≤ length code′
+          → after ≡ laidAt code′ at (partsCode (entriesIn entries) (arityIn s) (meant (shape .node)) (aroundOf c) (base + last) (base + (at + n)) i (base + at) ps)
+      lays (none h) room =
+          let f = operationFor (entriesIn entries) (arityIn s) (aroundOf c) (base + last) (base + (at + n)) in
+          wrote ∙ laid-each code′ at (map f (row (shape .template .last))) (omega (arith, length-map (row (shape .template .last)) f)) ∙ ap (λ l. laidAt code′ at (map f l)) (items h)
+      lays (some h) room = absurd (omega (arith, h .counted))
+
+  module _ (items : Items) (n : ℕ) (inner : Scope) (part : Laid) (between : List ℕ)
+      (before-it : ItemsBefore (shape .template) i items) (many : n ≡ length (row items)) (enters : Enters (shape .node) i c inner)
+      (p : Lays s entries code′ between base (at + n) k end inner part) (small : SmallParts i k end base at last) (more : i < shape .count) where
+    -- a part that is not entered: none stands there
+    pub parts-stuck : part .next ≤ k → LaysParts s entries code′ between base at last shape i k end c part
+    parts-stuck stuck = record {
+      went = record {
+        on = p .went .on;
+        inside = p .went .inside;
+        up = omega (arith, p .went .up);
+        small = omega (arith, p .went .small, before-it .few);
+        last-small = p .went .last-small;
+      };
+      came = λ ps m h. never (split h);
+      lays = λ ps m h room. never (split h);
+    }
+      where
+        never : {A : Type 0} {ps : List Placed} {m : ℕ} → Split s shape i k end c ps m → A
+        never (none h) = absurd (omega (arith, h .counted))
+        never (some {e = e} h) = absurd (omega (arith, some-record e, p .came e (first-entered h inner enters) .next))
+
+    pub parts-more : (rest : Laid) (there after : List ℕ)
+        → LaysParts s entries between there base (part .at) (at + n) shape (i + 1) (part .next) end c rest
+        → after ≡ putAll there at (operationsFor s entries c (base + rest .last) (base + rest .at) (row items))
+        → LaysParts s entries code′ after base at last shape i k end c rest
+    unfolding behindParts lastPart partsCode
+    parts-more rest there after l wrote = record {
+      went = record {
+        on = omega (arith, p .went .on, l .went .on);
+        inside = l .went .inside;
+        up = omega (arith, p .went .up, l .went .up);
+        small = omega (arith, p .went .small, l .went .small, before-it .few);
+        last-small = l .went .last-small;
+      };
+      came = λ ps m h. came (split h);
+      lays = λ ps m h room. lays (split h) room;
+    }
+      where
+        kind : Kind
+        kind = meant (shape .node)
+
+        es : ℕ → ℕ
+        es = entriesIn entries
+
+        -- the items, by the column
+        items-is : {ps : List Placed} {m : ℕ} → EnteringParts s shape i k end c ps m → row items ≡ before (templateOf kind) i
+        items-is h = before-it .is ∙ ap (λ t. before t i) (h .templated)
+
+        -- where the part begins, and where the others do
+        begins : {ps : List Placed} {m : ℕ} → EnteringParts s shape i k end c ps m → base + (at + n) ≡ past (before (templateOf kind) i) (base + at)
+        begins h = let e = ap length (items-is h) in omega (arith, past-length (before (templateOf kind) i) (base + at))
+
+        own : {e : Expr} {ps : List Placed} {m : ℕ} → EnteringParts s shape i k end c (placed k e ∷ ps) m → Came base (at + n) k e part
+        own {e} h = p .came e (first-entered h inner enters)
+
+        others : {e : Expr} {ps : List Placed} {m : ℕ} → EnteringParts s shape i k end c (placed k e ∷ ps) m → CameParts base (part .at) (at + n) kind (i + 1) ps m rest
+        others h = l .came _ _ (rest-entered h (part .next) (own h .next))
+
+        follow : {e : Expr} {ps : List Placed} {m : ℕ} → EnteringParts s shape i k end c (placed k e ∷ ps) m → base + part .at ≡ behind e (past (before (templateOf kind) i) (base + at))
+        follow {e} h = own h .address ∙ ap (behind e) (begins h)
+
+        came : {ps : List Placed} {m : ℕ} → Split s shape i k end c ps m → CameParts base at last kind i ps m rest
+        came (none h) = absurd (omega (arith, h .counted))
+        came (some {e = e} {ps = ps} h) = record {
+          next = others h .next;
+          address = others h .address ∙ ap₂ (λ j a. behindParts kind j a ps) (add-one i) (follow h);
+          last-part = others h .last-part ∙ ap₂ (λ j a. lastPart kind (base + (at + n)) j a ps) (add-one i) (follow h) ∙ ap (λ b. lastPart kind b (suc i) (behind e (past (before (templateOf kind) i) (base + at))) ps) (begins h);
+        }
+
+        lays : {ps : List Placed} {m : ℕ} → Split s shape i k end c ps m → recordBytes * rest .at ≤ length code′
+            → after ≡ laidAt code′ at (partsCode es (arityIn s) kind (aroundOf c) (base + rest .last) (base + rest .at) i (base + at) ps)
+        lays (none h) room = absurd (omega (arith, h .counted))
+        lays (some {m = m} {e = e} {ps = ps} h) room =
+            let f = operationFor es (arityIn s) (aroundOf c) (base + rest .last) (base + rest .at) in
+            let G = map f (row items) in
+            let P = code es (sortOf (inner .tree)) (wordsIn inner) (inner .standing) (base + (at + n)) e in
+            let R = partsCode es (arityIn s) kind (aroundOf c) (base + rest .last) (base + rest .at) (i + 1) (base + part .at) ps in
+            let long-G : length G ≡ n = length-map (row items) f ∙ sym many in
+            let long-P : (at + n) + length P ≡ part .at = omega (arith, length-code es (sortOf (inner .tree)) (wordsIn inner) (inner .standing) (base + (at + n)) e, own h .address) in
+            let long-R : part .at + length R ≡ rest .at = omega (arith, length-parts es (arityIn s) kind (aroundOf c) (base + rest .last) (base + rest .at) (i + 1) (base + part .at) ps, others h .address) in
+            let ups = l .went .up in
+            let first : between ≡ laidAt code′ (at + n) P = p .lays e (first-entered h inner enters) (omega arith) in
+            let same-length : length between ≡ length code′ = ap length first ∙ length-laid code′ (at + n) P in
+            let second : there ≡ laidAt code′ (at + n) (P ++ R) =
+            l .lays ps m (rest-entered h (part .next) (own h .next)) (omega arith)
+            ∙ ap (λ (b : List ℕ). laidAt b (part .at) R) first
+            ∙ laid-behind code′ (at + n) P R (part .at) (sym long-P) (omega arith) in
+            let still : length there ≡ length code′ = ap length second ∙ length-laid code′ (at + n) (P ++ R) in
+            let own-part : P ≡ code es (partAround kind i (aroundOf c) .sort) (partAround kind i (aroundOf c) .words) (partAround kind i (aroundOf c) .standing) (past (before (templateOf kind) i) (base + at)) e =
+            ap₂ (λ (x : Around) (a : ℕ). code es (x .sort) (x .words) (x .standing) a e) (enters .is (enterable h)) (begins h) in
+            wrote
+            ∙ laid-each there at G (omega (arith, p .went .up))
+            ∙ ap (λ (b : List ℕ). laidAt b at G) second
+            ∙ laid-front code′ at G (P ++ R) (at + n) (omega arith) (omega (arith, length-append P R))
+            ∙ ap (laidAt code′ at)
+            (ap (λ (q : List Item). map f q ++ (P ++ R)) (items-is h)
+            ∙ ap₂ (λ (x y : List Operation). map f (before (templateOf kind) i) ++ (x ++ y)) own-part
+            (ap₂ (λ j a. partsCode es (arityIn s) kind (aroundOf c) (base + rest .last) (base + rest .at) j a ps) (add-one i) (follow h)))
+
+pub ruleset parts = (parts-done, parts-stuck, parts-more)
+
+-- ---- what the calls ask: addresses stay small, and the records left fall
+
+module _ (k end base at : ℕ) where
+  pub few-parts : Small k end base at 0 → k < end → SmallParts 0 (k + 1) end base at at
+  few-parts small more =
+      record {
+        small = record { before-end = omega arith; few = small .few; base-small = small .base-small; small = omega (arith, small .small) };
+        last-small = omega (arith, small .small);
+      }
+
+module _ (k end base at i : ℕ) (template : Template) (items : Items) (n : ℕ) (before-it : ItemsBefore template i items) (many : n ≡ length (row items)) where
+  pub few-part : (last : ℕ) → SmallParts i k end base at last → Small k end base (at + n) 0
+  few-part last small = record {
+    before-end = small .small .before-end;
+    few = small .small .few;
+    base-small = small .small .base-small;
+    small = omega (arith, small .small .small, before-it .few);
+  }
+
+  pub few-rest : (last : ℕ) (part : Laid) → SmallParts i k end base at last → Went k end (at + n) 0 part → SmallParts (i + 1) (part .next) end base (part .at) (at + n)
+  few-rest last part small went =
+      record {
+        small = record {
+          before-end = went .inside;
+          few = small .small .few;
+          base-small = small .small .base-small;
+          small = omega (arith, small .small .small, before-it .few, went .small);
+        };
+        last-small = omega (arith, small .small .small, before-it .few);
+      }
+
+pub fall-on : (t k end at : ℕ) (part : Laid) → 2 * (end - k) + 1 ≡ t → Went k end at 0 part → k < part .next → 2 * (end - part .next) + 1 < t
+fall-on t k end at part is went on = omega (arith, went .inside)
+
+-- sums of addresses do not overflow
+module _ (k end base at i last : ℕ) (small : SmallParts i k end base at last) where
+  pub sum-items : (items : Items) (n : ℕ) → n ≡ length (row items) → Fits w64 (at + n)
+  sum-items items n many = record { fits = omega (arith, small .small .small, few-items items) }
+
+  pub sum-base : (items : Items) (n : ℕ) → n ≡ length (row items) → Fits w64 (base + (at + n))
+  sum-base items n many = record { fits = omega (arith, small .small .small, small .small .base-small, few-items items) }
+
+  pub sum-last : Fits w64 (base + last)
+  sum-last = record { fits = omega (arith, small .small .base-small, small .last-small) }
+
+  pub sum-rest-last : (j from due : ℕ) (rest : Laid) → Went j end from due rest → Fits w64 (base + rest .last)
+  sum-rest-last j from due rest went = record { fits = omega (arith, small .small .base-small, went .last-small) }
+
+  pub sum-rest-at : (shape : Shape) (items : Items) (n : ℕ) (part rest : Laid) → ItemsBefore (shape .template) i items → n ≡ length (row items) → Went k end (at + n) 0 part
+      → Went (part .next) end (part .at) (dueFrom (i + 1)) rest → Fits w64 (base + rest .at)
+  sum-rest-at shape items n part rest before-it many went on =
+      record { fits = omega (arith, small .small .small, small .small .base-small, before-it .few, went .small, on .small) }
+
+pub ruleset asked = (few-parts, few-part, few-rest, fall-on, sum-items, sum-base, sum-last, sum-rest-last, sum-rest-at, needs)

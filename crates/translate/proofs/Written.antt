@@ -1,0 +1,103 @@
+-- Instructions written into a part of the code buffer: those written in front of others, or behind them, are written at once.
+use Prim.Native.Nat.{ℕ, zero, suc, _+_, _*_, _≤_}
+use mathlib.Core.List.{List, [], _∷_, _++_, append-assoc, append-nil, map, map-append}
+use mathlib.Core.Path.{_≡_, refl, sym, ap, ap₂, _∙_}
+use native.Mathlib.Nat.{add-suc, suc-add, add-zero, add-assoc}
+use native.Mathlib.Omega.{arith}
+use lib.ListN.{length, take, drop, length-append, length-map, length-drop, take-append-drop}
+use lib.Seq.{length-take-le, drop-at, take-append-le}
+use Rattle.formats.specs.Records.{Record, recordBytes, bytesOfRecord, flat}
+use Rattle.formats.specs.Written.{written}
+use Rattle.formats.proofs.Records.{length-record, length-flat}
+use Rattle.formats.proofs.Written.{written-fits, written-append, written-none, wrote}
+use Rattle.meaning.specs.Instructions.{Operation, instructionOf}
+use Rattle.template.specs.Items.{put, putAll}
+use Rattle.translate.specs.Laying.{laidAt}
+
+-- ---- bytes
+
+-- to write ws, and vs right before it, is to write both at once
+written-front : (s : List ℕ) (p : ℕ) (vs ws : List ℕ) → p + length (vs ++ ws) ≤ length s
+    → written (written s (p + length vs) ws) p vs ≡ written s p (vs ++ ws)
+written-front s p vs ws fits =
+    let q = p + length vs in
+    let both = length-append vs ws in
+    let behind = ws ++ drop (q + length ws) s in
+    let first : written s q ws ≡ take q s ++ behind = written-fits s q ws (omega arith) in
+    let long : length (written s q ws) ≡ length s = wrote s q ws .same-length in
+    let short : p ≤ length (take q s) = omega (arith, length-take-le q s (omega arith)) in
+    let front : take p (take q s ++ behind) ≡ take p s =
+    take-append-le p (take q s) behind short ∙ sym (take-append-le p (take q s) (drop q s) short) ∙ ap (take p) (take-append-drop q s) in
+    let rest : drop q (take q s ++ behind) ≡ behind = drop-at (take q s) behind q (length-take-le q s (omega arith)) in
+    let place : q + length ws ≡ p + length (vs ++ ws) = omega arith in
+    written-fits (written s q ws) p vs (omega arith)
+    ∙ ap (λ (l : List ℕ). take p l ++ (vs ++ drop q l)) first
+    ∙ ap₂ (λ (x y : List ℕ). x ++ (vs ++ y)) front rest
+    ∙ ap (λ (n : ℕ). take p s ++ (vs ++ (ws ++ drop n s))) place
+    ∙ ap (λ (l : List ℕ). take p s ++ l) (sym (append-assoc vs ws _))
+    ∙ sym (written-fits s p (vs ++ ws) fits)
+
+-- ---- instructions
+
+-- their bytes
+abbrev bytes : List Operation → List ℕ
+bytes ops = flat (map instructionOf ops)
+
+bytes-append : (xs ys : List Operation) → bytes (xs ++ ys) ≡ bytes xs ++ bytes ys
+unfolding flat
+bytes-append [] ys = refl
+bytes-append (x ∷ xs) ys =
+    ap (λ (l : List ℕ). bytesOfRecord (instructionOf x) ++ l) (bytes-append xs ys) ∙ sym (append-assoc (bytesOfRecord (instructionOf x)) (bytes xs) (bytes ys))
+
+pub length-bytes : (ops : List Operation) → length (bytes ops) ≡ recordBytes * length ops
+length-bytes ops = length-flat (map instructionOf ops) ∙ ap (λ n. recordBytes * n) (length-map ops instructionOf)
+
+module _ (s : List ℕ) (a : ℕ) where
+  pub length-laid : (ops : List Operation) → length (laidAt s a ops) ≡ length s
+  unfolding laidAt
+  length-laid ops = wrote s (recordBytes * a) (bytes ops) .same-length
+
+  -- nothing
+  pub laid-none : laidAt s a [] ≡ s
+  unfolding laidAt flat
+  laid-none = written-none s (recordBytes * a)
+
+  module _ (xs ys : List Operation) (b : ℕ) (place : b ≡ a + length xs) (fits : recordBytes * (b + length ys) ≤ length s) where
+    -- both fit
+    both-fit : recordBytes * a + length (bytes xs ++ bytes ys) ≤ length s
+    both-fit = omega (arith, length-append (bytes xs) (bytes ys), length-bytes xs, length-bytes ys)
+
+    place-bytes : recordBytes * b ≡ recordBytes * a + length (bytes xs)
+    place-bytes = omega (arith, length-bytes xs)
+
+    -- instructions behind others
+    pub laid-behind : laidAt (laidAt s a xs) b ys ≡ laidAt s a (xs ++ ys)
+    unfolding laidAt
+    laid-behind =
+        ap (λ n. written (written s (recordBytes * a) (bytes xs)) n (bytes ys)) place-bytes
+        ∙ written-append s (recordBytes * a) (bytes xs) (bytes ys) both-fit
+        ∙ ap (written s (recordBytes * a)) (sym (bytes-append xs ys))
+
+    -- instructions in front of others
+    pub laid-front : laidAt (laidAt s b ys) a xs ≡ laidAt s a (xs ++ ys)
+    unfolding laidAt
+    laid-front =
+        ap (λ n. written (written s n (bytes ys)) (recordBytes * a) (bytes xs)) place-bytes
+        ∙ written-front s (recordBytes * a) (bytes xs) (bytes ys) both-fit
+        ∙ ap (written s (recordBytes * a)) (sym (bytes-append xs ys))
+
+-- one instruction
+pub laid-one : (s : List ℕ) (a : ℕ) (op : Operation) → put s a op ≡ laidAt s a (op ∷ [])
+unfolding laidAt flat
+laid-one s a op = ap (written s (recordBytes * a)) (sym (append-nil (bytesOfRecord (instructionOf op))))
+
+-- one after the other, where they fit
+pub laid-each : (s : List ℕ) (a : ℕ) (ops : List Operation) → recordBytes * (a + length ops) ≤ length s → putAll s a ops ≡ laidAt s a ops
+unfolding putAll
+laid-each s a [] fits = sym (laid-none s a)
+laid-each s a (op ∷ ops) fits =
+    let first = laid-one s a op in
+    let long : length (put s a op) ≡ length s = ap length first ∙ length-laid s a (op ∷ []) in
+    laid-each (put s a op) (suc a) ops (omega arith)
+    ∙ ap (λ (l : List ℕ). laidAt l (suc a) ops) first
+    ∙ laid-behind s a (op ∷ []) ops (suc a) (omega arith) (omega arith)

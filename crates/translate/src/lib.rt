@@ -1,0 +1,298 @@
+// The translator: from a program's records to its code, by document 01's templates.
+use records::Record;
+use records::RecordRead;
+use records::Template;
+use refusal::Filled;
+use refusal::Refusal;
+use refusal::Verdict;
+use template::Scope;
+ghost use mathlib.Core.Path.{_≡_};
+ghost use lib.ListN.{length};
+ghost use Rattle.formats.specs.Results.{done, verdict};
+ghost use Rattle.refusal.specs.Put.{Put};
+ghost use Rattle.translation.specs.Calls.{checkedRecords, translateRecords, translateFile};
+ghost use Rattle.translation.specs.Templates.{wordsKept};
+ghost use Rattle.template.specs.Around.{sortOf};
+ghost use Rattle.translate.specs.Walk.{Small, SmallParts, Lays, LaysParts, Starts, LaysFunction, Tabled, Ready, LaysAll};
+
+const INSTRUCTION_BYTES: usize = 8;
+
+// The bytes of flat records that the most blocks hold: 17 times 63 records of 8 bytes.
+const MOST_BYTES: usize = 8568;
+
+const MOST_FUNCTIONS: usize = 32;
+
+// The opcode of return.
+const RETURN: u8 = 13;
+
+// The sort of a function that gives a tree.
+const TREE_VALUED: u8 = 1;
+
+// How far the code is laid down: the next record, the next address, and the address at which the last part begins. Addresses count from the start of
+// the part of the code buffer that is lent.
+struct Laid {
+    next: usize,
+    at: usize,
+    last: usize,
+}
+
+// What a record asks for: its kind, its template, and how many parts it has.
+struct Shape {
+    node: Record,
+    template: Template,
+    count: usize,
+}
+
+// Where the functions begin, and how many instructions they have together.
+struct Table {
+    entries: [u16; MOST_FUNCTIONS],
+    count: usize,
+}
+
+// Lays down the expression at record k from address `at` of `code` on, which is address base + at of the program. Where it does not fit nothing is
+// written, and the addresses are told all the same.
+fn lay(
+    flat: &[u8],
+    entries: &[u16],
+    code: &mut [u8],
+    base: usize,
+    at: usize,
+    k: usize,
+    end: usize,
+    scope: Scope,
+) -> Laid
+    requires { ⌜ Small k end base at 0 ⌝ }
+    ensures { λ r. ⌜ Lays (now (flat .entry)) (now (entries .entry)) (now (code .entry)) (now (code .exit)) base at k end scope r ⌝ }
+{
+    if end <= k {
+        return Laid {
+            next: k,
+            at: at,
+            last: at,
+        };
+    }
+    let found = records::record_at(flat, k);
+    match found {
+        RecordRead::Refused(why, place) => Laid {
+            next: k,
+            at: at,
+            last: at,
+        },
+        RecordRead::Read(node, parts, template) => {
+            let shape = Shape {
+                node: node,
+                template: template,
+                count: nodes::part_count(flat, parts),
+            };
+            lay_parts(
+                flat,
+                entries,
+                code,
+                base,
+                at,
+                at,
+                shape,
+                0,
+                k + 1,
+                end,
+                scope,
+            )
+        }
+    }
+}
+
+// Lays down the parts of a record from part i on, the next of them at record k, each behind what stands before it, and behind them all what stands
+// last. What stands before a part is laid down once the parts are through: then its addresses are known.
+fn lay_parts(
+    flat: &[u8],
+    entries: &[u16],
+    code: &mut [u8],
+    base: usize,
+    at: usize,
+    last: usize,
+    shape: Shape,
+    i: usize,
+    k: usize,
+    end: usize,
+    scope: Scope,
+) -> Laid
+    requires { ⌜ SmallParts i k end base at last ⌝ }
+    ensures { λ r. ⌜ LaysParts (now (flat .entry)) (now (entries .entry)) (now (code .entry)) (now (code .exit)) base at last shape i k end scope r ⌝ }
+{
+    let template = shape.template;
+    if shape.count <= i {
+        let items = template.last;
+        let behind = at + template::length_of(items);
+        template::lay_items(
+            flat,
+            entries,
+            code,
+            at,
+            items,
+            scope,
+            base + last,
+            base + behind,
+        );
+        return Laid {
+            next: k,
+            at: behind,
+            last: last,
+        };
+    }
+    let items = template::items_before(template, i);
+    let start = at + template::length_of(items);
+    let node = shape.node;
+    let inner = template::inside(node, i, scope);
+    let part = lay(flat, entries, code, base, start, k, end, inner);
+    if part.next <= k {
+        return part;
+    }
+    let rest = lay_parts(
+        flat,
+        entries,
+        code,
+        base,
+        part.at,
+        start,
+        shape,
+        i + 1,
+        part.next,
+        end,
+        scope,
+    );
+    template::lay_items(
+        flat,
+        entries,
+        code,
+        at,
+        items,
+        scope,
+        base + rest.last,
+        base + rest.at,
+    );
+    rest
+}
+
+// What is known on entering the body of function j: its number parameters stand on the frame's first words.
+fn start(flat: &[u8], j: u16) -> Scope
+    ensures { λ r. ⌜ Starts (now (flat .entry)) j r ⌝ }
+{
+    let parameters = signatures::parameters(flat, j) as usize;
+    let tree = signatures::sort_number(flat, j) == TREE_VALUED;
+    Scope {
+        words: [0, 1, 2, 3, 4, 5, 6, 7, 8, 9, 10, 11, 12, 13, 14, 15],
+        names: parameters,
+        standing: parameters,
+        tree: tree,
+    }
+}
+
+// How many words a function's return keeps: a number is kept.
+fn words_kept(tree: bool) -> u8
+    ensures { λ r. ⌜ r ≡ wordsKept (sortOf tree) ⌝ }
+{
+    if tree {
+        return 0;
+    }
+    1
+}
+
+// Lays down function j, its body at record k, at the start of `code`, which is the part of the code buffer that begins at its entry: its body, then
+// return.
+fn lay_function(
+    flat: &[u8],
+    entries: &[u16],
+    code: &mut [u8],
+    entry: usize,
+    j: u16,
+    k: usize,
+    end: usize,
+) -> Laid
+    requires { ⌜ Small k end entry 0 1 ⌝ }
+    ensures { λ r. ⌜ LaysFunction (now (flat .entry)) (now (entries .entry)) (now (code .entry)) (now (code .exit)) entry j k end r ⌝ }
+{
+    let scope = start(flat, j);
+    let body = lay(flat, entries, code, entry, 0, k, end, scope);
+    instruction::write_instruction(code, body.at, RETURN, words_kept(scope.tree), 0, 0);
+    Laid {
+        next: body.next,
+        at: body.at + 1,
+        last: 0,
+    }
+}
+
+// The table of entries: each function is laid down where nothing fits, and so only measured.
+fn measure(flat: &[u8]) -> Table
+    requires { ⌜ verdict (checkedRecords (now flat)) ≡ done tt ⌝ }
+    ensures { λ r. ⌜ Tabled (now (flat .entry)) r ⌝ }
+{
+    let functions = words::read8(flat, 1) as u16;
+    let nodes = words::read16(flat, 2) as usize;
+    let end = 1 + (functions as usize) + nodes;
+    let mut entries = [0u16; MOST_FUNCTIONS];
+    let mut k = 1 + (functions as usize);
+    let mut entry = 0;
+    let mut j: u16 = 0;
+    while j < functions {
+        entries[j as usize] = (entry % 65536) as u16;
+        let mut no_room = [0u8; 1];
+        let laid = lay_function(flat, &[], &mut no_room, entry, j, k, end);
+        k = laid.next;
+        entry = entry + laid.at;
+        j = j + 1;
+    }
+    Table {
+        entries: entries,
+        count: entry,
+    }
+}
+
+// Lays down all functions, each in the part of the code buffer that begins at its entry.
+fn lay_all(flat: &[u8], entries: &[u16], code: &mut [u8])
+    requires { ⌜ Ready (now flat) (now entries) (now code) ⌝ }
+    ensures { λ _. ⌜ LaysAll (now (flat .entry)) (now (code .entry)) (now (code .exit)) ⌝ }
+{
+    let functions = words::read8(flat, 1) as u16;
+    let nodes = words::read16(flat, 2) as usize;
+    let end = 1 + (functions as usize) + nodes;
+    let mut k = 1 + (functions as usize);
+    let mut j: u16 = 0;
+    while j < functions {
+        let entry = template::entry_of(entries, j) as usize;
+        let part = &mut code[INSTRUCTION_BYTES * entry..];
+        let laid = lay_function(flat, entries, part, entry, j, k, end);
+        k = laid.next;
+        j = j + 1;
+    }
+}
+
+// The code of flat records that are a program which both passes accept, written to the start of a lent buffer; or the first refusal of the rows header
+// to prefix form, pass one and pass two, and last 13 where the buffer is too short. A refusal leaves the buffer untouched.
+pub fn translate_records(flat: &[u8], code: &mut [u8]) -> Filled
+    ensures { λ r. ⌜ Put (translateRecords (length (now (code .entry))) (now (flat .entry))) (now (code .entry)) (now (code .exit)) r ⌝ }
+{
+    let verdict = pass_two::check_order(flat);
+    if let Verdict::Refused(why, place) = verdict {
+        return Filled::Refused(why, place);
+    }
+    let table = measure(flat);
+    let bytes = INSTRUCTION_BYTES * table.count;
+    if code.len() < bytes {
+        return Filled::Refused(Refusal::SpaceTooShort, 0);
+    }
+    let entries = table.entries;
+    lay_all(flat, &entries, code);
+    Filled::Written(bytes)
+}
+
+// The same from a program file: the block rows first.
+pub fn translate_file(file: &[u8], code: &mut [u8]) -> Filled
+    ensures { λ r. ⌜ Put (translateFile (length (now (code .entry))) (now (file .entry))) (now (code .entry)) (now (code .exit)) r ⌝ }
+{
+    let mut flat = [0u8; MOST_BYTES];
+    let taken = block_reader::take_out(file, &mut flat);
+    match taken {
+        Filled::Refused(why, place) => Filled::Refused(why, place),
+        Filled::Written(bytes) => translate_records(&flat[..bytes], code),
+    }
+}

@@ -22,6 +22,8 @@ fn main() {
         eprintln!("help: run 'rt staticlib hogvax_c' at the root of the repository");
         exit(1);
     };
+    // For tests that link it with C.
+    println!("cargo:rustc-env=HOGVAX_ARCHIVE={}", archive.display());
     if let Some(folder) = archive.parent() {
         println!("cargo:rustc-link-search=native={}", folder.display());
     }

@@ -36,6 +36,15 @@ extern "C" {
         answer_len: usize,
     ) -> u32;
 
+    fn hogvax_translate(
+        file: *const u8,
+        file_len: usize,
+        code: *mut u8,
+        code_len: usize,
+        answer: *mut u64,
+        answer_len: usize,
+    ) -> u32;
+
     fn hogvax_perform(
         code: *const u8,
         code_len: usize,
@@ -44,6 +53,24 @@ extern "C" {
         fuel: u64,
         output: *mut u8,
         output_len: usize,
+        values: *mut u32,
+        values_len: usize,
+        returns: *mut u64,
+        returns_len: usize,
+        answer: *mut u64,
+        answer_len: usize,
+    ) -> u32;
+
+    fn hogvax_run(
+        file: *const u8,
+        file_len: usize,
+        input: *const u8,
+        input_len: usize,
+        fuel: u64,
+        output: *mut u8,
+        output_len: usize,
+        code: *mut u8,
+        code_len: usize,
         values: *mut u32,
         values_len: usize,
         returns: *mut u64,
@@ -97,6 +124,12 @@ pub fn check_records(records: &[u8], answer: &mut [u64]) -> u32 {
     unsafe { ask(hogvax_check_records, records, answer) }
 }
 
+/// The code of this program file; see `translate_into`.
+pub fn translate(file: &[u8], code: &mut [u8], answer: &mut [u64]) -> u32 {
+    // SAFETY: the library exports this call.
+    unsafe { convert(hogvax_translate, file, code, answer) }
+}
+
 /// The stream run of this code over this input; see `perform_into`.
 pub fn perform(
     code: &[u8],
@@ -118,6 +151,41 @@ pub fn perform(
             fuel,
             output.as_mut_ptr(),
             output.len(),
+            values.as_mut_ptr(),
+            values.len(),
+            returns.as_mut_ptr(),
+            returns.len(),
+            answer.as_mut_ptr(),
+            answer.len(),
+        )
+    }
+}
+
+/// The stream run of this program file's code; see `run_into`.
+#[allow(clippy::too_many_arguments)]
+pub fn run(
+    file: &[u8],
+    input: &[u8],
+    fuel: u64,
+    output: &mut [u8],
+    code: &mut [u8],
+    values: &mut [u32],
+    returns: &mut [u64],
+    answer: &mut [u64],
+) -> u32 {
+    // SAFETY: pointers and lengths are those of one slice each, and the
+    // slices written are borrowed mutably.
+    unsafe {
+        hogvax_run(
+            file.as_ptr(),
+            file.len(),
+            input.as_ptr(),
+            input.len(),
+            fuel,
+            output.as_mut_ptr(),
+            output.len(),
+            code.as_mut_ptr(),
+            code.len(),
             values.as_mut_ptr(),
             values.len(),
             returns.as_mut_ptr(),

@@ -13,11 +13,15 @@ mod ffi;
 mod machine;
 mod order;
 mod program;
+mod run;
+mod translate;
 mod tree;
 
 pub use machine::{perform, perform_in, perform_into, Ran, WorkSpace, LONGEST_CODE};
 pub use order::{check, check_into, check_records, check_records_into};
 pub use program::{pack, pack_into, unpack, unpack_into, LONGEST_FILE, LONGEST_RECORDS};
+pub use run::{run, run_in, run_into};
+pub use translate::{translate, translate_into};
 pub use tree::{first_tree, tree, tree_into};
 
 /// A refusal: its number in document 01's table, and its place. What the
@@ -37,6 +41,18 @@ impl fmt::Display for Refused {
 }
 
 impl Error for Refused {}
+
+/// The bytes that a call writes to a buffer of this length, which is always
+/// enough.
+fn written(
+    longest: usize,
+    call: impl FnOnce(&mut [u8], &mut [u64]) -> u32,
+) -> Result<Vec<u8>, Refused> {
+    let mut bytes = vec![0; longest];
+    let length = length_or_refused(|answer| call(&mut bytes, answer))?;
+    bytes.truncate(length);
+    Ok(bytes)
+}
 
 /// Makes a call that answers by a number, 0 or the refusal's, and in two
 /// places: the refusal's place, and a length in bytes.

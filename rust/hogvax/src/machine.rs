@@ -33,15 +33,15 @@ pub struct Ran {
 
 impl Ran {
     /// What a call told by a number, 0 or the refusal's, and in five places.
-    fn told(number: u32, answer: [u64; 5]) -> Ran {
+    pub(crate) fn told(number: u32, answer: [u64; 5]) -> Ran {
         let [place, units, read, written, word] = answer;
         Ran {
             refused: (number != 0).then_some(Refused { number, place }),
             units,
             read: read as usize,
             written: written as usize,
-            // A 32-bit word, in two's complement.
-            number: word as u32 as i32,
+            // 32 bits, sign-extended to 64.
+            number: word as i32,
         }
     }
 }
@@ -66,16 +66,19 @@ impl fmt::Display for Ran {
     }
 }
 
-/// The work space of a run, 80 KiB. It may serve one run after another: what
-/// a run leaves there does not matter to the next.
+/// The work space of a run, about 112 KiB, with room for the longest code. It
+/// may serve one run after another: what a run leaves there does not matter to
+/// the next.
 pub struct WorkSpace {
-    values: Vec<u32>,
-    returns: Vec<u64>,
+    pub(crate) code: Vec<u8>,
+    pub(crate) values: Vec<u32>,
+    pub(crate) returns: Vec<u64>,
 }
 
 impl WorkSpace {
     pub fn new() -> WorkSpace {
         WorkSpace {
+            code: vec![0; LONGEST_CODE],
             values: vec![0; VALUE_WORDS],
             returns: vec![0; RETURN_WORDS],
         }
@@ -169,7 +172,9 @@ pub fn perform_in(
     fuel: u64,
     output: &mut [u8],
 ) -> Ran {
-    let WorkSpace { values, returns } = work;
+    let WorkSpace {
+        values, returns, ..
+    } = work;
     let mut answer = [0; 5];
     let number = perform_into(code, input, fuel, output, values, returns, &mut answer);
     Ran::told(number, answer)
@@ -177,7 +182,7 @@ pub fn perform_in(
 
 /// The call behind [`perform`], as the static library exports it: 0, or the
 /// refusal's number; with the refusal's place (0 if there is none), the units,
-/// the bytes read, the bytes written and the number, as a 32-bit word, in
+/// the bytes read, the bytes written and the number, sign-extended to 64 bits, in
 /// `answer`.
 ///
 /// Before all refusals of [`perform`] comes 13 at 0, with 0 in every count:
@@ -190,6 +195,17 @@ pub fn perform_in(
 /// ```
 /// let (mut output, mut values, mut returns) = ([9; 1], [0; 16_384], [0; 2_048]);
 /// let mut answer = [9; 6];
+/// // Push -3, and return with it.
+/// let code = [
+///     [0, 0, 0, 0, 0xfd, 0xff, 0xff, 0xff],
+///     [13, 1, 0, 0, 0, 0, 0, 0],
+/// ]
+/// .concat();
+/// let number = hogvax::perform_into(
+///     &code, &[], 5, &mut output, &mut values, &mut returns, &mut answer,
+/// );
+/// assert_eq!((number, answer), (0, [0, 2, 0, 0, u64::MAX - 2, 9]));
+///
 /// // Node tag, then nothing more.
 /// let code = [8, 0, 0, 0, 0, 0, 0, 0];
 /// let number = hogvax::perform_into(
@@ -258,8 +274,9 @@ mod tests {
             (0, "0"),
             (1, "1"),
             (0x7fff_ffff, "2147483647"),
-            (0x8000_0000, "-2147483648"),
-            (0xffff_ffff, "-1"),
+            (0xffff_ffff_8000_0000, "-2147483648"),
+            (u64::MAX - 2, "-3"),
+            (u64::MAX, "-1"),
         ] {
             let line = Ran::told(0, [0, 1, 0, 0, word]).to_string();
             let told = format!("ended units 1 read 0 written 0 number {number}");

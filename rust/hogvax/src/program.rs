@@ -1,6 +1,6 @@
 //! The file writer and the file reader of programs.
 
-use crate::{ffi, length_or_refused, Refused};
+use crate::{ffi, written, Refused};
 
 /// The bytes of the longest records: a header, 32 functions and 1,024 nodes,
 /// 8 bytes each.
@@ -123,16 +123,4 @@ pub fn pack_into(records: &[u8], file: &mut [u8], answer: &mut [u64]) -> u32 {
 #[doc(hidden)]
 pub fn unpack_into(file: &[u8], records: &mut [u8], answer: &mut [u64]) -> u32 {
     ffi::unpack(file, records, answer)
-}
-
-/// The bytes that a call writes to a buffer of this length, which is always
-/// enough.
-fn written(
-    longest: usize,
-    call: impl FnOnce(&mut [u8], &mut [u64]) -> u32,
-) -> Result<Vec<u8>, Refused> {
-    let mut bytes = vec![0; longest];
-    let length = length_or_refused(|answer| call(&mut bytes, answer))?;
-    bytes.truncate(length);
-    Ok(bytes)
 }

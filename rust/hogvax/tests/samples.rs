@@ -2,9 +2,10 @@
 
 use std::fs;
 use std::path::{Path, PathBuf};
+use std::process::{Command, Output, Stdio};
 
 use hogvax::Refused;
-use reference::{Expr, Function, Program};
+use reference::{Expr, Function, Program, Tree};
 
 /// A folder or file of the samples.
 fn samples(name: &str) -> PathBuf {
@@ -193,6 +194,149 @@ fn the_readme_describes_every_program() {
             let start = line(number, function);
             assert!(described[number].starts_with(&start), "{name}: {start}");
         }
+    }
+}
+
+// Their runs
+
+/// The lines of a README table, each cell without its marks.
+fn table(heading: &str) -> Vec<Vec<String>> {
+    let readme = fs::read_to_string(samples("README.md")).unwrap();
+    let (_, section) = readme.split_once(&format!("\n## {heading}\n")).unwrap();
+    let (section, _) = section.split_once("\n#").unwrap_or((section, ""));
+    let lines = section.lines().filter(|line| line.starts_with("| `"));
+    let cells = lines.map(|line| line.trim_matches('|').split('|'));
+    let cell = |cell: &str| cell.trim().trim_matches('`').to_owned();
+    cells.map(|cells| cells.map(cell).collect()).collect()
+}
+
+/// The tree that begins such a text: `(a,b)` for a node, its label for a leaf;
+/// and the rest of the text.
+fn tree(text: &str) -> (Tree, &str) {
+    if let Some(rest) = text.strip_prefix('(') {
+        let (left, rest) = tree(rest);
+        let (right, rest) = tree(rest.strip_prefix(',').unwrap());
+        return (Tree::node(left, right), rest.strip_prefix(')').unwrap());
+    }
+    let end = text.find([',', ')']).unwrap_or(text.len());
+    let (label, rest) = text.split_at(end);
+    (Tree::leaf(label.parse().unwrap()), rest)
+}
+
+fn tokens(text: &str) -> Vec<u8> {
+    let (tree, rest) = tree(text);
+    assert_eq!(rest, "");
+    tree.tokens()
+}
+
+/// Runs the command line with these words at the root of the repository.
+fn hogvax_at_root(words: &[&str]) -> Output {
+    let mut command = Command::new(env!("CARGO_BIN_EXE_hogvax"));
+    command.current_dir(samples("..")).stdin(Stdio::null());
+    command.args(words).output().unwrap()
+}
+
+#[test]
+fn the_token_files_are_what_the_readme_says() {
+    assert_eq!(bytes("small.tokens"), tokens("(5,7)"));
+    let clades = "((1,(2,(3,(4,5)))),((6,7),(8,9)))";
+    assert_eq!(bytes("clades.tokens"), tokens(clades));
+    let readme = fs::read_to_string(samples("README.md")).unwrap();
+    assert!(readme.contains("\n| `clades.tokens` | ") && readme.contains(clades));
+}
+
+/// Every program on every token file.
+#[test]
+fn runs_give_what_the_readme_says() {
+    let rows = table("Running the programs");
+    let mut runs: Vec<(&str, &str)> = Vec::new();
+    for row in &rows {
+        let [name, file, data, line] = &row[..] else {
+            panic!("not four cells: {row:?}");
+        };
+        let program = format!("samples/programs/{name}.program");
+        let output = hogvax_at_root(&["run", &program, &format!("samples/{file}")]);
+        let data = match data.as_str() {
+            "nothing" => vec![],
+            tree if tree.starts_with('(') => tokens(tree),
+            number => format!("{number}\n").into_bytes(),
+        };
+        assert_eq!(output.stdout, data, "{row:?}");
+        assert_eq!(
+            String::from_utf8(output.stderr).unwrap(),
+            format!("{line}\n")
+        );
+        let status = i32::from(line.starts_with("refused "));
+        assert_eq!(output.status.code(), Some(status), "{row:?}");
+        runs.push((file, name));
+    }
+    let names = programs().map(|(name, _)| name);
+    let on_each = |file| names.map(|name| (file, name));
+    let all = [on_each("small.tokens"), on_each("clades.tokens")].concat();
+    assert_eq!(runs, all);
+}
+
+/// The commands of the README, each with what is said of it.
+fn commands(readme: &str) -> Vec<(&str, &str)> {
+    let lines: Vec<&str> = readme.lines().collect();
+    let pairs = lines.windows(2);
+    let pairs = pairs.filter_map(|pair| Some((pair[0].strip_prefix("    ./hogvax ")?, pair[1])));
+    pairs.collect()
+}
+
+/// The last line that each prints stands behind the last colon.
+#[test]
+fn the_commands_print_what_the_readme_says() {
+    let readme = fs::read_to_string(samples("README.md")).unwrap();
+    let folder = Path::new(env!("CARGO_TARGET_TMPDIR")).join("samples");
+    fs::create_dir_all(&folder).unwrap();
+    let place = |word: &str| match word.strip_prefix("samples/") {
+        Some(name) => samples(name),
+        None => PathBuf::from(word),
+    };
+    let commands = commands(&readme);
+    for (words, said) in &commands {
+        let mut command = Command::new(env!("CARGO_BIN_EXE_hogvax"));
+        command.current_dir(&folder).stdin(Stdio::null());
+        let output = command.args(words.split(' ').map(place)).output().unwrap();
+        let printed = String::from_utf8([output.stdout, output.stderr].concat()).unwrap();
+        let last = said
+            .rsplit_once(": ")
+            .map_or("12 13 0 0 0", |(_, line)| line);
+        assert_eq!(printed.lines().last(), Some(last), "{words}");
+    }
+    assert_eq!(commands.len(), 12);
+}
+
+// Their listings
+
+#[test]
+fn there_are_no_other_listings() {
+    let expected = programs().map(|(name, _)| format!("{name}.listing"));
+    assert_eq!(files("listings"), expected);
+}
+
+#[test]
+fn the_listings_are_the_programs() {
+    for (name, _) in programs() {
+        let listing = bytes(&format!("listings/{name}.listing"));
+        let file = bytes(&format!("programs/{name}.program"));
+        assert_eq!(listing, reference::listing(&file).as_bytes(), "{name}");
+        let program = format!("samples/programs/{name}.program");
+        let output = hogvax_at_root(&["listing", &program]);
+        assert_eq!(output.stdout, listing, "{name}");
+        assert_eq!(output.status.success(), verdict(name).is_ok(), "{name}");
+    }
+    let grow = String::from_utf8(bytes("listings/grow.listing")).unwrap();
+    assert_eq!(grow, reference::translate::known::GROW_LISTING);
+}
+
+#[test]
+fn the_code_files_are_the_programs() {
+    for (name, _) in codes() {
+        let program = bytes(&format!("programs/{name}.program"));
+        let code = bytes(&format!("code/{name}.code"));
+        assert_eq!(hogvax::translate(&program), Ok(code), "{name}");
     }
 }
 

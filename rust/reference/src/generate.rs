@@ -6,6 +6,7 @@ use crate::tree::{Token, Tree};
 
 pub mod bodies;
 pub mod code;
+pub mod evaluated;
 pub mod file_damage;
 pub mod order_damage;
 pub mod ordered;
@@ -13,12 +14,14 @@ pub mod program_shapes;
 pub mod programs;
 pub mod random_damage;
 pub mod record_damage;
+pub mod runs;
 
 pub use bodies::Alphabet;
 pub use file_damage::FileDamage;
 pub use order_damage::changed_program;
 pub use random_damage::{changed_file, damaged_file, damaged_records, resized_file};
 pub use record_damage::RecordDamage;
+pub use runs::any_run;
 
 /// Labels likely to be got wrong: the extremes, and labels whose bytes look
 /// like tags.

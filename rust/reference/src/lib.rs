@@ -1,17 +1,22 @@
 //! Reference implementation for tests: trees, their tokens, the tree reader,
-//! programs, their records and program files, the order checker, and the
-//! stream run, with generators of random inputs.
+//! programs, their records and program files, the order checker, the
+//! translator, the stream run, the runner and the source evaluation, with
+//! generators of random inputs.
 
 #![forbid(unsafe_code)]
 
+pub mod evaluate;
 pub mod generate;
 pub mod machine;
 mod message;
 pub mod order;
 pub mod program;
 pub mod random;
+pub mod run;
+pub mod translate;
 pub mod tree;
 
+pub use evaluate::{evaluate, Ended, Evaluation, Value};
 pub use machine::{
     assemble, instruction_at, perform, perform_traced, Cause, Instruction, Mark, Ran, Stop,
     TestCase, Trace,
@@ -25,6 +30,8 @@ pub use program::{
 pub use program::{BLOCK_BYTES, BLOCK_LIMIT, BLOCK_RECORDS, RECORD_BYTES};
 pub use program::{FUNCTION_LIMIT, NODE_LIMIT, PARAMETER_LIMIT};
 pub use random::Random;
+pub use run::{run, RunCase};
+pub use translate::{listing, translate, translate_into, translate_program};
 pub use tree::{
     read_tree, tree_bytes, tree_end, tree_refusal, Prefix, Refusal, Token, Tree, DEPTH_LIMIT,
     INPUT_ENDED, LEAF_TAG, NODE_TAG, NOT_A_TAG, TOO_DEEP,

@@ -2,8 +2,9 @@
 
 use std::ffi::{OsStr, OsString};
 
-use crate::outcome::{Ended, Outcome};
+use crate::outcome::Outcome;
 use crate::streams;
+use crate::text;
 use crate::verbs::Verb;
 use crate::words::Words;
 
@@ -36,14 +37,5 @@ fn run(words: &[OsString]) -> Option<Outcome> {
 /// A longer file than the longest is 1 at 0, so one byte more tells all.
 fn check(file: &OsStr) -> Outcome {
     let input = streams::read_at_most(file, hogvax::LONGEST_FILE + 1)?;
-    match hogvax::check(&input) {
-        Ok(()) => {
-            streams::print("passed\n")?;
-            Ok(Ended::Done)
-        }
-        Err(refused) => {
-            streams::print(&format!("{refused}\n"))?;
-            Ok(Ended::Refused)
-        }
-    }
+    text::print(hogvax::check(&input).map(|()| "passed\n".to_owned()))
 }

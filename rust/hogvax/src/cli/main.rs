@@ -5,12 +5,16 @@
 mod check;
 mod data;
 mod help;
+mod listing;
 mod outcome;
 mod pack;
 mod perform;
 mod refusals;
+mod run;
 mod space;
+mod stream;
 mod streams;
+mod text;
 mod tree;
 mod unpack;
 mod verbs;

@@ -1,15 +1,10 @@
 //! `perform CODE [FILE] --fuel N`: the stream run of code.
 
-use std::ffi::{OsStr, OsString};
+use std::ffi::OsString;
 
-use hogvax::WorkSpace;
-
-use crate::data::{self, OUT};
 use crate::outcome::{Outcome, Trouble};
-use crate::space::{Space, MOST_SPACE, SPACE};
-use crate::streams;
+use crate::stream::StreamRun;
 use crate::verbs::Verb;
-use crate::words::{Takes, Words};
 
 pub const VERB: Verb = Verb {
     name: "perform",
@@ -44,51 +39,22 @@ Example:
     run,
 };
 
-/// The option that says how many instructions may be performed.
-const FUEL: &str = "--fuel";
-
-/// The option that asks for what a run wrote before it was refused.
-const PARTIAL: &str = "--partial";
-
-const OPTIONS: &[(&str, Takes)] = &[
-    (FUEL, Takes::Number),
-    (SPACE, Takes::Number),
-    (MOST_SPACE, Takes::Number),
-    (OUT, Takes::File),
-    (PARTIAL, Takes::Nothing),
-];
+/// What stands behind the longest code is never performed.
+const PERFORM: StreamRun = StreamRun {
+    name: "CODE",
+    longest: hogvax::LONGEST_CODE,
+    fuel,
+    call: hogvax::perform_in,
+    data: |_, _, written| written,
+};
 
 fn run(words: &[OsString]) -> Option<Outcome> {
-    let words = Words::sort(words, OPTIONS)?;
-    let (code, file) = words.two_files()?;
-    Some(perform(code, file, &words))
+    PERFORM.run(words)
 }
 
-/// What stands behind the longest code is never performed, so it need not be
-/// read.
-fn perform(code: &OsStr, file: &OsStr, words: &Words) -> Outcome {
-    if code == "-" && file == "-" {
-        let message = "CODE and FILE can't both be standard input; FILE is, if it is left out";
-        return Err(Trouble(message.to_owned()));
-    }
-    let fuel = fuel(words)?;
-    let space = Space::asked(words)?;
-    let code = streams::read_at_most(code, hogvax::LONGEST_CODE)?;
-    let input = streams::read(file)?;
-    let mut work = WorkSpace::new();
-    let (ran, written) = space.run(input.len(), |output| {
-        hogvax::perform_in(&mut work, &code, &input, fuel, output)
-    })?;
-    let (out, line) = (data::destination(words), ran.to_string());
-    match ran.refused {
-        None => data::hand_out(&written, out, &line),
-        Some(_) if words.has(PARTIAL) => data::refuse_after(&written, out, &line),
-        Some(_) => data::refuse(&line),
-    }
-}
-
-fn fuel(words: &Words) -> Result<u64, Trouble> {
-    words.number(FUEL)?.ok_or_else(|| {
+/// Any code may be run, and it need not end.
+fn fuel(given: Option<u64>) -> Result<u64, Trouble> {
+    given.ok_or_else(|| {
         let message = "perform needs --fuel N, the most instructions to be performed";
         Trouble(message.to_owned())
     })

@@ -144,7 +144,12 @@ the record of that Case or Call, of the Case or IfZero with those
 branches, or of the first node of that function; the header is record 0.",
         example: "\
 one function, which takes the right part first, Case 0, Leaf, Var 0,
-Node, Call 0 on 2, Call 0 on 1:
+Node, Call 0 on 2, Call 0 on 1; run, listing and check refuse it:
+  $ ./hogvax run samples/programs/swap.program samples/small.tokens
+  refused 11 6 units 0 read 0 written 0 number 0
+  $ ./hogvax listing samples/programs/swap.program
+  refused 11 6
+  $ ./hogvax check samples/programs/swap.program
   refused 11 6",
     },
     Refusal {
@@ -165,9 +170,11 @@ Const 1 as the last node part:
         name: "lent space",
         meaning: "\
 A buffer that the caller lends for code, for a file, for records, for work
-words or for the answer is shorter than the call needs. A run always needs
-16,384 value words and 2,048 return words. This command lends enough; a program
-that calls the library may meet it.",
+words or for the answer is shorter than the call needs. Code takes 8 bytes for
+each instruction of the program at hand. A run always needs 16,384 value words
+and 2,048 return words. A short answer is told before all else, the others
+after all faults of the program and before anything is written or run. This
+command lends enough; a program that calls the library may meet it.",
         place: "always 0.",
         example: "\
 a stream run that is lent 16,383 value words:
@@ -183,7 +190,9 @@ each, the fuel is looked at first.",
         place: "in the stream run the bytes read, in the source run 0.",
         example: "\
 document 01's program Grow on its tree T, a stream run of 25 units,
-with fuel 24:
+with fuel 24, and the same of its code:
+  $ ./hogvax run samples/programs/grow.program samples/small.tokens --fuel 24
+  refused 14 11 units 24 read 11 written 11 number 0
   $ ./hogvax perform samples/code/grow.code samples/small.tokens --fuel 24
   refused 14 11 units 24 read 11 written 11 number 0",
     },
@@ -225,12 +234,14 @@ the input 03, for the tree reader and in a stream run:
         name: "output full",
         meaning: "\
 In the stream run the output has no room for the next tag or label; what was
-written before stays, and 'perform --partial' hands it out. In the source run
-the output is shorter than the result; nothing is written.",
+written before stays, and --partial hands it out. In the source run the output
+is shorter than the result; nothing is written.",
         place: "in the stream run the bytes read, in the source run 0.",
         example: "\
 document 01's program Grow on its tree T, a stream run with an output
-of 10 bytes, of which it writes 7:
+of 10 bytes, of which it writes 7, and the same of its code:
+  $ ./hogvax run samples/programs/grow.program samples/small.tokens --space 10
+  refused 17 11 units 20 read 11 written 7 number 0
   $ ./hogvax perform samples/code/grow.code samples/small.tokens \\
     --fuel 25 --space 10
   refused 17 11 units 20 read 11 written 7 number 0",
@@ -239,7 +250,9 @@ of 10 bytes, of which it writes 7:
         number: 18,
         name: "open calls",
         meaning: "\
-A call is to be made and 1,024 are open, the run's own first one counted.",
+A call is to be made and 1,024 are open, the run's own first one counted. The
+tree is too deep for the program, or the program calls itself without end; more
+fuel or space does not help.",
         place: "in the stream run the bytes read, in the source run 0.",
         example: "\
 one function, whose only node is Call 0 on 0, a stream run with fuel
@@ -254,8 +267,8 @@ one function, whose only node is Call 0 on 0, a stream run with fuel
         meaning: "\
 An opcode is above 13; an address is above 4,127 or has no 8 whole bytes of
 code; a return's byte 1 is not 0 or 1; words are missing above the frame's
-base; or more than 16,384 words would stand. It comes before 15 to 18. Only a
-stream run of code that the translator did not make meets it.",
+base; or more than 16,384 words would stand. It comes before 15 to 18. 'perform'
+may meet it, with code that is no program's; 'run' never does.",
         place: "the bytes read.",
         example: "\
 an empty code buffer, fuel 1:

@@ -2,8 +2,9 @@
 
 use std::ffi::{OsStr, OsString};
 
-use crate::outcome::{Ended, Outcome};
+use crate::outcome::Outcome;
 use crate::streams;
+use crate::text;
 use crate::verbs::Verb;
 use crate::words::Words;
 
@@ -31,14 +32,5 @@ fn run(words: &[OsString]) -> Option<Outcome> {
 
 fn tree(file: &OsStr) -> Outcome {
     let input = streams::read(file)?;
-    match hogvax::tree(&input) {
-        Ok(bytes) => {
-            streams::print(&format!("tree {bytes}\n"))?;
-            Ok(Ended::Done)
-        }
-        Err(refused) => {
-            streams::print(&format!("{refused}\n"))?;
-            Ok(Ended::Refused)
-        }
-    }
+    text::print(hogvax::tree(&input).map(|bytes| format!("tree {bytes}\n")))
 }

@@ -4,9 +4,11 @@ use std::ffi::{OsStr, OsString};
 
 use crate::check;
 use crate::help;
+use crate::listing;
 use crate::outcome::{Outcome, Trouble};
 use crate::pack;
 use crate::perform;
+use crate::run;
 use crate::tree;
 use crate::unpack;
 use crate::why;
@@ -33,7 +35,9 @@ pub const VERBS: &[Verb] = &[
     pack::VERB,
     unpack::VERB,
     check::VERB,
+    listing::VERB,
     perform::VERB,
+    run::VERB,
     why::VERB,
     help::VERB,
 ];

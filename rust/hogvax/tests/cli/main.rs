@@ -1,8 +1,11 @@
 //! The command line: what each verb prints, and its exit status.
 
 mod check;
+mod listing;
 mod perform;
 mod programs;
+mod run;
+mod stream;
 mod tree;
 mod why;
 
@@ -11,7 +14,12 @@ use std::io::{ErrorKind, Write};
 use std::path::{Path, PathBuf};
 use std::process::{Child, Command, Output, Stdio};
 
-const VERBS: [&str; 7] = ["tree", "pack", "unpack", "check", "perform", "why", "help"];
+const VERBS: [&str; 9] = [
+    "tree", "pack", "unpack", "check", "listing", "perform", "run", "why", "help",
+];
+
+/// Document 01: "Tree T: 02 01 05 00 00 00 01 07 00 00 00."
+const T: [u8; 11] = [2, 1, 5, 0, 0, 0, 1, 7, 0, 0, 0];
 
 fn command(words: &[&str]) -> Command {
     let mut command = Command::new(env!("CARGO_BIN_EXE_hogvax"));
@@ -196,6 +204,7 @@ fn wrong_usage_is_told() {
     let pack = "usage: hogvax pack [FILE] [--out FILE]";
     let unpack = "usage: hogvax unpack [FILE] [--out FILE]";
     let check = "usage: hogvax check [FILE]";
+    let listing = "usage: hogvax listing [FILE]";
     let why = "usage: hogvax why NUMBER";
     for (words, part) in [
         (&["trees"][..], "no verb 'trees'"),
@@ -217,6 +226,9 @@ fn wrong_usage_is_told() {
         (&["check", "a", "b"], check),
         (&["check", "--fast"], check),
         (&["check", "--out", "a"], check),
+        (&["listing", "a", "b"], listing),
+        (&["listing", "--fast"], listing),
+        (&["listing", "--out", "a"], listing),
         (&["why"], why),
         (&["why", "1", "2"], why),
         (&["why", ""], why),
@@ -246,7 +258,13 @@ fn words_need_not_be_text() {
 #[cfg(unix)]
 #[test]
 fn a_broken_pipe_is_no_panic() {
-    for words in [&["help"][..], &["why", "1"], &["tree"], &["check"]] {
+    for words in [
+        &["help"][..],
+        &["why", "1"],
+        &["tree"],
+        &["check"],
+        &["listing"],
+    ] {
         let mut child = piped(words);
         drop(child.stdout.take());
         drop(child.stdin.take());
@@ -261,7 +279,13 @@ fn a_broken_pipe_is_no_panic() {
 #[cfg(target_os = "linux")]
 #[test]
 fn a_full_device_is_told() {
-    for words in [&["help"][..], &["why", "1"], &["tree"], &["check"]] {
+    for words in [
+        &["help"][..],
+        &["why", "1"],
+        &["tree"],
+        &["check"],
+        &["listing"],
+    ] {
         let full = File::options().write(true).open("/dev/full").unwrap();
         let output = command(words).stdout(full).output().unwrap();
         assert!(trouble(output).contains("standard output"));

@@ -2,9 +2,6 @@
 
 use super::*;
 
-/// Document 01: "Tree T: 02 01 05 00 00 00 01 07 00 00 00."
-const T: [u8; 11] = [2, 1, 5, 0, 0, 0, 1, 7, 0, 0, 0];
-
 #[test]
 fn tree_prints_the_length_of_the_sample() {
     assert_says(&run(&["tree", &sample("small.tokens")]), 0, "tree 11\n");

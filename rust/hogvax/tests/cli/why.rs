@@ -63,7 +63,7 @@ fn typed(command: &str) -> Output {
 #[cfg(unix)]
 #[test]
 fn the_commands_are_true() {
-    let mut runs = Vec::new();
+    let (mut performed, mut run_programs) = (Vec::new(), Vec::new());
     for number in 1..=20 {
         let text = printed(run(&["why", &number.to_string()]));
         for (command, line) in commands(&text) {
@@ -72,11 +72,15 @@ fn the_commands_are_true() {
             let said = [output.stdout, output.stderr].concat();
             assert_eq!(String::from_utf8(said).unwrap(), line, "{command}");
             if command.contains("./hogvax perform ") {
-                runs.push(number);
+                performed.push(number);
+            }
+            if command.contains("./hogvax run ") {
+                run_programs.push(number);
             }
         }
     }
-    assert_eq!(runs, [14, 15, 16, 17, 18, 19]);
+    assert_eq!(performed, [14, 15, 16, 17, 18, 19]);
+    assert_eq!(run_programs, [11, 14, 17]);
 }
 
 /// The example of 13, which this command never meets.

@@ -19,7 +19,7 @@ pub fn check(lent: &mut Lent, tree: &Tree, computed: &Computed, behind: &[u8]) {
         units,
         read: tokens.len(),
         written: bytes.len(),
-        word: (number as u32).into(),
+        word: i64::from(number) as u64,
         output: [&bytes[..], &vec![FILLER; behind.len()]].concat(),
     };
     assert_eq!(lent.perform(&case), expected, "{case:?}");

@@ -40,7 +40,7 @@ impl Gave {
             units: ran.units,
             read: ran.read,
             written: ran.written,
-            word: (ran.number as u32).into(),
+            word: i64::from(ran.number) as u64,
             output,
         }
     }
@@ -53,7 +53,7 @@ impl Gave {
             units: self.units,
             read: self.read,
             written: self.written,
-            number: self.word as u32 as i32,
+            number: self.word as i32,
         }
     }
 

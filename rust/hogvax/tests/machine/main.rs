@@ -9,6 +9,7 @@ mod gave;
 mod inputs;
 mod known;
 mod lengths;
+mod numbers;
 mod random;
 mod space;
 mod trees;

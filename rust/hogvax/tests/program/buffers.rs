@@ -44,26 +44,11 @@ fn one_of_each(call: &Call) -> Vec<(Vec<u8>, Answer)> {
 
 // Buffers
 
-/// 13 where the buffer is too short, by one byte or by all.
-fn check_lengths(call: &Call, input: &[u8], step: usize) {
-    let answer = (call.safe)(input);
-    let need = answer.as_ref().unwrap().len();
-    let few = (0..need + 40).step_by(step);
-    let near = need.saturating_sub(9)..need + 9;
-    for length in few.chain(near).chain([0, LONG]) {
-        if length < need {
-            call.assert_lent(input, length, &refused(13, 0));
-        } else {
-            call.assert_lent(input, length, &answer);
-        }
-    }
-}
-
 #[test]
 fn buffers_of_every_length() {
     for records in some_records(131, &[3, 10, 63, 64, 127]) {
-        check_lengths(&PACK, &records, 1);
-        check_lengths(&UNPACK, &lay_out(&records), 1);
+        PACK.assert_lengths(&records, 1);
+        UNPACK.assert_lengths(&lay_out(&records), 1);
     }
 }
 
@@ -75,8 +60,8 @@ fn buffers_for_every_number_of_blocks() {
         .iter()
         .chain(&some_records(133, &[1_057]))
     {
-        check_lengths(&PACK, records, 512);
-        check_lengths(&UNPACK, &lay_out(records), 504);
+        PACK.assert_lengths(records, 512);
+        UNPACK.assert_lengths(&lay_out(records), 504);
     }
 }
 
@@ -85,13 +70,7 @@ fn every_refusal_comes_before_short_buffers() {
     for call in [&PACK, &UNPACK] {
         for (input, answer) in one_of_each(call) {
             for length in [0, 1, 8, 511, 512, 513, 1_023] {
-                let short = answer.as_ref().is_ok_and(|bytes| length < bytes.len());
-                let answer = if short {
-                    refused(13, 0)
-                } else {
-                    answer.clone()
-                };
-                call.assert_lent(&input, length, &answer);
+                call.assert_length(&input, length, &answer);
             }
         }
     }
@@ -101,33 +80,18 @@ fn every_refusal_comes_before_short_buffers() {
 fn a_buffer_may_be_much_longer() {
     for call in [&PACK, &UNPACK] {
         for (input, answer) in one_of_each(call) {
-            let mut buffer = vec![0xaa; 1_000_000];
-            let number = (call.into)(&input, &mut buffer, &mut [0; 2]);
-            assert_eq!(number == 0, answer.is_ok());
-            let bytes = answer.unwrap_or_default();
-            assert!(buffer.starts_with(&bytes));
-            assert!(buffer[bytes.len()..].iter().all(|&byte| byte == 0xaa));
+            call.assert_much_longer(&input, &answer);
         }
     }
 }
 
 // Answers
 
-/// Before all other refusals, and whatever the buffer.
 #[test]
 fn an_answer_takes_two_places() {
     for call in [&PACK, &UNPACK] {
         for (input, _) in one_of_each(call) {
-            for length in [0, 512, LONG] {
-                for places in 0..2 {
-                    let mut buffer = BEFORE[..length].to_vec();
-                    let mut answer = [UNTOUCHED; 2];
-                    let number = (call.into)(&input, &mut buffer, &mut answer[..places]);
-                    assert_eq!(number, 13);
-                    assert_eq!(answer, [UNTOUCHED; 2]);
-                    assert!(buffer == BEFORE[..length]);
-                }
-            }
+            call.assert_takes_two_places(&input);
         }
     }
 }
@@ -136,19 +100,7 @@ fn an_answer_takes_two_places() {
 fn an_answer_fills_two_places_and_leaves_the_rest() {
     for call in [&PACK, &UNPACK] {
         for (input, answer) in one_of_each(call) {
-            for (length, answer) in [(LONG, &answer), (0, &answer.clone().and(refused(13, 0)))] {
-                for places in [2, 3, 100] {
-                    let mut buffer = BEFORE[..length].to_vec();
-                    let mut numbers = vec![UNTOUCHED; places];
-                    let number = (call.into)(&input, &mut buffer, &mut numbers);
-                    let told = match answer {
-                        Ok(bytes) => (0, 0, bytes.len() as u64),
-                        Err(refused) => (refused.number, refused.place, 0),
-                    };
-                    assert_eq!((number, numbers[0], numbers[1]), told);
-                    assert!(numbers[2..].iter().all(|&word| word == UNTOUCHED));
-                }
-            }
+            call.assert_fills_two_places(&input, &answer);
         }
     }
 }

@@ -1,7 +1,7 @@
 //! Files with a byte changed, and files and records of other lengths.
 
 use reference::generate::{self, programs};
-use reference::{mend_checks, Random};
+use reference::{mend_checks, shown, Random};
 
 use super::*;
 

@@ -2,7 +2,7 @@
 //! once, and at random.
 
 use reference::generate::{self, programs, FileDamage, RecordDamage};
-use reference::{lay_out, Random};
+use reference::{lay_out, Random, Refusal};
 
 use super::*;
 

@@ -10,6 +10,10 @@ use crate::random::Random;
 use super::label;
 use super::programs::counts;
 
+mod at;
+
+pub(super) use at::At;
+
 /// So many tree names can be told by a byte.
 const NAME_LIMIT: usize = 256;
 
@@ -25,42 +29,6 @@ const WORDS_FOR_A_NUMBER: usize = 15;
 struct Signature {
     tree_valued: bool,
     parameters: u8,
-}
-
-/// Where an expression stands: its context, the number of trees pending
-/// behind those that it is to take, and about how many records it may have.
-#[derive(Clone, Copy)]
-struct At {
-    context: Context,
-    behind: usize,
-    size: usize,
-}
-
-impl At {
-    /// A number part with so many more words.
-    fn number(self, words: usize) -> At {
-        let mut at = self;
-        at.context.tree = false;
-        at.context.words += words;
-        at
-    }
-
-    /// A part where a number more is bound.
-    fn one_more_number(self) -> At {
-        let mut at = self;
-        at.context.numbers += 1;
-        at.context.words += 1;
-        at
-    }
-
-    fn behind(self, more: usize) -> At {
-        let behind = self.behind + more;
-        At { behind, ..self }
-    }
-
-    fn size(self, size: usize) -> At {
-        At { size, ..self }
-    }
 }
 
 /// A program of any size.
@@ -81,11 +49,23 @@ pub fn any_program(random: &mut Random) -> Program {
 
 /// A program with so many functions and about so many nodes, at most 1,024.
 pub fn program(random: &mut Random, functions: usize, nodes: usize) -> Program {
+    by_bodies(random, functions, nodes, |maker, at| {
+        maker.expression(at, &[0])
+    })
+}
+
+/// As `program`, with bodies that `body` makes; each takes tree 0.
+pub(super) fn by_bodies(
+    random: &mut Random,
+    functions: usize,
+    nodes: usize,
+    body: impl Fn(&mut Maker, At) -> Expr,
+) -> Program {
     let signatures = signatures(random, functions);
     let mut nodes = nodes;
     loop {
         let sizes = counts(random, nodes.max(functions), functions);
-        let program = of_sizes(random, &signatures, &sizes);
+        let program = of_sizes(random, &signatures, &sizes, &body);
         if program.nodes() <= NODE_LIMIT {
             return program;
         }
@@ -110,7 +90,12 @@ fn signatures(random: &mut Random, functions: usize) -> Vec<Signature> {
     (0..functions).map(signature).collect()
 }
 
-fn of_sizes(random: &mut Random, signatures: &[Signature], sizes: &[usize]) -> Program {
+fn of_sizes(
+    random: &mut Random,
+    signatures: &[Signature],
+    sizes: &[usize],
+    body: impl Fn(&mut Maker, At) -> Expr,
+) -> Program {
     let function = |(signature, &size): (&Signature, &usize)| {
         let at = At {
             context: Context::of_body(signature.tree_valued, signature.parameters),
@@ -120,14 +105,14 @@ fn of_sizes(random: &mut Random, signatures: &[Signature], sizes: &[usize]) -> P
         Function {
             tree_valued: signature.tree_valued,
             parameters: signature.parameters,
-            body: Maker { random, signatures }.expression(at, &[0]),
+            body: body(&mut Maker { random, signatures }, at),
         }
     };
     Program::new(signatures.iter().zip(sizes).map(function).collect())
 }
 
-struct Maker<'a> {
-    random: &'a mut Random,
+pub(super) struct Maker<'a> {
+    pub(super) random: &'a mut Random,
     signatures: &'a [Signature],
 }
 
@@ -146,7 +131,7 @@ impl Maker<'_> {
     }
 
     /// An expression that takes exactly these trees.
-    fn expression(&mut self, at: At, names: &[usize]) -> Expr {
+    pub(super) fn expression(&mut self, at: At, names: &[usize]) -> Expr {
         let kinds = self.kinds(at, names);
         if kinds.is_empty() || at.size < 2 + 2 * names.len() {
             return self.short(at, names);
@@ -248,7 +233,7 @@ impl Maker<'_> {
 
     /// The node part may have most of the records, so that many trees come to
     /// be pending.
-    fn case(&mut self, at: At, names: &[usize]) -> Expr {
+    pub(super) fn case(&mut self, at: At, names: &[usize]) -> Expr {
         let sizes = self.sizes(at, 2);
         let size = self.random.pick(&[1, sizes[0]]);
         let rest = &names[1..];

@@ -11,7 +11,7 @@ mod effects;
 mod limits;
 pub mod programs;
 mod refusals;
-mod text;
+pub(crate) mod text;
 mod unused;
 mod worked;
 

@@ -6,7 +6,7 @@ use crate::tree::{refuse, Refusal};
 
 mod depth;
 mod pending;
-mod text;
+pub(crate) mod text;
 mod traps;
 mod words;
 mod worked;

@@ -105,6 +105,6 @@ pub(super) fn instruction(text: &str) -> Instruction {
     }
 }
 
-pub(super) fn parsed<T: FromStr>(word: &str) -> T {
+pub(crate) fn parsed<T: FromStr>(word: &str) -> T {
     word.parse().unwrap_or_else(|_| panic!("no number: {word}"))
 }

@@ -72,7 +72,7 @@ fn known(line: &'static str) -> Known {
 }
 
 /// What follows this word in its item of a list.
-fn field<'a>(text: &'a str, word: &str) -> Option<&'a str> {
+pub(crate) fn field<'a>(text: &'a str, word: &str) -> Option<&'a str> {
     let mut items = text.split(", ").filter_map(|item| item.split_once(' '));
     items.find(|item| item.0 == word).map(|item| item.1)
 }
@@ -111,7 +111,7 @@ fn mark(text: &str) -> Mark {
     Mark { opcode, cause }
 }
 
-fn bytes(text: &str) -> Vec<u8> {
+pub(crate) fn bytes(text: &str) -> Vec<u8> {
     let runs = text.split_whitespace().map(|word| {
         let (byte, count) = word.split_once('*').unwrap_or((word, "1"));
         let byte = u8::from_str_radix(byte, 16).unwrap_or_else(|_| panic!("no byte: {word}"));
@@ -121,7 +121,7 @@ fn bytes(text: &str) -> Vec<u8> {
 }
 
 /// Instructions, worked programs by name, and single bytes.
-fn code(text: &str) -> Vec<u8> {
+pub(crate) fn code(text: &str) -> Vec<u8> {
     let items = text.split(", ").filter(|item| !item.is_empty());
     items.map(code_item).collect::<Vec<_>>().concat()
 }

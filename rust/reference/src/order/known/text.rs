@@ -35,7 +35,7 @@ fn known(line: &'static str) -> Known {
 
 /// Functions with `/` between them: the result, the number parameters if there
 /// are any, `:` and the records.
-fn program(text: &str) -> Program {
+pub(crate) fn program(text: &str) -> Program {
     let split = |function: &'_ str| {
         let (head, body) = function.split_once(':').expect("a result and a body");
         let (head, body) = (head.trim().to_owned(), body.trim().to_owned());
@@ -66,7 +66,7 @@ fn expression(text: &str, parameters: &[u8]) -> Expr {
 fn record(text: &str) -> Record {
     let words: Vec<&str> = text.split(' ').collect();
     let (kind, a, b, i) = match words[..] {
-        ["Const", i] => (kind::CONST, 0, 0, byte(i)),
+        ["Const", i] => (kind::CONST, 0, 0, number(i)),
         ["Var", a] => (kind::VAR, byte(a), 0, 0),
         ["Add"] => (kind::ADD, 0, 0, 0),
         ["IfZero"] => (kind::IF_ZERO, 0, 0, 0),
@@ -81,8 +81,12 @@ fn record(text: &str) -> Record {
         kind,
         a,
         b: b.into(),
-        i: i.into(),
+        i: i as u32,
     }
+}
+
+fn number(word: &str) -> i32 {
+    word.parse().unwrap_or_else(|_| panic!("no number: {word}"))
 }
 
 fn byte(word: &str) -> u8 {

@@ -1,0 +1,77 @@
+//! `run PROGRAM [FILE]`: what a program gives.
+
+use std::ffi::OsString;
+
+use hogvax::Ran;
+
+use crate::outcome::Outcome;
+use crate::stream::StreamRun;
+use crate::verbs::Verb;
+
+pub const VERB: Verb = Verb {
+    name: "run",
+    operands: "PROGRAM [FILE]",
+    options: "[--fuel N] [--space M] [--most-space M] [--out FILE] [--partial]",
+    summary: "what a program gives on a token file",
+    description: "\
+Checks the program of a program file, translates it and runs its code over the
+token bytes of FILE. A tree that the program gives goes to standard output or
+into the file of --out, as tokens; a number goes there as text, on a line of its
+own. On standard error it prints 'ended units U read R written W number X': the
+instructions performed, the bytes read and written, and the number, 0 if the
+program gives a tree. A run reads one tree, which begins FILE; bytes after that
+tree are not looked at.
+
+If the program or the run is refused, it writes no data and prints 'refused
+NUMBER PLACE units U read R written W number 0' on standard error. The number is
+1 to 12 if the program is refused, as in 'hogvax help check', and all counts are
+0. It is 14 to 18 if the run is, and the place is then the bytes read. 'hogvax
+why NUMBER' says more. With --partial it still writes what the run wrote before
+the refusal.
+
+N is how many instructions may be performed. Without --fuel it is the most that
+there can be, 18446744073709551615: a program that is checked always ends, or is
+refused.
+
+With --space the output has room for M bytes. Without, it has room for 1 MiB or
+twice the input, whichever is more; where that is too little the run is made
+again with twice as much, up to the M bytes of --most-space, 1073741824 (1 GiB)
+if that is left out.
+
+PROGRAM or FILE may be standard input, '-', but not both.
+
+Example:
+  $ ./hogvax run samples/programs/sum.program samples/small.tokens
+  12
+  ended units 17 read 11 written 0 number 12
+",
+    run,
+};
+
+/// A longer file than the longest is 1 at 0, so one byte more tells all.
+const RUN: StreamRun = StreamRun {
+    name: "PROGRAM",
+    longest: hogvax::LONGEST_FILE + 1,
+    fuel: |given| Ok(given.unwrap_or(u64::MAX)),
+    call: hogvax::run_in,
+    data,
+};
+
+fn run(words: &[OsString]) -> Option<Outcome> {
+    RUN.run(words)
+}
+
+/// The tree's tokens, or the number on a line of its own.
+fn data(program: &[u8], ran: &Ran, written: Vec<u8>) -> Vec<u8> {
+    if gives_a_number(program) {
+        format!("{}\n", ran.number).into_bytes()
+    } else {
+        written
+    }
+}
+
+/// What function 0 of a program file gives is in the first byte of its record,
+/// which is record 1.
+fn gives_a_number(program: &[u8]) -> bool {
+    program[8] == 0
+}

@@ -1,29 +1,36 @@
 -- What the exported functions answer, a law for each way out of them.
-use Prim.Native.Nat.{ℕ}
+use Prim.Native.Nat.{ℕ, _≤_}
 use mathlib.Core.Bool.{Bool, true, false, not}
 use mathlib.Core.List.{List}
-use mathlib.Core.Path.{_≡_, refl, sym, _∙_}
+use mathlib.Core.Path.{_≡_, refl, sym, ap, _∙_}
 use native.Mathlib.Omega.{arith}
 use borrow.Author.Tests.{not-true, not-false, leb-true, leb-false, lt-ltb, le-ltb}
 use lib.Dec.{leb}
-use lib.ListN.{length}
+use lib.ListN.{length, take}
+use Rattle.formats.specs.Numbers.{Bytes}
 use Rattle.formats.specs.Refusals.{spaceTooShort}
 use Rattle.formats.specs.Results.{Result, onValue}
 use Rattle.refusal.specs.Put.{answered, Put}
+use Rattle.refusal.specs.Number.{number}
+use Rattle.refusal.specs.declared.Refusal.{Refusal}
 use Rattle.refusal.specs.declared.Filled.{Filled}
+use Rattle.refusal.specs.declared.Filled.the-variants.{Written, Refused}
 use Rattle.refusal.specs.Said.{said}
 use Rattle.refusal.specs.declared.Verdict.{Verdict}
 use Rattle.tree.specs.Answer.{answered as treeAnswered}
 use Rattle.tree.specs.declared.TreeAnswer.{TreeAnswer}
 use Rattle.answers.specs.Answer.{answerPlaces, Answers}
 use Rattle.answers.proofs.Laws.{too-few}
-use Rattle.meaning.specs.Running.{Ran}
+use Rattle.meaning.specs.Running.{Ran, streamRun}
 use Rattle.machine.specs.declared.Answer.{Answer}
 use Rattle.machine.specs.Told.{answered as runAnswered, Performed}
 use Rattle.run_answers.specs.RunAnswer.{runPlaces, Answers as RunAnswers}
 use Rattle.run_answers.proofs.Laws.{run-too-few}
 use Rattle.hogvax_c.specs.Fills.{Fills}
-use Rattle.runner.specs.Runs.{Runs as RunnerRuns}
+use Rattle.translation.specs.Calls.{Called, prepared, refusedBefore, runFile}
+use Rattle.translation.proofs.Calls.{this-call}
+use Rattle.runner.proofs.Laws.{is-run, run-inside}
+use Rattle.runner.proofs.Laws.{not-run as runner-not-run}
 use Rattle.hogvax_c.specs.Runs.{Runs}
 use Rattle.hogvax_c.specs.RunsFile.{RunsFile}
 
@@ -106,23 +113,48 @@ module _ (file input output code values returns before : List ℕ) (fuel r : ℕ
         demand-3 = λ enough. absurd (omega arith);
       }
 
-  -- what was run is told
-  pub file-told :
-      (output′ code′ values′ returns′ after : List ℕ) (ran : Answer)
-      → not room ≡ false
-      → RunnerRuns file input output output′ code code′ values values′ returns returns′ fuel ran
-      → RunAnswers (runAnswered ran) before after r
-      → RunsFile file input output output′ code code′ values values′ returns returns′ before after fuel r
-  file-told output′ code′ values′ returns′ after ran u p a =
-      let h = leb-true runPlaces (length before) (sym test ∙ not-false room u) in
-      record {
-        answers = rw (← (p .answer)) a;
-        output-holds = rw (le-ltb _ _ h) (p .output-is);
-        code-holds = rw (le-ltb _ _ h) (p .code-is);
-        not-run = λ few. absurd (omega arith);
-        values-length = p .values-length;
-        returns-length = p .places-length;
-        demand-3 = λ enough program ready t rest labelled is. rw (← (p .answer)) (p .demand-3 program ready t rest labelled is);
-      }
+  module _ (file-bytes : Bytes file) (u : not room ≡ false) (laid : Filled) (code′ : List ℕ)
+      (put : Put (prepared (length code) (length values) (length returns) file) code code′ laid) where
+    -- there are places enough
+    enough-places : runPlaces ≤ length before
+    enough-places = leb-true runPlaces (length before) (sym test ∙ not-false room u)
 
-pub ruleset file-ways = (file-not-run, file-told)
+    -- what the definition gives is told, and carries demand 3
+    told-as : (output′ values′ returns′ after : List ℕ) (due : Called)
+        → runFile file input output code fuel (length values) (length returns) ≡ due
+        → RunAnswers (due .answer) before after r
+        → output′ ≡ due .output
+        → code′ ≡ due .code
+        → length values′ ≡ length values
+        → length returns′ ≡ length returns
+        → RunsFile file input output output′ code code′ values values′ returns returns′ before after fuel r
+    told-as output′ values′ returns′ after due is a out held lv lr =
+        let out′ = out ∙ ap (λ (q : Called). q .output) (sym is) in
+        record {
+          answers = rw (ap (λ (q : Called). q .answer) is) a;
+          output-holds = rw (le-ltb _ _ enough-places) out′;
+          code-holds = rw (le-ltb _ _ enough-places) (held ∙ ap (λ (q : Called). q .code) (sym is));
+          not-run = λ few. absurd (omega (arith, enough-places));
+          values-length = lv;
+          returns-length = lr;
+          demand-3 = λ enough program ready t rest labelled opens.
+              this-call file code (length values) (length returns) file-bytes program ready input output fuel _ output′ refl out′ t rest labelled opens;
+        }
+
+    -- refused before the run
+    pub file-refused : (after : List ℕ) (ran : Answer) (why : Refusal) (place : ℕ) → laid ≡ Refused why place → runAnswered ran ≡ refusedBefore (number why) place
+        → RunAnswers (runAnswered ran) before after r
+        → RunsFile file input output output code code′ values values returns returns before after fuel r
+    file-refused after ran why place is answer a =
+        let n = runner-not-run file code (length values) (length returns) laid code′ put input output fuel why place is in
+        told-as output values returns after _ (n .gives) (rw answer at a) refl (n .still) refl refl
+
+    -- the run
+    pub file-run : (output′ values′ returns′ after : List ℕ) (bytes : ℕ) → laid ≡ Written bytes
+        → Runs (streamRun (take bytes code′) input output fuel (length values) (length returns)) output output′ values values′ returns returns′ before after r
+        → RunsFile file input output output′ code code′ values values′ returns returns′ before after fuel r
+    file-run output′ values′ returns′ after bytes is p =
+        told-as output′ values′ returns′ after _ (is-run file code (length values) (length returns) laid code′ put input output fuel bytes is)
+        (p .answers) (rw (le-ltb _ _ enough-places) at (p .holds)) refl (p .values-length) (p .returns-length)
+
+pub ruleset file-ways = (file-not-run, file-refused, file-run, run-inside)

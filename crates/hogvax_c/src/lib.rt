@@ -1,4 +1,5 @@
 // What C and Rust programs link: thin functions over the proved calls. A slice passes as a pointer and a length.
+use refusal::Filled;
 use refusal::Refusal;
 ghost use mathlib.Core.Path.{_≡_};
 ghost use lib.ListN.{length};
@@ -109,9 +110,10 @@ pub extern "C" fn hogvax_translate(file: &[u8], code: &mut [u8], answer: &mut [u
     answers::tell(filled, answer)
 }
 
-// Checks, translates and runs the program of a file. The answer is that of `hogvax_perform`. Every refusal of the file, of both passes and 13 comes
-// before code is written; then the code goes to the start of `code` and stays. Refused before its first instruction, a call leaves `output` and `code`
-// untouched. With fewer than five places in `answer`: 13, and all buffers are untouched.
+// Checks, translates and runs the program of a file, as `runner::run` does. The answer is that of `hogvax_perform`. Every refusal of the file, of both
+// passes and 13 comes before code is written; then the code goes to the start of `code` and stays. Refused before its first instruction, a call leaves
+// `output` and `code` untouched. With fewer than five places in `answer`: 13, and all buffers are untouched. The run is a call of `hogvax_perform`, so that
+// the library has the run's loop once, in a function whose slices come in registers.
 #[no_mangle]
 pub extern "C" fn hogvax_run(
     file: &[u8],
@@ -128,6 +130,13 @@ pub extern "C" fn hogvax_run(
     if !run_answers::has_room(answer) {
         return refusal::number_of(Refusal::SpaceTooShort);
     }
-    let ran = runner::run(file, input, fuel, output, code, values, returns);
-    run_answers::tell_run(ran, answer)
+    let laid = runner::prepare(file, code, values.len(), returns.len());
+    match laid {
+        Filled::Refused(why, place) => {
+            run_answers::tell_run(runner::refused(why, place), answer)
+        }
+        Filled::Written(bytes) => {
+            hogvax_perform(&code[..bytes], input, fuel, output, values, returns, answer)
+        }
+    }
 }

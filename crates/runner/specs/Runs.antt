@@ -1,16 +1,18 @@
 -- What a call of the runner gives, and demand 3 about this very call.
 use Prim.Native.Nat.{ℕ}
+use mathlib.Core.Bool.{false, _&&_}
 use mathlib.Core.List.{List, _++_}
 use mathlib.Core.Path.{_≡_}
+use lib.Dec.{leb}
 use lib.ListN.{length}
-use Rattle.formats.specs.Refusals.{spaceTooShort}
-use Rattle.formats.specs.Results.{done, refusal}
 use Rattle.formats.specs.Tokens.{Tree, Labelled, tokens}
 use Rattle.formats.specs.Programs.{Program}
-use Rattle.rules.specs.PassTwo.{checkFile}
+use Rattle.refusal.specs.Put.{Put}
+use Rattle.refusal.specs.declared.Filled.{Filled}
+use Rattle.meaning.specs.Running.{valueWords, returnWords}
 use Rattle.machine.specs.Told.{answered}
 use Rattle.machine.specs.declared.Answer.{Answer}
-use Rattle.translation.specs.Calls.{refusedBefore, runFile, Ready}
+use Rattle.translation.specs.Calls.{prepared, runFile, Ready}
 use Rattle.translation.specs.ThisCall.{ThisCall, AnyCall}
 
 -- The call's answer `r`, and its buffers: unprimed at entry, primed at exit. The first three fields say the whole answer, every byte of the output and
@@ -32,7 +34,6 @@ pub record Runs (file input output output′ code code′ values values′ place
   -- and on any input, trees or not
   pub any-input : (program : Program) → Ready file code (length values) (length places) program → AnyCall program input output (answered r) output′
 
--- The answer where work words are missing: the first refusal of the file, else 13. (A code buffer that is too short besides is 13 too.)
-pub record TooFewWords (file : List ℕ) (r : Answer) : Type 0 where
-  pub refused : (number place : ℕ) → checkFile file ≡ refusal number place → answered r ≡ refusedBefore number place
-  pub short : checkFile file ≡ done tt → answered r ≡ refusedBefore spaceTooShort 0
+-- What a call is refused with where work words are missing, however long its code buffer is.
+pub record TooFewWords (file : List ℕ) (r : Filled) : Type 0 where
+  pub is : (code : List ℕ) (values places : ℕ) → (leb valueWords values && leb returnWords places) ≡ false → Put (prepared (length code) values places file) code code r

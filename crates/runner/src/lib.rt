@@ -4,9 +4,11 @@ use refusal::Filled;
 use refusal::Refusal;
 use refusal::Verdict;
 ghost use mathlib.Core.Path.{_≡_};
+ghost use lib.ListN.{length};
 ghost use Rattle.refusal.specs.Number.{number};
+ghost use Rattle.refusal.specs.Put.{Put};
 ghost use Rattle.machine.specs.Told.{answered};
-ghost use Rattle.translation.specs.Calls.{refusedBefore};
+ghost use Rattle.translation.specs.Calls.{prepared, refusedBefore};
 ghost use Rattle.runner.specs.Runs.{Runs, TooFewWords};
 
 // The work words of a run.
@@ -14,8 +16,33 @@ const VALUE_WORDS: usize = 16384;
 
 const RETURN_WORDS: usize = 2048;
 
+// What a call is refused with where work words are missing: the file's own refusals come first.
+fn too_few_words(file: &[u8]) -> Filled
+    ensures { λ r. ⌜ TooFewWords (now (file .entry)) r ⌝ }
+{
+    let checked = order::check_file(file);
+    match checked {
+        Verdict::Refused(why, place) => Filled::Refused(why, place),
+        Verdict::Passed => Filled::Refused(Refusal::SpaceTooShort, 0),
+    }
+}
+
+// All that comes before a run that is lent so many value words and return words: the rows of the file, both passes, every 13, and then the program's
+// code is written to the start of `code`. A refusal leaves the buffer untouched.
+pub fn prepare(file: &[u8], code: &mut [u8], values: usize, places: usize) -> Filled
+    ensures { λ r. ⌜ Put (prepared (length (now (code .entry))) values places (now (file .entry))) (now (code .entry)) (now (code .exit)) r ⌝ }
+{
+    if values < VALUE_WORDS {
+        return too_few_words(file);
+    }
+    if places < RETURN_WORDS {
+        return too_few_words(file);
+    }
+    translate::translate_file(file, code)
+}
+
 // The answer of a call that is refused before its run.
-fn refused(why: Refusal, place: usize) -> Answer
+pub fn refused(why: Refusal, place: usize) -> Answer
     ensures { λ r. ⌜ answered r ≡ refusedBefore (number why) place ⌝ }
 {
     Answer {
@@ -27,19 +54,8 @@ fn refused(why: Refusal, place: usize) -> Answer
     }
 }
 
-// The answer where work words are missing: the file's own refusals come first.
-fn too_few_words(file: &[u8]) -> Answer
-    ensures { λ r. ⌜ TooFewWords (now (file .entry)) r ⌝ }
-{
-    let checked = order::check_file(file);
-    match checked {
-        Verdict::Refused(why, place) => refused(why, place),
-        Verdict::Passed => refused(Refusal::SpaceTooShort, 0),
-    }
-}
-
-// Runs the program of a file on an input: the rows of the file, both passes, every 13, and then the program's code, which goes to the start of `code`
-// and stays, is run. Its contract carries demand 3 about this very call.
+// Runs the program of a file on an input: what comes before a run, and then the run of the code, which stays in its buffer. Its contract carries
+// demand 3 about this very call.
 pub fn run(
     file: &[u8],
     input: &[u8],
@@ -51,13 +67,7 @@ pub fn run(
 ) -> Answer
     ensures { λ r. ⌜ Runs (now (file .entry)) (now (input .entry)) (now (output .entry)) (now (output .exit)) (now (code .entry)) (now (code .exit)) (now (values .entry)) (now (values .exit)) (now (places .entry)) (now (places .exit)) fuel r ⌝ }
 {
-    if values.len() < VALUE_WORDS {
-        return too_few_words(file);
-    }
-    if places.len() < RETURN_WORDS {
-        return too_few_words(file);
-    }
-    let laid = translate::translate_file(file, code);
+    let laid = prepare(file, code, values.len(), places.len());
     match laid {
         Filled::Refused(why, place) => refused(why, place),
         Filled::Written(bytes) => {

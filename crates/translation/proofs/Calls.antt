@@ -101,6 +101,19 @@ module _ (room values returns : ℕ) (file : List ℕ) where
   unfolding prepared
   prepared-code bytes e hv hr = then-done _ e ∙ (rw (le-leb valueWords values hv, le-leb returnWords returns hr))
 
+-- code that is prepared is the translator's
+pub record Prepared (room values returns : ℕ) (file bytes : List ℕ) : Type 0 where
+  pub code : translateFile room file ≡ done bytes
+  pub short-enough : length bytes ≤ room
+
+pub prepared-inv : (room values returns : ℕ) (file bytes : List ℕ) → prepared room values returns file ≡ done bytes → Prepared room values returns file bytes
+unfolding prepared
+prepared-inv room values returns file bytes e =
+    let t = then-inv (translateFile room file) _ bytes e in
+    let c = check-inv (leb valueWords values && leb returnWords returns) spaceTooShort 0 (t .value) bytes (t .second) in
+    let code : translateFile room file ≡ done bytes = t .first ∙ ap done (c .same) in
+    record { code = code; short-enough = has-room room file bytes code }
+
 -- ---- calls
 
 module _ (file input output code : List ℕ) (fuel values returns : ℕ) where

@@ -1,4 +1,4 @@
--- `runner::run` meets its contract: work words are missing, the translator refuses, or the code that it laid down is run.
+-- `runner::run` meets its contract: the call is refused before its run, or the code that was prepared is run.
 use borrow.Author.Needs.{needs}
 use denote.Ref.{now}
 use native.Mathlib.Omega.{arith}
@@ -12,26 +12,16 @@ pub run-spec : {M : Type 1} → statement M
 run-spec =
     tie.close
     (tie.spec
-    (λ c κs. search needs)
-    (λ c.
-    let file : Bytes (now (c .before .before .before .before .before .before .before .before .args .file)) = λ i. omega (arith, c .before .before .before .before .before .before .before .shared-slice-known .given i) in
-    let input : Bytes (now (c .before .before .before .before .before .before .before .before .args .input)) = λ i. omega (arith, c .before .before .before .before .before .before .shared-slice-known2 .given i) in
-    search run-ways)
-    (λ c κs. search needs)
-    (λ c.
-    let file : Bytes (now (c .before .before .before .before .before .before .before .before .before .args .file)) = λ i. omega (arith, c .before .before .before .before .before .before .before .before .shared-slice-known .given i) in
-    let input : Bytes (now (c .before .before .before .before .before .before .before .before .before .args .input)) = λ i. omega (arith, c .before .before .before .before .before .before .before .shared-slice-known2 .given i) in
-    search run-ways)
     (λ c κs. search needs) (λ c. search needs) (λ c κs. search needs) (λ c. search needs)
     (λ c. search (needs, run-ways))
     (λ c. search (needs, length-take-le, run-ways))
     (λ c κs. search needs) (λ c. search needs)
     (λ c.
-    let file : Bytes (now (c .before .before .before .before .before .before .before .before .before .before .before .before .before .before .before .before .args .file)) = λ i. omega (arith, c .before .before .before .before .before .before .before .before .before .before .before .before .before .before .before .shared-slice-known .given i) in
-    let input : Bytes (now (c .before .before .before .before .before .before .before .before .before .before .before .before .before .before .before .before .args .input)) = λ i. omega (arith, c .before .before .before .before .before .before .before .before .before .before .before .before .before .before .shared-slice-known2 .given i) in
+    let file : Bytes (now (c .before .before .before .before .before .before .before .before .before .before .before .before .before .before .args .file)) = λ i. omega (arith, c .before .before .before .before .before .before .before .before .before .before .before .before .before .shared-slice-known .given i) in
+    let input : Bytes (now (c .before .before .before .before .before .before .before .before .before .before .before .before .before .before .args .input)) = λ i. omega (arith, c .before .before .before .before .before .before .before .before .before .before .before .before .shared-slice-known2 .given i) in
     search run-ways)
     (λ c. search needs) (λ c. search needs) (λ c. search needs) (λ c. search needs)
     (λ c.
-    let file : Bytes (now (c .before .before .before .before .before .before .before .before .before .before .before .before .before .before .before .before .before .before .before .before .before .before .before .before .before .before .args .file)) = λ i. omega (arith, c .before .before .before .before .before .before .before .before .before .before .before .before .before .before .before .before .before .before .before .before .before .before .before .before .before .shared-slice-known .given i) in
-    let input : Bytes (now (c .before .before .before .before .before .before .before .before .before .before .before .before .before .before .before .before .before .before .before .before .before .before .before .before .before .before .args .input)) = λ i. omega (arith, c .before .before .before .before .before .before .before .before .before .before .before .before .before .before .before .before .before .before .before .before .before .before .before .before .shared-slice-known2 .given i) in
+    let file : Bytes (now (c .before .before .before .before .before .before .before .before .before .before .before .before .before .before .before .before .before .before .before .before .before .before .before .before .args .file)) = λ i. omega (arith, c .before .before .before .before .before .before .before .before .before .before .before .before .before .before .before .before .before .before .before .before .before .before .before .shared-slice-known .given i) in
+    let input : Bytes (now (c .before .before .before .before .before .before .before .before .before .before .before .before .before .before .before .before .before .before .before .before .before .before .before .before .args .input)) = λ i. omega (arith, c .before .before .before .before .before .before .before .before .before .before .before .before .before .before .before .before .before .before .before .before .before .before .shared-slice-known2 .given i) in
     search run-ways))

@@ -8,6 +8,6 @@ pub too-few-words-spec : {M : Type 1} → statement M
 too-few-words-spec =
     tie.close
     (tie.spec
-    (λ c κs. search needs) (λ c. search needs) (λ c κs. search needs) (λ c. search needs) (λ c κs. search needs)
+    (λ c κs. search needs) (λ c. search needs) (λ c. search needs)
     (λ c. search words-ways)
     (λ c. search words-ways))

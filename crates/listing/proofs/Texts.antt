@@ -1,0 +1,132 @@
+-- The listing's whole text, or the refusal's.
+use Prim.Native.Nat.{ℕ, _+_, _*_, _≤_}
+use mathlib.Core.List.{List, _++_}
+use mathlib.Core.Path.{_≡_, sym, ap, _∙_}
+use native.Mathlib.Omega.{arith}
+use lib.ListN.{length, take, drop, length-append}
+use lib.Seq.{take-at}
+use mir.Syntax.{w64}
+use mir.Val.{Fits}
+use mir.Facts.{fits-lt-pow}
+use Rattle.formats.specs.Results.{done, refusal}
+use Rattle.formats.specs.Blocks.{lent}
+use Rattle.formats.specs.Written.{written}
+use Rattle.formats.proofs.Results.{value-inv, value-refused}
+use Rattle.formats.proofs.Written.{wrote, written-fits}
+use Rattle.refusal.specs.Number.{number}
+use Rattle.refusal.specs.Put.{answered, Put}
+use Rattle.refusal.specs.declared.Refusal.{Refusal}
+use Rattle.refusal.specs.declared.Filled.{Filled}
+use Rattle.refusal.specs.declared.Filled.the-variants.{Written, Refused}
+use Rattle.translation.specs.Calls.{translateFile}
+use Rattle.translation.specs.Listing.{refused, linesFrom, instructionsIn, listingOf, listing}
+use Rattle.translation.proofs.Calls.{has-room}
+use Rattle.listing.specs.Text.{newline, space, field, linesText, codeWord, refusedWord, text}
+use Rattle.listing.specs.Shown.{longestLine, mostCode, mostText, Puts}
+use Rattle.listing.proofs.Putting.{put-both, put-length}
+use Rattle.listing.proofs.Lines.{field-length}
+
+-- a word at the start
+word-put : (s t word : List ℕ) → length word ≤ length s → t ≡ written s 0 word → Puts s t 0 word (length word)
+word-put s t word room is = record {
+  buffer = is;
+  behind = omega arith;
+  inside = omega (arith, ap length is, wrote s 0 word .same-length);
+}
+
+-- ---- `put_refusal`
+
+module _ (s t : List ℕ) (n place : ℕ) (big : mostText ≤ length s) (is : t ≡ written s 0 refusedWord) where
+  refused-length : length t ≡ length s
+  refused-length = ap length is ∙ wrote s 0 refusedWord .same-length
+
+  pub number-room : Fits w64 n → 8 + length (field n space) ≤ length t
+  number-room fits = omega (arith, refused-length, field-length 19 n space (omega (arith, fits-lt-pow fits)))
+
+  module _ (u : List ℕ) (q : ℕ) (put : Puts t u 8 (field n space) q) where
+    pub place-room : Fits w64 n → Fits w64 place → q + length (field place newline) ≤ length u
+    place-room fits fits′ =
+        omega (
+          arith,
+          refused-length,
+          put .behind,
+          put-length t u 8 _ q put,
+          field-length 19 n space (omega (arith, fits-lt-pow fits)),
+          field-length 19 place newline (omega (arith, fits-lt-pow fits′)),
+        )
+
+    pub refusal-put : (v : List ℕ) (r : ℕ) → Puts u v q (field place newline) r → Puts s v 0 (text (refused n place)) r
+    unfolding text refusedWord
+    refusal-put v r last = put-both s t v 0 8 r _ _ (word-put s t refusedWord (omega arith) is) (put-both t u v 8 q r _ _ put last)
+
+pub ruleset refusal-ways = (number-room, place-room, refusal-put)
+
+-- ---- `put_code`
+
+module _ (s t code : List ℕ) (big : mostText ≤ length s) (short : length code ≤ mostCode) (is : t ≡ written s 0 codeWord) where
+  code-length : length t ≡ length s
+  code-length = ap length is ∙ wrote s 0 codeWord .same-length
+
+  count-length : length (field (instructionsIn code) newline) ≤ 5
+  unfolding instructionsIn
+  count-length = field-length 3 (instructionsIn code) newline (omega arith)
+
+  pub count-room : 5 + length (field (instructionsIn code) newline) ≤ length t
+  count-room = omega (arith, code-length, count-length)
+
+  module _ (u : List ℕ) (q : ℕ) (put : Puts t u 5 (field (instructionsIn code) newline) q) where
+    pub lines-room : q + longestLine * instructionsIn code ≤ length u
+    unfolding instructionsIn
+    lines-room = omega (arith, code-length, count-length, put .behind, put-length t u 5 _ q put)
+
+    pub code-put : (v : List ℕ) (r : ℕ) → Puts u v q (linesText (linesFrom code (instructionsIn code) 0)) r → Puts s v 0 (text (listingOf (done code))) r
+    unfolding text codeWord listingOf
+    code-put v r lines = put-both s t v 0 5 r _ _ (word-put s t codeWord (omega arith) is) (put-both t u v 5 q r _ _ put lines)
+
+pub ruleset code-ways = (count-room, lines-room, code-put)
+
+-- ---- `put_listing`
+
+module _ (file code after : List ℕ) (size : length code ≡ mostCode) (filled : Filled) (put : Put (translateFile (length code) file) code after filled) where
+  pub listing-refused : (s t : List ℕ) (r n : ℕ) (why : Refusal) (place : ℕ) → filled ≡ Refused why place → n ≡ number why
+      → Puts s t 0 (text (refused n place)) r → Puts s t 0 (text (listing file)) r
+  unfolding listing listingOf
+  listing-refused s t r n why place is told p =
+      let stop : translateFile (length code) file ≡ refusal (number why) place = value-refused length _ (number why) place (sym (put .answer) ∙ ap answered is) in
+      let due : listing file ≡ refused n place =
+      ap (λ room. listingOf (translateFile room file)) (sym size) ∙ ap listingOf stop ∙ ap (λ m. refused m place) (sym told) in
+      rw due p
+
+  -- the code, which stands at the start of its buffer
+  record Laid (bytes : ℕ) : Type 0 where
+    is : translateFile (length code) file ≡ done (take bytes after)
+    inside : bytes ≤ length after
+    short : length (take bytes after) ≤ mostCode
+
+  laid : (bytes : ℕ) → filled ≡ Written bytes → Laid bytes
+  unfolding lent
+  laid bytes e =
+      let v = value-inv length (translateFile (length code) file) bytes (sym (put .answer) ∙ ap answered e) in
+      let fits : 0 + length (v .value) ≤ length code = omega (arith, has-room (length code) file (v .value) (v .first)) in
+      let stands : after ≡ v .value ++ drop (0 + length (v .value)) code = put .buffer ∙ ap (lent code) (v .first) ∙ written-fits code 0 (v .value) fits in
+      let there : take bytes after ≡ v .value = ap (take bytes) stands ∙ take-at (v .value) _ bytes (v .second) in
+      record {
+        is = v .first ∙ ap done (sym there);
+        inside = omega (arith, ap length stands, length-append (v .value) (drop (0 + length (v .value)) code), v .second);
+        short = omega (arith, ap length there, size);
+      }
+
+  pub code-inside : (bytes : ℕ) → filled ≡ Written bytes → bytes ≤ length after
+  code-inside bytes e = laid bytes e .inside
+
+  pub code-short : (bytes : ℕ) → filled ≡ Written bytes → length (take bytes after) ≤ mostCode
+  code-short bytes e = laid bytes e .short
+
+  pub listing-put : (s t : List ℕ) (r bytes : ℕ) → filled ≡ Written bytes → Puts s t 0 (text (listingOf (done (take bytes after)))) r → Puts s t 0 (text (listing file)) r
+  unfolding listing
+  listing-put s t r bytes e p =
+      let due : listing file ≡ listingOf (done (take bytes after)) =
+      ap (λ room. listingOf (translateFile room file)) (sym size) ∙ ap listingOf (laid bytes e .is) in
+      rw due p
+
+pub ruleset listing-ways = (listing-refused, code-inside, code-short, listing-put)

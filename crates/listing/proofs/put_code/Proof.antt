@@ -1,0 +1,19 @@
+-- `listing::put_code` meets its contract: the word, the count and the lines are put one behind the other.
+use borrow.Author.Needs.{needs}
+use Rattle.translation.specs.Listing.{instructionsIn}
+use Rattle.listing.specs.Text.{codeWord}
+use Rattle.listing.proofs.Texts.{code-ways}
+use Rattle.listing.proofs.put_code.Statement.{statement}
+use Rattle.listing.proofs.put_code.Tie as tie
+
+pub put-code-spec : {M : Type 1} → statement M
+unfolding instructionsIn codeWord
+put-code-spec =
+    tie.close
+    (tie.spec
+    (λ c. search needs)
+    (λ c κs. search needs)
+    (λ c κs. search code-ways)
+    (λ c κs. search (needs, code-ways))
+    (λ c. search needs)
+    (λ c. search code-ways))

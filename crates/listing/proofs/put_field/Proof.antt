@@ -1,0 +1,8 @@
+-- `listing::put_field` meets its contract: the character is put behind the number.
+use borrow.Author.Needs.{needs}
+use Rattle.listing.proofs.Putting.{field-ways}
+use Rattle.listing.proofs.put_field.Statement.{statement}
+use Rattle.listing.proofs.put_field.Tie as tie
+
+pub put-field-spec : {M : Type 1} → statement M
+put-field-spec = tie.close (tie.spec (λ c κs. search field-ways) (λ c κs. search field-ways) (λ c. search needs) (λ c. search field-ways))

@@ -54,6 +54,12 @@ pub struct Scope {
     pub tree: bool,
 }
 
+// The addresses that items go to: where the last part begins, and what is behind the whole.
+pub struct Labels {
+    pub last: usize,
+    pub behind: usize,
+}
+
 // How many names there are.
 fn count(scope: Scope) -> usize
     ensures { λ r. ⌜ r ≡ min (scope .names) mostNames ⌝ }
@@ -200,8 +206,7 @@ fn end_opcode(tree: bool) -> u8
     SLIDE
 }
 
-// Lays down one item at an address, or nothing where it does not fit: with the entries of the functions, where the last part begins, and what is
-// behind the whole.
+// Lays down one item at an address, or nothing where it does not fit: with the entries of the functions and the addresses that items go to.
 fn lay_item(
     flat: &[u8],
     entries: &[u16],
@@ -209,10 +214,9 @@ fn lay_item(
     address: usize,
     item: Item,
     scope: Scope,
-    last: usize,
-    behind: usize,
+    labels: Labels,
 )
-    ensures { λ _. ⌜ now (code .exit) ≡ putAll (now (code .entry)) address (operationsFor (now (flat .entry)) (now (entries .entry)) scope last behind (itemOf item ∷ [])) ⌝ }
+    ensures { λ _. ⌜ now (code .exit) ≡ putAll (now (code .entry)) address (operationsFor (now (flat .entry)) (now (entries .entry)) scope (labels .last) (labels .behind) (itemOf item ∷ [])) ⌝ }
 {
     match item {
         Item::Push(i) => instruction::write_instruction(code, address, PUSH, 0, 0, i),
@@ -220,15 +224,15 @@ fn lay_item(
             instruction::write_instruction(code, address, GET, 0, word_of(scope, a) as usize, 0)
         }
         Item::Add => instruction::write_instruction(code, address, ADD, 0, 0, 0),
-        Item::Ifnot => instruction::write_instruction(code, address, IFNOT, 0, last, 0),
-        Item::Jump => instruction::write_instruction(code, address, JUMP, 0, behind, 0),
+        Item::Ifnot => instruction::write_instruction(code, address, IFNOT, 0, labels.last, 0),
+        Item::Jump => instruction::write_instruction(code, address, JUMP, 0, labels.behind, 0),
         Item::End => {
             instruction::write_instruction(code, address, end_opcode(scope.tree), 0, 0, 0)
         }
         Item::LeafTag => instruction::write_instruction(code, address, LEAF_TAG, 0, 0, 0),
         Item::NodeTag => instruction::write_instruction(code, address, NODE_TAG, 0, 0, 0),
         Item::WriteNumber => instruction::write_instruction(code, address, WRITE_NUMBER, 0, 0, 0),
-        Item::ReadTag => instruction::write_instruction(code, address, READ_TAG, 0, last, 0),
+        Item::ReadTag => instruction::write_instruction(code, address, READ_TAG, 0, labels.last, 0),
         Item::ReadNumber => instruction::write_instruction(code, address, READ_NUMBER, 0, 0, 0),
         Item::Call(b) => instruction::write_instruction(
             code,
@@ -249,20 +253,19 @@ pub fn lay_items(
     address: usize,
     items: Items,
     scope: Scope,
-    last: usize,
-    behind: usize,
+    labels: Labels,
 )
-    ensures { λ _. ⌜ now (code .exit) ≡ putAll (now (code .entry)) address (operationsFor (now (flat .entry)) (now (entries .entry)) scope last behind (row items)) ⌝ }
+    ensures { λ _. ⌜ now (code .exit) ≡ putAll (now (code .entry)) address (operationsFor (now (flat .entry)) (now (entries .entry)) scope (labels .last) (labels .behind) (row items)) ⌝ }
 {
     if code.len() <= address {
         return;
     }
     match items {
         Items::None => {}
-        Items::One(x) => lay_item(flat, entries, code, address, x, scope, last, behind),
+        Items::One(x) => lay_item(flat, entries, code, address, x, scope, labels),
         Items::Two(x, y) => {
-            lay_item(flat, entries, code, address, x, scope, last, behind);
-            lay_item(flat, entries, code, address + 1, y, scope, last, behind);
+            lay_item(flat, entries, code, address, x, scope, labels);
+            lay_item(flat, entries, code, address + 1, y, scope, labels);
         }
     }
 }

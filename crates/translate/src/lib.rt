@@ -5,6 +5,7 @@ use records::Template;
 use refusal::Filled;
 use refusal::Refusal;
 use refusal::Verdict;
+use template::Labels;
 use template::Scope;
 ghost use mathlib.Core.Path.{_≡_};
 ghost use lib.ListN.{length};
@@ -123,16 +124,11 @@ fn lay_parts(
     if shape.count <= i {
         let items = template.last;
         let behind = at + template::length_of(items);
-        template::lay_items(
-            flat,
-            entries,
-            code,
-            at,
-            items,
-            scope,
-            base + last,
-            base + behind,
-        );
+        let labels = Labels {
+            last: base + last,
+            behind: base + behind,
+        };
+        template::lay_items(flat, entries, code, at, items, scope, labels);
         return Laid {
             next: k,
             at: behind,
@@ -160,16 +156,11 @@ fn lay_parts(
         end,
         scope,
     );
-    template::lay_items(
-        flat,
-        entries,
-        code,
-        at,
-        items,
-        scope,
-        base + rest.last,
-        base + rest.at,
-    );
+    let labels = Labels {
+        last: base + rest.last,
+        behind: base + rest.at,
+    };
+    template::lay_items(flat, entries, code, at, items, scope, labels);
     rest
 }
 

@@ -87,20 +87,20 @@ pub +lay+lay-parts-spec : {M : Type 1} → statement M
     let on = c .before .if2 in
     search asked)
     (λ c.
+    let entered = c .before .before .before .before .before .before .before .before .before in
+    let start = entered .before .before .before .before .before .before .before .before .before .before .before .pre in
+    let length = entered .before .before .before .length-of2 in
+    let items = entered .before .before .before .before .items-before in
+    let part = entered .lay in
+    let rest = c .before .before .before .lay-parts in
+    search asked)
+    (λ c.
     let entered = c .before .before .before .before .before .before .before .before .before .before in
     let start = entered .before .before .before .before .before .before .before .before .before .before .before .pre in
     let length = entered .before .before .before .length-of2 in
     let items = entered .before .before .before .before .items-before in
     let part = entered .lay in
     let rest = c .before .before .before .before .lay-parts in
-    search asked)
-    (λ c.
-    let entered = c .before .before .before .before .before .before .before .before .before .before .before in
-    let start = entered .before .before .before .before .before .before .before .before .before .before .before .pre in
-    let length = entered .before .before .before .length-of2 in
-    let items = entered .before .before .before .before .items-before in
-    let part = entered .lay in
-    let rest = c .before .before .before .before .before .lay-parts in
     search asked)
     (λ c κs. search needs) (λ c. search needs)
     (λ c.

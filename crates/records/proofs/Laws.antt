@@ -1,6 +1,6 @@
 -- A law for each way out of the functions over node records. A record read is the one of its kind number: the fields that the kind does not use
 -- sum to 0 exactly where the record is the one that its kind has.
-use Prim.Native.Nat.{ℕ, zero, _+_, _*_, _/_, _≤_, _<_}
+use Prim.Native.Nat.{ℕ, _+_, _*_, _/_, _≤_, _<_}
 use mathlib.Core.Bool.{Bool, true, false, _&&_, and-true, and-comm}
 use mathlib.Core.List.{List, [], _∷_}
 use mathlib.Core.Logic.{_≢_}

@@ -1,7 +1,7 @@
 -- A law for each way out of the runner. That a call gives what the definition gives is enough: demand 3 about it follows (translation, Calls).
 use Prim.Native.Nat.{ℕ, _+_, _≤_, _<_}
-use mathlib.Core.Bool.{true, false, _&&_, and-false}
-use mathlib.Core.List.{List, _++_}
+use mathlib.Core.Bool.{_&&_, and-false}
+use mathlib.Core.List.{List}
 use mathlib.Core.Path.{_≡_, refl, sym, ap, ap₂, _∙_}
 use native.Mathlib.Omega.{arith}
 use borrow.Author.Tests.{lt-leb}

@@ -1,10 +1,10 @@
 -- Scopes: the words of names, and a law for each way out of the functions that say what is known on entering a part.
 use Prim.Native.Nat.{ℕ, zero, suc, _+_, _-_, _%_, _^_, _≤_, _<_, min}
-use mathlib.Core.Bool.{Bool, true, false}
+use mathlib.Core.Bool.{true, false}
 use mathlib.Core.List.{List, [], _∷_}
 use mathlib.Core.Logic.{_≢_}
 use mathlib.Core.Option.{none, some}
-use mathlib.Core.Path.{_≡_, refl, sym, ap, ap₂, subst, _∙_}
+use mathlib.Core.Path.{_≡_, refl, sym, ap, ap₂, _∙_}
 use native.Mathlib.Decide.{decLe}
 use native.Mathlib.Nat.{add-zero}
 use native.Mathlib.Numerals.{add-one}
@@ -22,9 +22,9 @@ use Rattle.records.specs.declared.Record.the-variants.{Const, Var, Add, IfZero,
 use Rattle.records.specs.declared.TreeName.{TreeName}
 use Rattle.records.specs.declared.Called.{Called}
 use Rattle.records.proofs.Record as TheRecord
-use Rattle.translation.specs.Templates.{Words, wordOf}
+use Rattle.translation.specs.Templates.{wordOf}
 use Rattle.template.specs.declared.Scope.{Scope}
-use Rattle.template.specs.Around.{Around, around, underNumber, partAround, mostNames, sortOf, wordsIn, aroundOf, Named, NumberPart, Under, Binds, Enterable, Enters}
+use Rattle.template.specs.Around.{around, underNumber, partAround, mostNames, sortOf, wordsIn, aroundOf, NumberPart, Under, Binds, Enters}
 
 -- ---- `word_of`
 

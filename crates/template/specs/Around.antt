@@ -1,7 +1,7 @@
 -- What is known where an expression's code is laid down, and how a `Scope` holds it.
 use Prim.Native.Nat.{ℕ, zero, suc, _+_, _^_, _≤_, _<_, min}
 use mathlib.Core.Bool.{Bool, true, false}
-use mathlib.Core.List.{List, _∷_}
+use mathlib.Core.List.{_∷_}
 use mathlib.Core.Path.{_≡_}
 use Rattle.formats.specs.Places.{fromLast}
 use Rattle.formats.specs.Records.{Kind, Const, Var, Add, IfZero, Let, Leaf, Node, Case, Call}

@@ -1,29 +1,28 @@
 -- A program's functions one after the other: what is left of them at function j, whose body is at record k, and where its code begins.
-use Prim.Native.Nat.{ℕ, zero, suc, _+_, _-_, _*_, _≤_, _<_}
+use Prim.Native.Nat.{ℕ, zero, suc, _+_, _-_, _≤_, _<_}
 use mathlib.Core.List.{List, [], _∷_, _++_, append-assoc, append-nil, map}
 use mathlib.Core.Path.{_≡_, refl, sym, ap, ap₂, subst, _∙_}
-use native.Mathlib.Nat.{add-zero, add-suc, le-refl}
+use native.Mathlib.Nat.{add-zero}
 use native.Mathlib.Numerals.{add-one}
 use native.Mathlib.Omega.{arith}
 use lib.ListN.{length, getD, length-append, length-map}
 use Rattle.formats.specs.Numbers.{Bytes, numberAt}
-use Rattle.formats.specs.Results.{Result, done, verdict, onValue}
+use Rattle.formats.specs.Results.{done}
 use Rattle.formats.specs.Records.{recordAt}
-use Rattle.formats.specs.Programs.{Expr, const, var, add, ifZero, letIn, leafOf, nodeOf, caseOf, call, Args, noArgs, arg, prefix, prefixes, size, total, countArgs, Every, InRange, Sort, numberValued, treeValued, Function, signatureOf, Program, signatures, mostParameters, LawfulFunctions, Signature, Lawful}
-use Rattle.formats.specs.Rows.{headerIn, functionIn, readProgram}
+use Rattle.formats.specs.Programs.{Expr, const, var, add, ifZero, letIn, leafOf, nodeOf, caseOf, call, Args, noArgs, arg, prefix, prefixes, size, total, countArgs, Every, InRange, Sort, numberValued, treeValued, Function, signatureOf, Program, signatures, mostParameters, LawfulFunctions, Signature}
+use Rattle.formats.specs.Rows.{headerIn, readProgram}
 use Rattle.formats.proofs.Programs.{every-left, every-right}
 use Rattle.formats.proofs.Results.{then-inv, value-inv}
 use Rattle.formats.proofs.Rows.{flattens}
 use Rattle.meaning.specs.Instructions.{Operation, Call, Return}
-use Rattle.rules.specs.Types.{resultType}
-use Rattle.rules.specs.Scopes.{scope, startOf, entered, enteredAll}
+use Rattle.rules.specs.Scopes.{startOf, entered, enteredAll}
 use Rattle.rules.specs.PassOne.{passOver, passOne}
 use Rattle.rules.specs.PassTwo.{order, passTwo}
-use Rattle.rules.proofs.Parts.{Known, Holds, Bodies, no-more, one-more}
+use Rattle.rules.proofs.Parts.{Known, Bodies, no-more, one-more}
 use Rattle.rules.proofs.PassOne.{pass-left, pass-right}
 use Rattle.rules.proofs.Walks.{program-held}
 use Rattle.translation.specs.Calls.{checkedRecords}
-use Rattle.translation.specs.Templates.{Words, firstWords, wordsKept, behind, code, codeArgs, functionCode, behindFunction, entryFrom, functionsCode, entryOf, operationsOf}
+use Rattle.translation.specs.Templates.{Words, firstWords, wordsKept, behind, code, codeArgs, functionCode, behindFunction, entryFrom, functionsCode, entryOf}
 use Rattle.translation.proofs.Operands.{length-function}
 use Rattle.translate.specs.Walk.{EnteringFunction}
 

@@ -1,7 +1,7 @@
 -- Code laid down by the column "code" as data is Templates' code: one case for each kind.
 use Prim.Native.Nat.{ℕ, zero, suc, _+_}
 use mathlib.Core.List.{List, [], _∷_, _++_, append-assoc, append-nil, map}
-use mathlib.Core.Path.{_≡_, refl, sym, ap, ap₂, _∙_}
+use mathlib.Core.Path.{_≡_, refl, sym, ap, _∙_}
 use native.Mathlib.Nat.{add-zero, add-suc, suc-add}
 use native.Mathlib.Omega.{arith}
 use lib.ListN.{length, length-append, length-map}
@@ -11,9 +11,8 @@ use Rattle.formats.specs.Programs.{Expr, const, var, add, ifZero, letIn, leafOf
 use Rattle.rules.proofs.Parts.{headOf}
 use Rattle.rules.proofs.Walks.{length-args}
 use Rattle.meaning.specs.Instructions.{Operation}
-use Rattle.translation.specs.Templates.{Words, behind, behindArgs, code, codeArgs, endOf}
+use Rattle.translation.specs.Templates.{Words, behind, behindArgs, code, codeArgs}
 use Rattle.translation.proofs.Addresses.{length-code}
-use Rattle.translation.specs.Templates.{wordOf}
 use Rattle.template.specs.Around.{Around, around, partAround}
 use Rattle.template.specs.Items.{operationFor}
 use Rattle.translate.specs.Laying.{past, partsCode, lastPart, behindParts}

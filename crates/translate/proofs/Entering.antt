@@ -1,19 +1,18 @@
 -- Expressions that are entered, and their parts: what a walk over records knows of them.
 use Prim.Native.Nat.{ℕ, zero, suc, _+_, _-_, _≤_, _<_}
-use mathlib.Core.List.{List, [], _∷_}
+use mathlib.Core.List.{List, _∷_}
 use mathlib.Core.Path.{_≡_, refl, sym, ap, ap₂, subst, _∙_}
-use native.Mathlib.Nat.{le-trans}
 use native.Mathlib.Numerals.{add-one}
 use native.Mathlib.Omega.{arith}
 use lib.ListN.{length}
 use Rattle.formats.specs.CodeColumn.{templateOf}
 use Rattle.formats.specs.Results.{done, onValue}
 use Rattle.formats.specs.Records.{Kind, Const, Var, Add, IfZero, Let, Leaf, Node, Case, Call, partsOf, partCount}
-use Rattle.formats.specs.Programs.{Expr, const, var, add, ifZero, letIn, leafOf, nodeOf, caseOf, call, size, Placed, behind, partsAt, Applied, Sort, numberValued, treeValued, Signature, arityOf}
+use Rattle.formats.specs.Programs.{Expr, const, var, add, ifZero, letIn, leafOf, nodeOf, caseOf, call, size, Placed, behind, partsAt, Applied, Signature, arityOf}
 use Rattle.formats.specs.Rows.{arityIn, nodeIn}
 use Rattle.formats.proofs.Results.{done-injective, then-inv}
 use Rattle.formats.proofs.Programs.{some-record}
-use Rattle.records.specs.Read.{Shape as ShapeRead, meant, listed, columnOf, described, shapeOf, shaped}
+use Rattle.records.specs.Read.{Shape as ShapeRead, meant, listed, described, shapeOf, shaped}
 use Rattle.records.specs.declared.Record.{Record}
 use Rattle.records.specs.declared.Parts.{Parts}
 use Rattle.records.specs.declared.Template.{Template}
@@ -22,12 +21,12 @@ use Rattle.records.specs.declared.RecordRead.the-variants.{Read}
 use Rattle.rules.specs.Types.{Ty, resultType}
 use Rattle.rules.specs.Scopes.{scope, inside, entry, entered}
 use Rattle.rules.specs.PassOne.{wordsTested, atEntry, passOver}
-use Rattle.rules.proofs.Parts.{Known, headOf, Holds, Row, next, passParts}
+use Rattle.rules.proofs.Parts.{headOf, Row, next, passParts}
 use Rattle.rules.proofs.PassOne.{Passes, pass-let}
 use Rattle.rules.proofs.Words.{tested, room}
 use Rattle.rules.proofs.Walks.{node-held, parts-held, parts-counted, pass-parts, row-upto}
 use Rattle.rules.proofs.Lists.{row-front, row-others}
-use Rattle.template.specs.Around.{Around, partAround, sortOf, aroundOf, mostNames, Named, Binds, Enterable, Enters}
+use Rattle.template.specs.Around.{Around, partAround, sortOf, aroundOf, mostNames, Binds, Enterable, Enters}
 use Rattle.template.specs.declared.Scope.{Scope}
 use Rattle.translate.specs.declared.Shape.{Shape}
 use Rattle.translate.specs.Walk.{Entering, EnteringParts}

@@ -1,34 +1,31 @@
 -- A function laid down: what is known on entering its body, its body, and its return.
-use Prim.Native.Nat.{ℕ, zero, suc, _+_, _-_, _*_, _≤_, _<_, min}
+use Prim.Native.Nat.{ℕ, zero, suc, _+_, _-_, _*_, _≤_, min}
 use mathlib.Core.Bool.{Bool, true, false}
-use mathlib.Core.List.{List, [], _∷_, _++_}
+use mathlib.Core.List.{List, [], _∷_}
 use mathlib.Core.Path.{_≡_, refl, sym, ap, ap₂, _∙_}
 use native.Mathlib.Nat.{add-zero}
-use native.Mathlib.Numerals.{add-one}
 use native.Mathlib.Omega.{arith}
-use borrow.Author.Tests.{eq-eqb, ne-eqb}
 use lib.Dec.{eqb}
-use lib.ListN.{length, getD, length-append}
+use lib.ListN.{length}
 use Rattle.formats.specs.Places.{fromLast}
-use Rattle.formats.specs.Results.{done}
 use Rattle.formats.specs.Records.{recordBytes, bytesOfRecord, fields}
-use Rattle.formats.specs.Programs.{size, Sort, numberValued, treeValued, sortNumber, Function, signatureOf}
-use Rattle.formats.specs.Rows.{arityIn, sortIn, functionIn}
+use Rattle.formats.specs.Programs.{Sort, numberValued, treeValued, sortNumber, Function, signatureOf}
+use Rattle.formats.specs.Rows.{arityIn, sortIn}
 use Rattle.formats.specs.Written.{written}
 use Rattle.formats.proofs.Rows.{function-read}
-use Rattle.meaning.specs.Instructions.{Operation, Return, instructionOf}
+use Rattle.meaning.specs.Instructions.{Return, instructionOf}
 use Rattle.rules.specs.Types.{resultType}
 use Rattle.rules.specs.Scopes.{scope, entered}
 use Rattle.rules.specs.PassOne.{passOver}
 use Rattle.translation.specs.Templates.{behind, code, firstWords, wordsKept, functionCode, behindFunction}
 use Rattle.translation.proofs.Addresses.{length-code}
-use Rattle.template.specs.Around.{Around, around, sortOf, wordsIn, aroundOf, mostNames, Named}
+use Rattle.template.specs.Around.{Around, around, sortOf, wordsIn, mostNames}
 use Rattle.template.specs.Items.{entriesIn}
 use Rattle.template.specs.declared.Scope.{Scope}
 use Rattle.translate.specs.declared.Laid.{Laid}
 use Rattle.translate.specs.Laying.{laidAt}
-use Rattle.translate.specs.Walk.{Small, Went, Entering, Lays, Starts, EnteringFunction, LaysFunction}
-use Rattle.translate.proofs.Written.{length-laid, laid-behind, laid-one}
+use Rattle.translate.specs.Walk.{Small, Entering, Lays, Starts, EnteringFunction, LaysFunction}
+use Rattle.translate.proofs.Written.{laid-behind, laid-one}
 
 -- ---- `start`
 

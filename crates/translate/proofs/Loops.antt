@@ -1,22 +1,20 @@
 -- The loops over a program's functions: one measures them, one lays them down.
-use Prim.Native.Nat.{ℕ, suc, _+_, _-_, _*_, _%_, _^_, _≤_, _<_}
+use Prim.Native.Nat.{ℕ, _+_, _-_, _*_, _%_, _≤_, _<_}
 use mathlib.Core.List.{List, [], _∷_, _++_, append-nil, map}
-use mathlib.Core.Path.{_≡_, refl, sym, ap, ap₂, subst, _∙_}
+use mathlib.Core.Path.{_≡_, refl, sym, ap, _∙_}
 use native.Mathlib.Decide.{decLe}
-use native.Mathlib.Nat.{add-zero, zero-add}
-use native.Mathlib.Numerals.{add-one}
+use native.Mathlib.Nat.{zero-add}
 use native.Mathlib.Omega.{arith}
 use borrow.Author.Needs.{needs}
 use mir.Syntax.{w64}
 use mir.Val.{Fits}
-use lib.ListN.{length, getD, set, take, drop, length-append, length-drop, length-set, drop-of-length-le}
+use lib.ListN.{length, getD, set, take, drop, length-drop, length-set, drop-of-length-le}
 use lib.Seq.{getD-set-same, getD-set-other, take-all, drop-drop}
 use Rattle.formats.specs.Numbers.{Bytes, numberAt}
 use Rattle.formats.specs.Results.{done, verdict}
 use Rattle.formats.specs.Records.{recordBytes, recordAt, flat}
-use Rattle.formats.specs.Programs.{size, Function, Program, mostNodes, mostFunctions}
+use Rattle.formats.specs.Programs.{size, Function, Program}
 use Rattle.formats.specs.Rows.{headerIn}
-use Rattle.formats.specs.Written.{written}
 use Rattle.formats.proofs.Results.{Value, passed-is}
 use Rattle.formats.proofs.Rows.{flattens}
 use Rattle.formats.proofs.Written.{written-fits}
@@ -27,11 +25,10 @@ use Rattle.translation.proofs.Operands.{ends, length-function}
 use Rattle.translation.specs.Templates.{functionCode, behindFunction, functionsCode, entryOf, operationsOf, codeOf}
 use Rattle.template.specs.Items.{entriesIn}
 use Rattle.translate.specs.declared.Laid.{Laid}
-use Rattle.translate.specs.declared.Table.{Table}
 use Rattle.translate.specs.Laying.{laidAt}
-use Rattle.translate.specs.Walk.{Small, Went, EnteringFunction, LaysFunction, Tabled, Ready, LaysAll}
+use Rattle.translate.specs.Walk.{Small, LaysFunction, Tabled, Ready, LaysAll}
 use Rattle.translate.proofs.Written.{length-bytes, length-laid, laid-none, laid-behind}
-use Rattle.translate.proofs.All.{WasChecked, was-checked, behindAll, behind-more, code-more, length-all, FunctionsLeft, Next, next-function, all-left, none-left, entry-here, same-function}
+use Rattle.translate.proofs.All.{was-checked, behindAll, behind-more, code-more, length-all, FunctionsLeft, Next, next-function, all-left, none-left, entry-here, same-function}
 
 -- ---- what both loops know
 

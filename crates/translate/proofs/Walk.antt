@@ -1,7 +1,7 @@
 -- The functions that lay down an expression and its parts: a law for each way out of them, and what their calls ask.
-use Prim.Native.Nat.{ℕ, suc, _+_, _-_, _*_, _^_, _≤_, _<_}
+use Prim.Native.Nat.{ℕ, suc, _+_, _-_, _*_, _≤_, _<_}
 use mathlib.Core.List.{List, [], _∷_, _++_, map}
-use mathlib.Core.Path.{_≡_, refl, sym, ap, ap₂, subst, _∙_}
+use mathlib.Core.Path.{_≡_, refl, sym, ap, ap₂, _∙_}
 use native.Mathlib.Nat.{le-refl}
 use native.Mathlib.Numerals.{add-one}
 use native.Mathlib.Omega.{arith}
@@ -18,7 +18,7 @@ use Rattle.formats.specs.Rows.{arityIn, nodeIn}
 use Rattle.formats.proofs.Results.{done-not}
 use Rattle.formats.proofs.Programs.{some-record}
 use Rattle.refusal.specs.declared.Refusal.{Refusal}
-use Rattle.records.specs.Read.{meant, listed, row, columnOf, described, shapeOf}
+use Rattle.records.specs.Read.{meant, listed, row, described, shapeOf}
 use Rattle.records.specs.declared.Record.{Record}
 use Rattle.records.specs.declared.Items.{Items}
 use Rattle.records.specs.declared.Parts.{Parts}

@@ -1,14 +1,13 @@
 -- Instructions written into a part of the code buffer: those written in front of others, or behind them, are written at once.
-use Prim.Native.Nat.{ℕ, zero, suc, _+_, _*_, _≤_}
-use mathlib.Core.List.{List, [], _∷_, _++_, append-assoc, append-nil, map, map-append}
+use Prim.Native.Nat.{ℕ, suc, _+_, _*_, _≤_}
+use mathlib.Core.List.{List, [], _∷_, _++_, append-assoc, append-nil, map}
 use mathlib.Core.Path.{_≡_, refl, sym, ap, ap₂, _∙_}
-use native.Mathlib.Nat.{add-suc, suc-add, add-zero, add-assoc}
 use native.Mathlib.Omega.{arith}
-use lib.ListN.{length, take, drop, length-append, length-map, length-drop, take-append-drop}
+use lib.ListN.{length, take, drop, length-append, length-map, take-append-drop}
 use lib.Seq.{length-take-le, drop-at, take-append-le}
-use Rattle.formats.specs.Records.{Record, recordBytes, bytesOfRecord, flat}
+use Rattle.formats.specs.Records.{recordBytes, bytesOfRecord, flat}
 use Rattle.formats.specs.Written.{written}
-use Rattle.formats.proofs.Records.{length-record, length-flat}
+use Rattle.formats.proofs.Records.{length-flat}
 use Rattle.formats.proofs.Written.{written-fits, written-append, written-none, wrote}
 use Rattle.meaning.specs.Instructions.{Operation, instructionOf}
 use Rattle.template.specs.Items.{put, putAll}

@@ -1,6 +1,6 @@
 -- What the functions answer that lay code down, over flat records s, a table of entries, and a part of the code buffer that begins at address `base`:
 -- `code` holds its bytes at entry and `after` those at exit.
-use Prim.Native.Nat.{ℕ, suc, _+_, _-_, _*_, _≤_, _<_}
+use Prim.Native.Nat.{ℕ, _+_, _-_, _*_, _≤_, _<_}
 use mathlib.Core.List.{List}
 use mathlib.Core.Path.{_≡_}
 use lib.ListN.{length}

@@ -2,7 +2,7 @@
 use Prim.Native.Nat.{ℕ, _≤_}
 use mathlib.Core.Bool.{Bool, true, false, _&&_}
 use mathlib.Core.List.{List, [], _++_, append-nil, map}
-use mathlib.Core.Path.{_≡_, refl, sym, ap, subst, _∙_}
+use mathlib.Core.Path.{_≡_, refl, sym, ap, _∙_}
 use native.Mathlib.Omega.{arith}
 use borrow.Author.Tests.{le-leb, leb-true}
 use lib.Dec.{leb}
@@ -25,7 +25,7 @@ use Rattle.meaning.specs.Instructions.{instructionOf}
 use Rattle.translation.specs.Templates.{operationsOf, codeOf}
 use Rattle.translation.specs.Demand3.{Given, runOn}
 use Rattle.translation.specs.Calls.{checkedRecords, translateRecords, translateFile, prepared, refusedBefore, runFile, Called, Ready}
-use Rattle.translation.specs.ThisCall.{ThisCall, AnyCall, ranWith, AllRunnable}
+use Rattle.translation.specs.ThisCall.{ThisCall, AnyCall, AllRunnable}
 use Rattle.translation.proofs.CodeLimits.{code-limits}
 use Rattle.translation.proofs.Demand3.{demand-3}
 use Rattle.translation.proofs.EveryRun.{every-run}

@@ -1,5 +1,4 @@
 -- `template::items_before` meets its contract: a law for each part.
-use borrow.Author.Needs.{needs}
 use Rattle.template.proofs.Items.{before-ways}
 use Rattle.template.proofs.items_before.Statement.{statement}
 use Rattle.template.proofs.items_before.Tie as tie

@@ -1,5 +1,4 @@
 -- `translate::words_kept` meets its contract: a tree keeps none, a number one.
-use borrow.Author.Needs.{needs}
 use Rattle.translate.proofs.Functions.{kept}
 use Rattle.translate.proofs.words_kept.Statement.{statement}
 use Rattle.translate.proofs.words_kept.Tie as tie

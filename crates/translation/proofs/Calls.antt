@@ -1,5 +1,5 @@
 -- What the translator and the runner give: a law for each way that a call may go, and demand 3 about a call that comes to its run.
-use Prim.Native.Nat.{ℕ, _≤_}
+use Prim.Native.Nat.{ℕ, _*_, _≤_}
 use mathlib.Core.Bool.{Bool, true, false, _&&_}
 use mathlib.Core.List.{List, [], _++_, append-nil, map}
 use mathlib.Core.Path.{_≡_, refl, sym, ap, _∙_}
@@ -11,20 +11,21 @@ use Rattle.formats.specs.Numbers.{Bytes}
 use Rattle.formats.specs.Refusals.{spaceTooShort}
 use Rattle.formats.specs.Results.{Result, done, refusal, andThen, onValue, verdict, check}
 use Rattle.formats.specs.Tokens.{Tree, Labelled, tokens}
-use Rattle.formats.specs.Programs.{Program}
+use Rattle.formats.specs.Programs.{Program, Lawful}
 use Rattle.formats.specs.Rows.{readProgram}
 use Rattle.formats.specs.Blocks.{flatIn, programIn, within, lent}
-use Rattle.formats.proofs.Results.{byResult, then-done, then-refused, then-inv, check-inv, passed-is, refused-is}
+use Rattle.formats.proofs.Results.{byResult, then-done, then-refused, then-inv, value-inv, check-inv, passed-is, refused-is}
 use Rattle.formats.proofs.ProgramFiles.{program-files}
 use Rattle.formats.proofs.Records.{length-flat}
 use Rattle.formats.proofs.Rows.{flattens}
 use Rattle.formats.proofs.Files.{within-room, flat-in-bytes}
 use Rattle.rules.specs.PassTwo.{order, checkRecords, checkFile}
 use Rattle.meaning.specs.Running.{Answer, Ran, valueWords, returnWords, streamRun}
-use Rattle.meaning.specs.Instructions.{instructionOf}
+use Rattle.meaning.specs.Instructions.{instructionBytes, mostInstructions, instructionOf}
 use Rattle.translation.specs.Templates.{operationsOf, codeOf}
 use Rattle.translation.specs.Demand3.{Given, runOn}
 use Rattle.translation.specs.Calls.{checkedRecords, translateRecords, translateFile, prepared, refusedBefore, runFile, Called, Ready}
+use Rattle.translation.specs.Listing.{NeverShort}
 use Rattle.translation.specs.ThisCall.{ThisCall, AnyCall, AllRunnable}
 use Rattle.translation.proofs.CodeLimits.{code-limits}
 use Rattle.translation.proofs.Demand3.{demand-3}
@@ -230,21 +231,44 @@ module _ (file code : List ℕ) (values returns : ℕ) (bytes : Bytes file) (pro
     pub any-call : Bytes input → AnyCall program input output answer after
     any-call bs = rw (its-answer, its-output) (any-run input output fuel bs)
 
--- ---- every checked program can be run
+-- ---- room for every program's code
 
-pub all-runnable : AllRunnable
+code-fits : (program : Program) → Lawful program → length (codeOf program) ≤ instructionBytes * mostInstructions
 unfolding codeOf
+code-fits program lawful =
+    omega (arith, length-flat (map instructionOf (operationsOf program)), length-map (operationsOf program) instructionOf, code-limits program lawful .few)
+
+-- every checked program can be run
+pub all-runnable : AllRunnable
 all-runnable program checked =
     let own = program-files .one-file program (checked .lawful) in
-    let records = map instructionOf (operationsOf program) in
     record {
       file = own .file;
       bytes = own .bytes;
       ready = λ code values returns room hv hr. record {
         in-file = own .holds;
         passes = checked .passes;
-        room = omega (arith, length-flat records, length-map (operationsOf program) instructionOf, code-limits program (checked .lawful) .few);
+        room = omega (arith, code-fits program (checked .lawful));
         words-lent = hv;
         places-lent = hr;
       };
     }
+
+-- and every one listed
+pub never-short : NeverShort
+unfolding translateFile translateRecords checkedRecords
+never-short file bytes = byResult (flatIn file)
+    (λ s h. then-done (translateRecords full) h ∙ by-program s (flat-in-bytes file s bytes h) ∙ sym (ap (onValue codeOf) (then-done checkedRecords h)))
+    (λ n q h. then-refused (translateRecords full) h ∙ sym (ap (onValue codeOf) (then-refused checkedRecords h)))
+  where
+    full : ℕ
+    full = instructionBytes * mostInstructions
+
+    by-program : (s : List ℕ) → Bytes s → translateRecords full s ≡ onValue codeOf (checkedRecords s)
+    by-program s bs = byResult (checkedRecords s)
+        (λ program e.
+        let r = then-inv (readProgram s) _ program e in
+        let o = value-inv (λ u. r .value) (order (r .value)) program (r .second) in
+        let lawful = flattens s program bs (r .first ∙ ap done (o .second)) .lawful in
+        then-done (λ p. within full (codeOf p)) e ∙ within-room full (codeOf program) (code-fits program lawful) ∙ sym (ap (onValue codeOf) e))
+        (λ n q e. then-refused (λ p. within full (codeOf p)) e ∙ sym (ap (onValue codeOf) e))

@@ -1,13 +1,16 @@
 -- Document 01, "Worked programs": the listing of a program file, which is what the listing program prints.
 use Prim.Native.Nat.{ℕ, zero, suc, _*_, _/_}
 use mathlib.Core.List.{List, [], _∷_}
+use mathlib.Core.Path.{_≡_}
 use lib.IntN.{ℤ}
 use lib.ListN.{length}
-use Rattle.formats.specs.Numbers.{signed32}
-use Rattle.formats.specs.Results.{Result, done, refusal}
+use Rattle.formats.specs.Blocks.{flatIn}
+use Rattle.formats.specs.Numbers.{Bytes, signed32}
+use Rattle.formats.specs.Results.{Result, done, refusal, andThen, onValue}
 use Rattle.formats.specs.Records.{fields, recordAt}
 use Rattle.meaning.specs.Instructions.{Instruction, instructionBytes, mostInstructions}
-use Rattle.translation.specs.Calls.{translateFile}
+use Rattle.translation.specs.Templates.{codeOf}
+use Rattle.translation.specs.Calls.{checkedRecords, translateFile}
 
 -- 01: "prints, a line each, address, opcode, byte 1, operand, number".
 pub data Line : Type 0 where
@@ -38,6 +41,12 @@ unfoldable pub listingOf : Result (List ℕ) → Listing
 listingOf (done code) = listed (instructionsIn code) (linesFrom code (instructionsIn code) 0)
 listingOf (refusal number position) = refused number position
 
--- The listing of a program file, whatever its bytes. There is room for every program's code (01: "At most 4,128 instructions"), so 13 is never told.
+-- The listing of a program file, whatever its bytes. There is room for every program's code (`NeverShort` below), so 13 is never told.
 unfoldable pub listing : List ℕ → Listing
 listing file = listingOf (translateFile (instructionBytes * mostInstructions) file)
+
+-- 01: "At most 4,128 instructions." With room for so many, the code is that of the program which both passes accept, or the first refusal before 13.
+abbrev pub NeverShort : Type 0
+NeverShort =
+    (file : List ℕ) → Bytes file
+    → translateFile (instructionBytes * mostInstructions) file ≡ onValue codeOf (andThen (flatIn file) checkedRecords)

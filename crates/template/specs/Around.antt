@@ -1,13 +1,13 @@
 -- What is known where an expression's code is laid down, and how a `Scope` holds it.
-use Prim.Native.Nat.{ℕ, zero, suc, _+_, _^_, _≤_, _<_, min}
+use Prim.Native.Nat.{ℕ, zero, suc, _+_, _%_, _^_, _≤_, _<_, min}
 use mathlib.Core.Bool.{Bool, true, false}
 use mathlib.Core.List.{_∷_}
 use mathlib.Core.Path.{_≡_}
+use lib.Dec.{eqb}
+use lib.ListN.{length, set}
 use Rattle.formats.specs.Places.{fromLast}
 use Rattle.formats.specs.Records.{Kind, Const, Var, Add, IfZero, Let, Leaf, Node, Case, Call}
 use Rattle.formats.specs.Programs.{Sort, numberValued, treeValued}
-use Rattle.records.specs.Read.{meant}
-use Rattle.records.specs.declared.Record.{Record}
 use Rattle.translation.specs.Templates.{Words}
 use Rattle.template.specs.declared.Scope.{Scope}
 
@@ -74,27 +74,55 @@ Binds (Call a b) = ⊥
 
 -- Part i of a record of this kind can be entered: the counts fit their width, and there is a word for a number that it names.
 pub record Enterable (kind : Kind) (i : ℕ) (c : Scope) : Type 0 where
+  pub table : length (c .words) ≡ mostNames
   pub named : Named c
   pub fits : c .standing + i + 1 < 2 ^ 16
   pub room : Binds kind → c .standing < mostNames
 
--- A number is expected, and so many more words stand.
-pub record NumberPart (c : Scope) (more : ℕ) (r : Scope) : Type 0 where
-  pub is : c .standing + more < 2 ^ 16 → r ≡ record { words = c .words; names = c .names; standing = c .standing + more; tree = false }
+-- Then the scope on entering it is the one wanted.
+pub record Enters (kind : Kind) (i : ℕ) (c r : Scope) : Type 0 where
+  pub is : aroundOf r ≡ partAround kind i (aroundOf c)
+  pub named : Named r
+  pub standing : r .standing ≤ c .standing + i + 1
+  pub table : length (r .words) ≡ mostNames
 
--- One more number is named, on the next word, where there is one.
-pub record Under (c r : Scope) : Type 0 where
-  pub is : Named c → c .standing < mostNames → aroundOf r ≡ underNumber (aroundOf c)
-  pub named : Named c → c .standing < mostNames → Named r
-  pub standing : Named c → c .standing < mostNames → r .standing ≡ c .standing + 1
+-- ---- the scope on entering a part, of any scope
+
+-- A number is expected, and so many more words stand. (A scope counts in 64 bits.)
+abbrev pub numberScope : Scope → ℕ → Scope
+numberScope c more = record { words = c .words; names = c .names; standing = (c .standing + more) % 2 ^ 64; tree = false }
+
+-- A tree is expected.
+abbrev pub treeScope : Scope → Scope
+treeScope c = record { words = c .words; names = c .names; standing = c .standing; tree = true }
+
+-- One more number is named, on the next word. With 16 names nothing changes.
+unfoldable pub underScope : Scope → Scope
+underScope c =
+    let n = min (c .names) mostNames in
+    elim (eqb n mostNames) [
+      | true ↦ c
+      | false ↦
+          record { words = set (c .words) n (c .standing % 65536); names = n + 1; standing = (c .standing + 1) % 2 ^ 64; tree = c .tree }
+    ]
+
+-- Part i of a record of this kind is entered.
+unfoldable pub insideScope : Kind → ℕ → Scope → Scope
+insideScope (Const k) i c = c
+insideScope (Var a) i c = c
+insideScope Add zero c = numberScope c 0
+insideScope Add (suc i) c = numberScope c 1
+insideScope IfZero zero c = numberScope c 0
+insideScope IfZero (suc i) c = c
+insideScope Let zero c = numberScope c 0
+insideScope Let (suc i) c = underScope c
+insideScope Leaf i c = numberScope c 0
+insideScope Node i c = treeScope c
+insideScope (Case a) zero c = underScope c
+insideScope (Case a) (suc i) c = c
+insideScope (Call a b) i c = numberScope c i
 
 -- The opcode of "end".
 abbrev pub opcodeOfEnd : Bool → ℕ
 opcodeOfEnd true = 6
 opcodeOfEnd false = 5
-
--- The scope on entering it.
-pub record Enters (node : Record) (i : ℕ) (c r : Scope) : Type 0 where
-  pub is : Enterable (meant node) i c → aroundOf r ≡ partAround (meant node) i (aroundOf c)
-  pub named : Enterable (meant node) i c → Named r
-  pub standing : Enterable (meant node) i c → r .standing ≤ c .standing + i + 1

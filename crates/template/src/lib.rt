@@ -6,11 +6,10 @@ use records::Template;
 ghost use mathlib.Core.List.{[], _∷_};
 ghost use mathlib.Core.Path.{_≡_};
 ghost use Prim.Native.Nat.{min};
-ghost use mathlib.Core.Bool.{true};
 ghost use lib.ListN.{length};
-ghost use Rattle.records.specs.Read.{itemOf, row};
+ghost use Rattle.records.specs.Read.{meant, itemOf, row};
 ghost use Rattle.translation.specs.Templates.{wordOf};
-ghost use Rattle.template.specs.Around.{mostNames, wordsIn, Enters, Under, NumberPart, opcodeOfEnd};
+ghost use Rattle.template.specs.Around.{mostNames, wordsIn, numberScope, treeScope, underScope, insideScope, opcodeOfEnd};
 ghost use Rattle.template.specs.Items.{ItemsBefore, entriesIn, operationsFor, putAll};
 
 // The most names, each on a word of its own.
@@ -84,7 +83,7 @@ fn word_of(scope: Scope, a: u8) -> u16
 
 // A number is expected, and so many more words stand.
 fn number_part(scope: Scope, more: usize) -> Scope
-    ensures { λ r. ⌜ NumberPart scope more r ⌝ }
+    ensures { λ r. ⌜ r ≡ numberScope scope more ⌝ }
 {
     let words = scope.words;
     Scope {
@@ -97,7 +96,7 @@ fn number_part(scope: Scope, more: usize) -> Scope
 
 // A tree is expected.
 fn tree_part(scope: Scope) -> Scope
-    ensures { λ r. ⌜ r ≡ record { words = scope .words; names = scope .names; standing = scope .standing; tree = true } ⌝ }
+    ensures { λ r. ⌜ r ≡ treeScope scope ⌝ }
 {
     let words = scope.words;
     Scope {
@@ -110,7 +109,7 @@ fn tree_part(scope: Scope) -> Scope
 
 // One more number is named, on the next word.
 fn under_number(scope: Scope) -> Scope
-    ensures { λ r. ⌜ Under scope r ⌝ }
+    ensures { λ r. ⌜ r ≡ underScope scope ⌝ }
 {
     let names = count(scope);
     if names == MOST_NAMES {
@@ -128,7 +127,7 @@ fn under_number(scope: Scope) -> Scope
 
 // What is known on entering part i of the record.
 pub fn inside(node: Record, i: usize, scope: Scope) -> Scope
-    ensures { λ r. ⌜ Enters node i scope r ⌝ }
+    ensures { λ r. ⌜ r ≡ insideScope (meant node) i scope ⌝ }
 {
     match node {
         Record::Add => {

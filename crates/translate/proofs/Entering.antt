@@ -26,7 +26,8 @@ use Rattle.rules.proofs.PassOne.{Passes, pass-let}
 use Rattle.rules.proofs.Words.{tested, room}
 use Rattle.rules.proofs.Walks.{node-held, parts-held, parts-counted, pass-parts, row-upto}
 use Rattle.rules.proofs.Lists.{row-front, row-others}
-use Rattle.template.specs.Around.{Around, partAround, sortOf, aroundOf, mostNames, Binds, Enterable, Enters}
+use Rattle.template.specs.Around.{Around, partAround, sortOf, aroundOf, mostNames, Binds, Enterable, Enters, insideScope}
+use Rattle.template.proofs.Scopes.{enters}
 use Rattle.template.specs.declared.Scope.{Scope}
 use Rattle.translate.specs.declared.Shape.{Shape}
 use Rattle.translate.specs.Walk.{Entering, EnteringParts}
@@ -99,6 +100,7 @@ module _ {s : List ℕ} {k end : ℕ} {c : Scope} {e : Expr} (read : RecordRead)
         numbers = h .numbers;
         trees = h .trees;
         passes = rw own-kind (below .second);
+        table = h .table;
         named = h .named;
         words = omega (arith, h .words);
         room = λ binds. binder-room (h .signed) (h .numbers) (h .trees) (c .standing) k (resultType (sortOf (c .tree))) e (h .holds .applied) (h .passes) (subst Binds own-kind binds);
@@ -113,7 +115,7 @@ row-place (next here later) = refl
 module _ {s : List ℕ} {shape : Shape} {i k end m : ℕ} {c : Scope} {j : ℕ} {e : Expr} {ps : List Placed} (h : EnteringParts s shape i k end c (behind j e ∷ ps) m) where
   -- part i can be entered
   pub enterable : Enterable (meant (shape .node)) i c
-  enterable = record { named = h .named; fits = omega (arith, h .words); room = h .room }
+  enterable = record { table = h .table; named = h .named; fits = omega (arith, h .words); room = h .room }
 
   -- it passes, and so do the others
   record Passed : Type 0 where
@@ -129,12 +131,17 @@ module _ {s : List ℕ} {shape : Shape} {i k end m : ℕ} {c : Scope} {j : ℕ} 
   ends-by : k + size e ≤ m
   ends-by = row-upto (row-others (h .row))
 
+  -- its scope is the one wanted
+  pub scope-entered : (inner : Scope) → inner ≡ insideScope (meant (shape .node)) i c → Enters (meant (shape .node)) i c inner
+  scope-entered inner is = rw is (enters (meant (shape .node)) i c enterable)
+
   -- the first part is entered
-  pub first-entered : (inner : Scope) → Enters (shape .node) i c inner → Entering s k end inner e
-  first-entered inner enters =
+  pub first-entered : (inner : Scope) → inner ≡ insideScope (meant (shape .node)) i c → Entering s k end inner e
+  first-entered inner is =
       let kind = meant (shape .node) in
+      let en = scope-entered inner is in
       let sc = agrees kind i (aroundOf c) (h .numbers) (h .trees) in
-      let same = enters .is enterable in
+      let same = en .is in
       let place : j ≡ k = row-place (h .row) in
       let inside-is : inside kind i (scope (h .numbers) (h .trees) (c .standing) (resultType (sortOf (c .tree)))) ≡ scope (sc .numbers) (sc .trees) (inner .standing) (resultType (sortOf (inner .tree))) =
       sc .is ∙ ap (λ (x : Around). scope (sc .numbers) (sc .trees) (x .standing) (resultType (x .sort))) (sym same) in
@@ -146,8 +153,9 @@ module _ {s : List ℕ} {shape : Shape} {i k end m : ℕ} {c : Scope} {j : ℕ} 
         numbers = sc .numbers;
         trees = sc .trees;
         passes = ap₂ (λ x r. passOver (h .signed) (entered x r e)) (sym inside-is) (sym place) ∙ passed .first;
-        named = enters .named enterable;
-        words = omega (arith, h .words, enters .standing enterable);
+        table = en .table;
+        named = en .named;
+        words = omega (arith, h .words, en .standing);
       }
 
   -- the others are
@@ -162,6 +170,7 @@ module _ {s : List ℕ} {shape : Shape} {i k end m : ℕ} {c : Scope} {j : ℕ} 
     numbers = h .numbers;
     trees = h .trees;
     passes = rw add-one (passed .others);
+    table = h .table;
     named = h .named;
     words = omega (arith, h .words, is, some-record e, ends-by, h .fits);
     room = h .room;

@@ -59,6 +59,7 @@ started s j m n em en = record {
       let least : min m mostNames ≡ f .parameters = omega arith in
       let words : fromLast rising (min m mostNames) ≡ firstWords (f .parameters) = ap (fromLast rising) least ∙ first-words (f .parameters) few in
       ap₂ (λ x y. around x y m) (sorted n (f .sort) (en ∙ sym (g .sort))) words ∙ ap (around (f .sort) (firstWords (f .parameters))) same;
+  table = refl;
   named = record { few = omega arith };
 }
 
@@ -92,6 +93,7 @@ module _ (s entries code′ : List ℕ) (entry j k end : ℕ) (c : Scope) (start
         numbers = f .parameters;
         trees = 1;
         passes = ap₂ (λ n t. passOver (h .signed) (entered (scope (f .parameters) 1 n (resultType t)) k (f .body))) words sort ∙ h .passes;
+        table = starts .table;
         named = starts .named;
         words = omega (arith, small .few, h .few-parameters);
       }

@@ -31,7 +31,7 @@ use Rattle.rules.proofs.Walks.{node-held}
 use Rattle.meaning.specs.Instructions.{Operation}
 use Rattle.translation.specs.Templates.{behind, code}
 use Rattle.translation.proofs.Addresses.{length-code}
-use Rattle.template.specs.Around.{Around, partAround, sortOf, wordsIn, aroundOf, Enters}
+use Rattle.template.specs.Around.{Around, partAround, sortOf, wordsIn, aroundOf, insideScope}
 use Rattle.template.specs.Items.{ItemsBefore, operationFor, entriesIn, operationsFor, putAll}
 use Rattle.template.specs.declared.Scope.{Scope}
 use Rattle.template.proofs.Items.{few-items}
@@ -41,7 +41,7 @@ use Rattle.translate.specs.Laying.{laidAt, past, partsCode, lastPart, be
 use Rattle.translate.specs.Walk.{Small, SmallParts, dueFrom, Went, Entering, Came, Lays, EnteringParts, CameParts, LaysParts}
 use Rattle.translate.proofs.Written.{length-laid, laid-behind, laid-front, laid-each}
 use Rattle.translate.proofs.Column.{past-length, length-parts, by-column, behind-column}
-use Rattle.translate.proofs.Entering.{own-kind, own-count, parts-entered, enterable, first-entered, rest-entered}
+use Rattle.translate.proofs.Entering.{own-kind, own-count, parts-entered, scope-entered, first-entered, rest-entered}
 
 -- ---- `lay`
 
@@ -171,7 +171,7 @@ module _ (s entries code′ : List ℕ) (base at last : ℕ) (shape : Shape) (i 
       lays (some h) room = absurd (omega (arith, h .counted))
 
   module _ (items : Items) (n : ℕ) (inner : Scope) (part : Laid) (between : List ℕ)
-      (before-it : ItemsBefore (shape .template) i items) (many : n ≡ length (row items)) (enters : Enters (shape .node) i c inner)
+      (before-it : ItemsBefore (shape .template) i items) (many : n ≡ length (row items)) (inside : inner ≡ insideScope (meant (shape .node)) i c)
       (p : Lays s entries code′ between base (at + n) k end inner part) (small : SmallParts i k end base at last) (more : i < shape .count) where
     -- a part that is not entered: none stands there
     pub parts-stuck : part .next ≤ k → LaysParts s entries code′ between base at last shape i k end c part
@@ -189,7 +189,7 @@ module _ (s entries code′ : List ℕ) (base at last : ℕ) (shape : Shape) (i 
       where
         never : {A : Type 0} {ps : List Placed} {m : ℕ} → Split s shape i k end c ps m → A
         never (none h) = absurd (omega (arith, h .counted))
-        never (some {e = e} h) = absurd (omega (arith, some-record e, p .came e (first-entered h inner enters) .next))
+        never (some {e = e} h) = absurd (omega (arith, some-record e, p .came e (first-entered h inner inside) .next))
 
     pub parts-more : (rest : Laid) (there after : List ℕ)
         → LaysParts s entries between there base (part .at) (at + n) shape (i + 1) (part .next) end c rest
@@ -223,7 +223,7 @@ module _ (s entries code′ : List ℕ) (base at last : ℕ) (shape : Shape) (i 
         begins h = let e = ap length (items-is h) in omega (arith, past-length (before (templateOf kind) i) (base + at))
 
         own : {e : Expr} {ps : List Placed} {m : ℕ} → EnteringParts s shape i k end c (placed k e ∷ ps) m → Came base (at + n) k e part
-        own {e} h = p .came e (first-entered h inner enters)
+        own {e} h = p .came e (first-entered h inner inside)
 
         others : {e : Expr} {ps : List Placed} {m : ℕ} → EnteringParts s shape i k end c (placed k e ∷ ps) m → CameParts base (part .at) (at + n) kind (i + 1) ps m rest
         others h = l .came _ _ (rest-entered h (part .next) (own h .next))
@@ -251,7 +251,7 @@ module _ (s entries code′ : List ℕ) (base at last : ℕ) (shape : Shape) (i 
             let long-P : (at + n) + length P ≡ part .at = omega (arith, length-code es (sortOf (inner .tree)) (wordsIn inner) (inner .standing) (base + (at + n)) e, own h .address) in
             let long-R : part .at + length R ≡ rest .at = omega (arith, length-parts es (arityIn s) kind (aroundOf c) (base + rest .last) (base + rest .at) (i + 1) (base + part .at) ps, others h .address) in
             let ups = l .went .up in
-            let first : between ≡ laidAt code′ (at + n) P = p .lays e (first-entered h inner enters) (omega arith) in
+            let first : between ≡ laidAt code′ (at + n) P = p .lays e (first-entered h inner inside) (omega arith) in
             let same-length : length between ≡ length code′ = ap length first ∙ length-laid code′ (at + n) P in
             let second : there ≡ laidAt code′ (at + n) (P ++ R) =
             l .lays ps m (rest-entered h (part .next) (own h .next)) (omega arith)
@@ -259,7 +259,7 @@ module _ (s entries code′ : List ℕ) (base at last : ℕ) (shape : Shape) (i 
             ∙ laid-behind code′ (at + n) P R (part .at) (sym long-P) (omega arith) in
             let still : length there ≡ length code′ = ap length second ∙ length-laid code′ (at + n) (P ++ R) in
             let own-part : P ≡ code es (partAround kind i (aroundOf c) .sort) (partAround kind i (aroundOf c) .words) (partAround kind i (aroundOf c) .standing) (past (before (templateOf kind) i) (base + at)) e =
-            ap₂ (λ (x : Around) (a : ℕ). code es (x .sort) (x .words) (x .standing) a e) (enters .is (enterable h)) (begins h) in
+            ap₂ (λ (x : Around) (a : ℕ). code es (x .sort) (x .words) (x .standing) a e) (scope-entered h inner inside .is) (begins h) in
             wrote
             ∙ laid-each there at G (omega (arith, p .went .up))
             ∙ ap (λ (b : List ℕ). laidAt b at G) second

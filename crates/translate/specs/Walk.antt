@@ -60,6 +60,7 @@ pub record Entering (s : List ℕ) (k end : ℕ) (c : Scope) (e : Expr) : Type 0
   pub numbers : ℕ
   pub trees : ℕ
   pub passes : passOver signed (entered (scope numbers trees (c .standing) (resultType (sortOf (c .tree)))) k e) ≡ done tt
+  pub table : length (c .words) ≡ mostNames
   pub named : Named c
   pub words : c .standing + (end - k) ≤ 4000
 
@@ -88,6 +89,7 @@ pub record EnteringParts (s : List ℕ) (shape : Shape) (i k end : ℕ) (c : Sco
   pub numbers : ℕ
   pub trees : ℕ
   pub passes : passParts signed (meant (shape .node)) i (scope numbers trees (c .standing) (resultType (sortOf (c .tree)))) ps ≡ done tt
+  pub table : length (c .words) ≡ mostNames
   pub named : Named c
   pub words : c .standing + i + 1 + (end - k) ≤ 4000
   pub room : Binds (meant (shape .node)) → c .standing < mostNames
@@ -110,6 +112,7 @@ pub record LaysParts (s entries code′ after : List ℕ) (base at last : ℕ) (
 pub record Starts (s : List ℕ) (j : ℕ) (c : Scope) : Type 0 where
   pub is : (f : Function) → functionIn s j ≡ done (signatureOf f) → f .parameters ≤ 4
       → aroundOf c ≡ around (f .sort) (firstWords (f .parameters)) (f .parameters)
+  pub table : length (c .words) ≡ mostNames
   pub named : Named c
 
 -- Function f with number j: its body stands at record k.

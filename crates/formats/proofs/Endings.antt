@@ -18,17 +18,17 @@ use Rattle.formats.proofs.Results.{Outcome, gave, stopped, outcome}
 
 -- ---- from the ending back to the reading
 
-record EndedBy (p : ℕ) (r : Result Tree) (o : ℕ) : Type 0 where
-  it : Tree
-  is : r ≡ done it
-  place : p + length (tokens it) ≡ o
+pub record EndedBy (p : ℕ) (r : Result Tree) (o : ℕ) : Type 0 where
+  pub it : Tree
+  pub is : r ≡ done it
+  pub place : p + length (tokens it) ≡ o
 
-ended-by : (p : ℕ) (r : Result Tree) (o : ℕ) → endFrom p r ≡ done o → EndedBy p r o
+pub ended-by : (p : ℕ) (r : Result Tree) (o : ℕ) → endFrom p r ≡ done o → EndedBy p r o
 unfolding endFrom
 ended-by p (done t) o e = record { it = t; is = refl; place = cc }
 ended-by p (refusal n q) o e = let z : _≡_ {A = ℕ} 0 1 = cc in absurd (omega arith)
 
-stopped-by : (p : ℕ) (r : Result Tree) (n q : ℕ) → endFrom p r ≡ refusal n q → r ≡ refusal n q
+pub stopped-by : (p : ℕ) (r : Result Tree) (n q : ℕ) → endFrom p r ≡ refusal n q → r ≡ refusal n q
 unfolding endFrom
 stopped-by p (done t) n q e = let z : _≡_ {A = ℕ} 0 1 = cc in absurd (omega arith)
 stopped-by p (refusal m r) n q e = cc

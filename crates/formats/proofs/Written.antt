@@ -4,13 +4,13 @@
 use Prim.Native.Nat.{ℕ, suc, _+_, _-_, _≤_, _<_}
 use mathlib.Core.List.{List, [], _∷_, _++_, append-assoc}
 use mathlib.Core.Logic.{_⊎_, ⊎-elim}
-use mathlib.Core.Path.{_≡_, sym, ap, _∙_}
+use mathlib.Core.Path.{_≡_, sym, ap, ap₂, _∙_}
 use native.Mathlib.Decide.{decLe}
 use native.Mathlib.Nat.{add-assoc, add-zero, add-sub-of-le}
 use native.Mathlib.Numerals.{add-one}
 use native.Mathlib.Omega.{arith}
 use lib.ListN.{length, getD, take, drop, set, length-append, length-drop, length-set, take-append-drop, List·getD-append}
-use lib.Seq.{length-take-le, getD-take, getD-drop, getD-append-add, take-at, drop-at, take-append-seam, drop-append-add, drop-drop, set-split, sets}
+use lib.Seq.{length-take-le, getD-take, getD-drop, getD-append-add, take-at, drop-at, take-append-seam, take-append-le, drop-append-add, drop-drop, set-split, sets}
 use borrow.Author.Tests.{le-leb, lt-leb}
 use Rattle.formats.specs.Numbers.{bytesOf}
 use Rattle.formats.specs.Written.{written, Wrote}
@@ -104,6 +104,27 @@ written-append s p vs ws fits =
     rw (as-front s p vs first)
     ((rw (length-front s p vs first) at (behind-front (take p s ++ vs) (drop (p + length vs) s) ws rest))
     ∙ simp (written-fits s p (vs ++ ws) fits, drop-drop, append-assoc, length-append, add-assoc))
+
+-- to write ws, and vs right before it, is to write both at once
+pub written-front : (s : List ℕ) (p : ℕ) (vs ws : List ℕ) → p + length (vs ++ ws) ≤ length s
+    → written (written s (p + length vs) ws) p vs ≡ written s p (vs ++ ws)
+written-front s p vs ws fits =
+    let q = p + length vs in
+    let both = length-append vs ws in
+    let behind = ws ++ drop (q + length ws) s in
+    let first : written s q ws ≡ take q s ++ behind = written-fits s q ws (omega arith) in
+    let long : length (written s q ws) ≡ length s = wrote s q ws .same-length in
+    let short : p ≤ length (take q s) = omega (arith, length-take-le q s (omega arith)) in
+    let front : take p (take q s ++ behind) ≡ take p s =
+    take-append-le p (take q s) behind short ∙ sym (take-append-le p (take q s) (drop q s) short) ∙ ap (take p) (take-append-drop q s) in
+    let rest : drop q (take q s ++ behind) ≡ behind = drop-at (take q s) behind q (length-take-le q s (omega arith)) in
+    let place : q + length ws ≡ p + length (vs ++ ws) = omega arith in
+    written-fits (written s q ws) p vs (omega arith)
+    ∙ ap (λ (l : List ℕ). take p l ++ (vs ++ drop q l)) first
+    ∙ ap₂ (λ (x y : List ℕ). x ++ (vs ++ y)) front rest
+    ∙ ap (λ (n : ℕ). take p s ++ (vs ++ (ws ++ drop n s))) place
+    ∙ ap (λ (l : List ℕ). take p s ++ l) (sym (append-assoc vs ws _))
+    ∙ sym (written-fits s p (vs ++ ws) fits)
 
 -- to set one byte is to write it
 pub written-one : (s : List ℕ) (p v : ℕ) → p < length s → set s p v ≡ written s p (v ∷ [])

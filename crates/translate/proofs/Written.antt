@@ -1,42 +1,16 @@
 -- Instructions written into a part of the code buffer: those written in front of others, or behind them, are written at once.
 use Prim.Native.Nat.{ℕ, suc, _+_, _*_, _≤_}
 use mathlib.Core.List.{List, [], _∷_, _++_, append-assoc, append-nil, map}
-use mathlib.Core.Path.{_≡_, refl, sym, ap, ap₂, _∙_}
+use mathlib.Core.Path.{_≡_, refl, sym, ap, _∙_}
 use native.Mathlib.Omega.{arith}
-use lib.ListN.{length, take, drop, length-append, length-map, take-append-drop}
-use lib.Seq.{length-take-le, drop-at, take-append-le}
+use lib.ListN.{length, length-append, length-map}
 use Rattle.formats.specs.Records.{recordBytes, bytesOfRecord, flat}
 use Rattle.formats.specs.Written.{written}
 use Rattle.formats.proofs.Records.{length-flat}
-use Rattle.formats.proofs.Written.{written-fits, written-append, written-none, wrote}
+use Rattle.formats.proofs.Written.{written-append, written-front, written-none, wrote}
 use Rattle.meaning.specs.Instructions.{Operation, instructionOf}
 use Rattle.template.specs.Items.{put, putAll}
 use Rattle.translate.specs.Laying.{laidAt}
-
--- ---- bytes
-
--- to write ws, and vs right before it, is to write both at once
-written-front : (s : List ℕ) (p : ℕ) (vs ws : List ℕ) → p + length (vs ++ ws) ≤ length s
-    → written (written s (p + length vs) ws) p vs ≡ written s p (vs ++ ws)
-written-front s p vs ws fits =
-    let q = p + length vs in
-    let both = length-append vs ws in
-    let behind = ws ++ drop (q + length ws) s in
-    let first : written s q ws ≡ take q s ++ behind = written-fits s q ws (omega arith) in
-    let long : length (written s q ws) ≡ length s = wrote s q ws .same-length in
-    let short : p ≤ length (take q s) = omega (arith, length-take-le q s (omega arith)) in
-    let front : take p (take q s ++ behind) ≡ take p s =
-    take-append-le p (take q s) behind short ∙ sym (take-append-le p (take q s) (drop q s) short) ∙ ap (take p) (take-append-drop q s) in
-    let rest : drop q (take q s ++ behind) ≡ behind = drop-at (take q s) behind q (length-take-le q s (omega arith)) in
-    let place : q + length ws ≡ p + length (vs ++ ws) = omega arith in
-    written-fits (written s q ws) p vs (omega arith)
-    ∙ ap (λ (l : List ℕ). take p l ++ (vs ++ drop q l)) first
-    ∙ ap₂ (λ (x y : List ℕ). x ++ (vs ++ y)) front rest
-    ∙ ap (λ (n : ℕ). take p s ++ (vs ++ (ws ++ drop n s))) place
-    ∙ ap (λ (l : List ℕ). take p s ++ l) (sym (append-assoc vs ws _))
-    ∙ sym (written-fits s p (vs ++ ws) fits)
-
--- ---- instructions
 
 -- their bytes
 abbrev bytes : List Operation → List ℕ

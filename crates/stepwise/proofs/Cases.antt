@@ -1,0 +1,116 @@
+-- Closed cases of the rows of a program and of the steps over them, proved by computation.
+use Prim.Native.Nat.{ℕ, zero, suc, _*_, _≤_, _<_}
+use mathlib.Core.List.{List, [], _∷_, map}
+use mathlib.Core.Path.{_≡_, refl}
+use lib.Dec.{lit<}
+use lib.ListN.{length}
+use Rattle.formats.specs.Numbers.{Bytes, bytesOf, numberOf, numberAt, sum32}
+use Rattle.formats.specs.Results.{done}
+use Rattle.formats.specs.Tokens.{tokens, tagOf, tagAt, labelAt, partsAt, byTag, treeAt, firstTree}
+use Rattle.formats.specs.Records.{nth}
+use Rattle.formats.specs.Programs.{const, var, add, ifZero, letIn, call, noArgs, arg, prefix, prefixes, size}
+use Rattle.formats.specs.Programs.{numberValued, arityOf, total, signatureOf, Program, Every}
+use Rattle.formats.proofs.ProgramCases.{grow, grow-lawful}
+use Rattle.formats.proofs.Results.{then-inv}
+use Rattle.rules.specs.PassOne.{passOne}
+use Rattle.rules.specs.PassTwo.{order}
+use Rattle.rules.proofs.Cases.{numbered, programOf, grow-passes}
+use Rattle.meaning.specs.Levels.{atLevel}
+use Rattle.meaning.specs.Running.{valueWords, returnWords, mostCalls}
+use Rattle.meaning.specs.Evaluation.{resultBytes, resultNumber}
+use Rattle.meaning.specs.OpenCalls.{gives, after, next, numberOr, treeOr, resultTree, evaluate, evaluateArgs, firstRecord, called, evaluation}
+use Rattle.meaning.specs.Meaning.{PassesOne}
+use Rattle.meaning.proofs.MeaningCases.{two-leaves}
+use Rattle.stepwise.specs.Rows.{kindNumber, codeOf, roleOf, slotOf, namesIn, keepsIn, casesIn, operandOf, treeOf, moreOf, rowsOf, rowsOfArgs, behindArgs}
+use Rattle.stepwise.specs.Rows.{rowsOfAll, rowWords, rowsIn, tabled}
+use Rattle.stepwise.specs.Steps.{begin}
+use Rattle.stepwise.specs.Comes.{told, toldOf, Comes}
+use Rattle.stepwise.proofs.Whole.{comes}
+
+-- ---- rows
+
+-- Grow: kind, operand, tree, the rest; role, parent, slot, the record behind. Case at record 2, Leaf at 3, Add at 4, Node at 7.
+grow-rows : rowsIn grow
+    ≡ 7 ∷ 0 ∷ 0 ∷ 0 ∷ 0 ∷ 0 ∷ 0 ∷ 10
+    ∷ 5 ∷ 0 ∷ 0 ∷ 0 ∷ 4 ∷ 2 ∷ 0 ∷ 7
+    ∷ 2 ∷ 0 ∷ 0 ∷ 0 ∷ 5 ∷ 3 ∷ 0 ∷ 7
+    ∷ 1 ∷ 0 ∷ 0 ∷ 0 ∷ 1 ∷ 4 ∷ 15 ∷ 6
+    ∷ 0 ∷ 1 ∷ 0 ∷ 0 ∷ 2 ∷ 4 ∷ 15 ∷ 7
+    ∷ 6 ∷ 0 ∷ 0 ∷ 0 ∷ 4 ∷ 2 ∷ 0 ∷ 10
+    ∷ 8 ∷ 2 ∷ 5 ∷ 0 ∷ 6 ∷ 7 ∷ 0 ∷ 9
+    ∷ 8 ∷ 2 ∷ 6 ∷ 0 ∷ 4 ∷ 7 ∷ 0 ∷ 10
+    ∷ []
+unfolding grow rowsOfAll rowsOf kindNumber codeOf roleOf slotOf namesIn keepsIn casesIn operandOf treeOf moreOf firstRecord arityOf nth total signatureOf size prefix
+grow-rows = refl
+
+-- A Call of two arguments behind a number kept, the first one's word below that; a Let over two parameters, an IfZero in its body.
+pair : Program
+pair = programOf
+    (numbered (add (const 70000) (call 0 1 (arg (const 3) (arg (const 4) noArgs))))
+    ∷ record { sort = numberValued; parameters = 2; body = letIn (add (var 0) (var 1)) (ifZero (var 2) (var 0) (var 1)) } ∷ [])
+
+pair-rows : rowsIn pair
+    ≡ 2 ∷ 0 ∷ 0 ∷ 0 ∷ 0 ∷ 0 ∷ 0 ∷ 8
+    ∷ 0 ∷ 4464 ∷ 0 ∷ 1 ∷ 1 ∷ 3 ∷ 15 ∷ 5
+    ∷ 8 ∷ 8 ∷ 0 ∷ 2 ∷ 2 ∷ 3 ∷ 15 ∷ 8
+    ∷ 0 ∷ 3 ∷ 0 ∷ 0 ∷ 1 ∷ 5 ∷ 14 ∷ 7
+    ∷ 0 ∷ 4 ∷ 0 ∷ 0 ∷ 7 ∷ 5 ∷ 13 ∷ 8
+    ∷ 4 ∷ 0 ∷ 0 ∷ 0 ∷ 0 ∷ 0 ∷ 0 ∷ 16
+    ∷ 2 ∷ 0 ∷ 0 ∷ 0 ∷ 1 ∷ 8 ∷ 2 ∷ 12
+    ∷ 1 ∷ 0 ∷ 0 ∷ 0 ∷ 1 ∷ 9 ∷ 15 ∷ 11
+    ∷ 1 ∷ 1 ∷ 0 ∷ 0 ∷ 2 ∷ 9 ∷ 15 ∷ 12
+    ∷ 3 ∷ 0 ∷ 0 ∷ 0 ∷ 4 ∷ 8 ∷ 2 ∷ 16
+    ∷ 1 ∷ 2 ∷ 0 ∷ 0 ∷ 3 ∷ 12 ∷ 0 ∷ 14
+    ∷ 1 ∷ 0 ∷ 0 ∷ 0 ∷ 4 ∷ 12 ∷ 0 ∷ 15
+    ∷ 1 ∷ 1 ∷ 0 ∷ 0 ∷ 4 ∷ 12 ∷ 0 ∷ 16
+    ∷ []
+unfolding pair programOf numbered rowsOfAll rowsOf rowsOfArgs behindArgs kindNumber codeOf roleOf slotOf namesIn keepsIn casesIn operandOf treeOf moreOf firstRecord arityOf nth total signatureOf size prefix prefixes
+pair-rows = refl
+
+-- the names of trees inside two Cases, at records 2 and 5: the frame's tree, the first Case's left and right tree, then the second's
+codes : map (codeOf (2 ∷ 5 ∷ [])) (0 ∷ 1 ∷ 2 ∷ 3 ∷ 4 ∷ []) ≡ 0 ∷ 5 ∷ 6 ∷ 11 ∷ 12 ∷ []
+unfolding codeOf
+codes = refl
+
+-- ---- the steps
+
+-- Trees with the leaves 5 and 7, and 6 and 8.
+five-seven : List ℕ
+five-seven = 2 ∷ 1 ∷ 5 ∷ 0 ∷ 0 ∷ 0 ∷ 1 ∷ 7 ∷ 0 ∷ 0 ∷ 0 ∷ []
+
+six-eight : List ℕ
+six-eight = 2 ∷ 1 ∷ 6 ∷ 0 ∷ 0 ∷ 0 ∷ 1 ∷ 8 ∷ 0 ∷ 0 ∷ 0 ∷ []
+
+-- where each one is a byte
+each-byte : (s : List ℕ) → Every (λ x. x < 256) s → Bytes s
+each-byte [] h i = lit< tt
+each-byte (x ∷ s) h zero = h .0
+each-byte (x ∷ s) h (suc i) = each-byte s (h .1) i
+
+-- the first is the tree that Grow is run on
+five-seven-read : firstTree five-seven ≡ done two-leaves
+unfolding five-seven two-leaves firstTree treeAt byTag partsAt labelAt tagAt tagOf numberAt numberOf tokens bytesOf
+five-seven-read = refl
+
+-- Grow passes pass one
+grow-one : PassesOne grow
+unfolding order
+grow-one = record { lawful = grow-lawful; passes = then-inv (passOne grow) _ tt grow-passes .first }
+
+-- its evaluation begins 14 expressions and tells the second
+grow-told : next (evaluation grow mostCalls two-leaves) toldOf ≡ after 14 (gives (told 0 six-eight))
+unfolding evaluation called evaluate evaluateArgs next after resultNumber resultTree resultBytes numberOr treeOr atLevel sum32 nth firstRecord total signatureOf size prefix prefixes grow two-leaves tokens bytesOf six-eight
+grow-told = refl
+
+-- so do the steps, over words and return words that hold anything
+grow-steps : (table words places : List ℕ)
+    → rowWords * 1057 ≤ length table
+    → valueWords ≤ length words
+    → returnWords ≤ length places
+    → Comes (tabled table grow) five-seven [] (begin 2 (record { words = words; places = places; calls = 0; tree = 0 })) (after 14 (gives (told 0 six-eight)))
+unfolding grow five-seven
+grow-steps table words places room values returns =
+    rw grow-told at
+    (comes grow five-seven table words places two-leaves grow-one
+    (each-byte five-seven (lit< tt, (lit< tt, (lit< tt, (lit< tt, (lit< tt, (lit< tt, (lit< tt, (lit< tt, (lit< tt, (lit< tt, (lit< tt, tt))))))))))))
+    five-seven-read room values returns)

@@ -1,0 +1,197 @@
+-- Steps one by one, from what comes behind to what comes before: a law for each thing that may become of a record.
+use Prim.Native.Nat.{ℕ, suc, _+_, _*_, _≤_, _<_}
+use mathlib.Core.List.{List, [], _∷_, _++_, append-nil}
+use mathlib.Core.Logic.{_≢_}
+use mathlib.Core.Path.{_≡_, refl, ap, _∙_}
+use native.Mathlib.Omega.{arith}
+use lib.ListN.{length, getD}
+use Rattle.formats.specs.Numbers.{sum32, numberAt}
+use Rattle.formats.specs.Refusals.{tooManyCalls}
+use Rattle.formats.specs.Tokens.{leaf, leafTag, nodeTag, tokens}
+use Rattle.meaning.specs.OpenCalls.{Outcome, gives, stops, begins, next}
+use Rattle.stepwise.specs.Rows.{whole, kept, added, tested, passed, labelled, followed, lastArgument}
+use Rattle.stepwise.specs.Steps.{State, Turn, begin, through, opens, ended, mostRecords, mostWaiting}
+use Rattle.stepwise.specs.Steps.{kindAt, treeAt, operandAt, moreAt, roleAt, parentAt, slotAt, behindAt}
+use Rattle.stepwise.specs.Steps.{Found, the-own, wordAt, withWord, framed, beginning, closing, rising, weight}
+use Rattle.stepwise.specs.Comes.{Told, told, Comes, at-begin, at-through, at-open, at-end, at-deep}
+use Rattle.stepwise.proofs.Steps.{begins-const, begins-var, begins-leaf, begins-node, begins-bare, begins-args, begins-first, said-node, said-nothing}
+use Rattle.stepwise.proofs.Steps.{rises-whole, rises-kept, rises-added, rises-zero, rises-other, rises-passed}
+use Rattle.stepwise.proofs.Steps.{rises-labelled, rises-followed, rises-last, closes-first, said-leaf, said-none, opens-deep, opens-frame}
+
+-- what follows what follows
+pub next-next : {A B C : Type 0} (o : Outcome A) (f : A → Outcome B) (g : B → Outcome C) → next (next o f) g ≡ next o (λ x. next (f x) g)
+unfolding next
+next-next (gives x) f g = refl
+next-next (stops why r) f g = refl
+next-next (begins o) f g = ap begins (next-next o f g)
+
+-- where no tree is named, the frame's own is found
+own : (T input : List ℕ) (r : ℕ) (s : State) → treeAt T r ≡ 0 → Found T input (s .tree) (treeAt T r) (s .tree)
+own T input r s none = rw none the-own
+
+module _ (T input : List ℕ) {out : List ℕ} {o : Outcome Told} where
+  -- ---- a record begins
+
+  module _ (p r : ℕ) (s : State) (low : r < mostRecords) (found : Found T input (s .tree) (treeAt T r) p) where
+    -- nothing is written, but by a Node
+    begin-quiet : (t : Turn) → kindAt T r ≢ 6 → beginning T input p r s ≡ t → Comes T input out t o → Comes T input out (begin r s) (begins o)
+    begin-quiet t kind is c = at-begin {out = out} {r = r} {s = s} {o = o} p low found (rw (said-nothing T r kind, append-nil, is) c)
+
+    -- a Case on a leaf
+    pub begin-leaf :
+        (slot x : ℕ)
+        → kindAt T r ≡ 7
+        → operandAt T r ≡ slot
+        → p < length input
+        → getD input p 0 ≡ leafTag
+        → numberAt 4 input (suc p) ≡ x
+        → Comes T input out (begin (suc r) (withWord s slot x)) o
+        → Comes T input out (begin r s) (begins o)
+    begin-leaf slot x kind operand within tag label c =
+        begin-quiet _ (λ e. absurd (omega arith)) (begins-leaf T input p r s kind within tag) (rw (operand, label) c)
+
+    -- a Case on a node
+    pub begin-node :
+        (behind : ℕ)
+        → kindAt T r ≡ 7
+        → p < length input
+        → getD input p 0 ≢ leafTag
+        → behindAt T (suc r) ≡ behind
+        → Comes T input out (begin behind s) o
+        → Comes T input out (begin r s) (begins o)
+    begin-node behind kind within tag is c =
+        begin-quiet _ (λ e. absurd (omega arith)) (begins-node T input p r s kind within tag) (rw is c)
+
+    -- a Call without arguments, and with some
+    pub begin-bare : kindAt T r ≡ 8 → moreAt T r ≡ 0 → Comes T input out (opens r s) o → Comes T input out (begin r s) (begins o)
+    begin-bare kind none c = begin-quiet _ (λ e. absurd (omega arith)) (begins-bare T input p r s kind none) c
+
+    pub begin-args : kindAt T r ≡ 8 → moreAt T r ≢ 0 → Comes T input out (begin (suc r) s) o → Comes T input out (begin r s) (begins o)
+    begin-args kind some c = begin-quiet _ (λ e. absurd (omega arith)) (begins-args T input p r s kind some) c
+
+    -- a Call one too many, and one that opens
+    pub open-deep : mostWaiting ≤ s .calls → o ≡ stops tooManyCalls r → Comes T input out (opens r s) o
+    open-deep many is = at-open {out = out} {r = r} {s = s} {o = o} p low found (rw (opens-deep T p r s many, is) at-deep)
+
+    pub open-frame :
+        (entry : ℕ)
+        → s .calls < mostWaiting
+        → operandAt T r ≡ entry
+        → Comes T input out (begin entry (framed T p r s)) o
+        → Comes T input out (opens r s) o
+    open-frame entry few is c = at-open {out = out} {r = r} {s = s} {o = o} p low found (rw (opens-frame T p r s few, is) c)
+
+  -- the other kinds name no tree
+  module _ (r : ℕ) (s : State) (low : r < mostRecords) (none : treeAt T r ≡ 0) where
+    pub begin-const : (i : ℕ) → kindAt T r ≡ 0 → operandAt T r + 65536 * moreAt T r ≡ i → Comes T input out (through r i s) o
+        → Comes T input out (begin r s) (begins o)
+    begin-const i kind is c =
+        begin-quiet _ r s low (own T input r s none) _ (λ e. absurd (omega arith)) (begins-const T input (s .tree) r s kind) (rw is c)
+
+    pub begin-var : (a : ℕ) → kindAt T r ≡ 1 → operandAt T r ≡ a → Comes T input out (through r (wordAt s a) s) o
+        → Comes T input out (begin r s) (begins o)
+    begin-var a kind is c =
+        begin-quiet _ r s low (own T input r s none) _ (λ e. absurd (omega arith)) (begins-var T input (s .tree) r s kind) (rw is c)
+
+    -- Add, IfZero, Let, Leaf: the first part begins
+    pub begin-first : (k : ℕ) → kindAt T r ≡ k → 2 ≤ k → k ≤ 5 → Comes T input out (begin (suc r) s) o → Comes T input out (begin r s) (begins o)
+    begin-first k kind least most c =
+        begin-quiet _ r s low (own T input r s none) _ (λ e. absurd (omega arith))
+        (begins-first T input (s .tree) r s
+        (λ e. absurd (omega arith)) (λ e. absurd (omega arith))
+        (λ e. absurd (omega arith)) (λ e. absurd (omega arith))) c
+
+    -- so does a Node's, with the tag written
+    pub begin-pair : kindAt T r ≡ 6 → Comes T input (out ++ (nodeTag ∷ [])) (begin (suc r) s) o → Comes T input out (begin r s) (begins o)
+    begin-pair kind c =
+        at-begin {out = out} {r = r} {s = s} {o = o} (s .tree) low (own T input r s none)
+        (rw (
+          said-node T r kind,
+          begins-first T input (s .tree) r s
+              (λ e. absurd (omega arith)) (λ e. absurd (omega arith))
+              (λ e. absurd (omega arith)) (λ e. absurd (omega arith)),
+        ) c)
+
+  -- ---- a record is through
+
+  module _ (r x : ℕ) (s : State) where
+    -- nothing is written, but by a Leaf
+    through-quiet : (t : Turn) → roleAt T r ≢ labelled → rising T r x s ≡ t → weight t < weight (through r x s) → Comes T input out t o
+        → Comes T input out (through r x s) o
+    through-quiet t role is less c =
+        at-through {out = out} {r = r} {x = x} {s = s} {o = o} (rw is less) (rw (said-none T r x role, append-nil, is) c)
+
+    -- the number is put on a word, and the next part begins
+    pub through-kept : (slot behind : ℕ) → roleAt T r ≡ kept → slotAt T r ≡ slot → behindAt T r ≡ behind
+        → Comes T input out (begin behind (withWord s slot x)) o
+        → Comes T input out (through r x s) o
+    unfolding weight
+    through-kept slot behind role is then c =
+        through-quiet _ (λ e. absurd (omega arith)) (rises-kept T r x s role) (omega arith) (rw (is, then) c)
+
+    -- it is added to the one kept
+    pub through-added : (slot parent y : ℕ) → roleAt T r ≡ added → slotAt T r ≡ slot → parentAt T r ≡ parent → parent < r → wordAt s slot ≡ y
+        → Comes T input out (through parent (sum32 y x) s) o
+        → Comes T input out (through r x s) o
+    unfolding weight
+    through-added slot parent y role is above earlier word c =
+        through-quiet (through parent (sum32 (wordAt s slot) x) s) (λ e. absurd (omega arith)) (rw (← is, ← above) (rises-added T r x s role)) (omega arith)
+        (rw word c)
+
+    -- a test that is zero, and another
+    pub through-zero : (behind : ℕ) → roleAt T r ≡ tested → x ≡ 0 → behindAt T r ≡ behind → Comes T input out (begin behind s) o
+        → Comes T input out (through r x s) o
+    unfolding weight
+    through-zero behind role z then c =
+        through-quiet _ (λ e. absurd (omega arith)) (rises-zero T r x s role z) (omega arith) (rw then c)
+
+    pub through-other : (middle behind : ℕ) → roleAt T r ≡ tested → x ≢ 0 → behindAt T r ≡ middle → behindAt T middle ≡ behind
+        → Comes T input out (begin behind s) o
+        → Comes T input out (through r x s) o
+    unfolding weight
+    through-other middle behind role some then last c =
+        through-quiet _ (λ e. absurd (omega arith)) (rises-other T r x s role some) (omega arith) (rw (then, last) c)
+
+    -- the value is the whole's
+    pub through-passed : (parent : ℕ) → roleAt T r ≡ passed → parentAt T r ≡ parent → parent < r → Comes T input out (through parent x s) o
+        → Comes T input out (through r x s) o
+    unfolding weight
+    through-passed parent role above earlier c =
+        through-quiet (through parent x s) (λ e. absurd (omega arith)) (rw (← above) (rises-passed T r x s role)) (omega arith) c
+
+    -- a leaf is written
+    pub through-labelled : (parent : ℕ) → roleAt T r ≡ labelled → parentAt T r ≡ parent → parent < r
+        → Comes T input (out ++ tokens (leaf x)) (through parent 0 s) o
+        → Comes T input out (through r x s) o
+    unfolding weight
+    through-labelled parent role above earlier c =
+        at-through {out = out} {r = r} {x = x} {s = s} {o = o} (rw (rises-labelled T r x s role, above) (omega arith))
+        (rw (said-leaf T r x role, rises-labelled T r x s role, above) c)
+
+    -- the next part begins
+    pub through-followed : (behind : ℕ) → roleAt T r ≡ followed → behindAt T r ≡ behind → Comes T input out (begin behind s) o
+        → Comes T input out (through r x s) o
+    unfolding weight
+    through-followed behind role then c =
+        through-quiet _ (λ e. absurd (omega arith)) (rises-followed T r x s role) (omega arith) (rw then c)
+
+    -- the number is put on a word, and the call opens
+    pub through-last : (slot parent : ℕ) → roleAt T r ≡ lastArgument → slotAt T r ≡ slot → parentAt T r ≡ parent
+        → Comes T input out (opens parent (withWord s slot x)) o
+        → Comes T input out (through r x s) o
+    unfolding weight
+    through-last slot parent role is above c =
+        through-quiet _ (λ e. absurd (omega arith)) (rises-last T r x s role) (omega arith) (rw (is, above) c)
+
+    -- a body in the first frame, and in another
+    pub through-end : roleAt T r ≡ whole → s .calls ≡ 0 → o ≡ gives (told x out) → Comes T input out (through r x s) o
+    unfolding weight
+    through-end role first is =
+        through-quiet (ended x) (λ e. absurd (omega arith)) (rises-whole T r x s role ∙ closes-first x s first) (omega arith) (rw is at-end)
+
+    pub through-call : (parent : ℕ) (s′ : State) → roleAt T r ≡ whole → closing x s ≡ through parent x s′ → s .calls ≡ suc (s′ .calls) → parent < 65536
+        → Comes T input out (through parent x s′) o
+        → Comes T input out (through r x s) o
+    unfolding weight
+    through-call parent s′ role is fewer low c =
+        through-quiet (through parent x s′) (λ e. absurd (omega arith)) (rises-whole T r x s role ∙ is) (omega (arith, fewer)) c

@@ -1,0 +1,170 @@
+-- Laws of the steps, one for each thing that may become of a record.
+use Prim.Native.Nat.{ℕ, suc, _+_, _*_, _%_, _≤_, _<_}
+use mathlib.Core.List.{List, [], _∷_}
+use mathlib.Core.Logic.{_≢_}
+use mathlib.Core.Path.{_≡_, refl, ap, _∙_}
+use mathlib.Core.Bool.{false}
+use borrow.Author.Tests.{eq-eqb, ne-eqb, le-leb, lt-leb, lt-ltb, le-ltb}
+use lib.Dec.{eqb}
+use lib.ListN.{length, getD}
+use Rattle.formats.specs.Numbers.{sum32, numberAt}
+use Rattle.formats.specs.Tokens.{leaf, leafTag, nodeTag, tokens}
+use Rattle.stepwise.specs.Rows.{whole, kept, added, tested, passed, labelled, followed, lastArgument}
+use Rattle.stepwise.specs.Steps.{State, begin, through, opens, ended, deep, stuck, kindAt, operandAt, moreAt, roleAt, parentAt, slotAt, behindAt}
+use Rattle.stepwise.specs.Steps.{wordAt, withWord, framed, mostWaiting, looking, beginning, saidFirst, closing, following, rising, saidLast, opening}
+
+-- a number that is this one is no other
+pub off : (k m n : ℕ) → k ≡ m → eqb m n ≡ false → eqb k n ≡ false
+off k m n e h = ap (λ i. eqb i n) e ∙ h
+
+-- ---- a record begins
+
+module _ (T input : List ℕ) (p r : ℕ) (s : State) where
+  pub begins-const : kindAt T r ≡ 0 → beginning T input p r s ≡ through r (operandAt T r + 65536 * moreAt T r) s
+  unfolding beginning
+  begins-const k = simp (beginning, eq-eqb _ _ k)
+
+  pub begins-var : kindAt T r ≡ 1 → beginning T input p r s ≡ through r (wordAt s (operandAt T r)) s
+  unfolding beginning
+  begins-var k = simp (beginning, off _ 1 0 k refl, eq-eqb _ _ k)
+
+  -- a Case looks at its tree
+  pub begins-case : kindAt T r ≡ 7 → beginning T input p r s ≡ looking T input p r s
+  unfolding beginning
+  begins-case k = simp (beginning, off _ 7 0 k refl, off _ 7 1 k refl, eq-eqb _ _ k)
+
+  pub looks-leaf : p < length input → getD input p 0 ≡ leafTag
+      → looking T input p r s ≡ begin (suc r) (withWord s (operandAt T r) (numberAt 4 input (suc p)))
+  unfolding looking
+  looks-leaf there tag = simp (looking, lt-ltb _ _ there, eq-eqb _ _ tag)
+
+  pub looks-node : p < length input → getD input p 0 ≢ leafTag → looking T input p r s ≡ begin (behindAt T (suc r)) s
+  unfolding looking
+  looks-node there tag = simp (looking, lt-ltb _ _ there, ne-eqb _ _ tag)
+
+  pub looks-past : length input ≤ p → looking T input p r s ≡ stuck
+  unfolding looking
+  looks-past past = simp (looking, le-ltb _ _ past)
+
+  pub begins-leaf : kindAt T r ≡ 7 → p < length input → getD input p 0 ≡ leafTag
+      → beginning T input p r s ≡ begin (suc r) (withWord s (operandAt T r) (numberAt 4 input (suc p)))
+  begins-leaf k there tag = rw (begins-case k) (looks-leaf there tag)
+
+  pub begins-node : kindAt T r ≡ 7 → p < length input → getD input p 0 ≢ leafTag → beginning T input p r s ≡ begin (behindAt T (suc r)) s
+  begins-node k there tag = rw (begins-case k) (looks-node there tag)
+
+  pub begins-bare : kindAt T r ≡ 8 → moreAt T r ≡ 0 → beginning T input p r s ≡ opens r s
+  unfolding beginning
+  begins-bare k none = simp (beginning, off _ 8 0 k refl, off _ 8 1 k refl, off _ 8 7 k refl, eq-eqb _ _ k, eq-eqb _ _ none)
+
+  pub begins-args : kindAt T r ≡ 8 → moreAt T r ≢ 0 → beginning T input p r s ≡ begin (suc r) s
+  unfolding beginning
+  begins-args k some = simp (beginning, off _ 8 0 k refl, off _ 8 1 k refl, off _ 8 7 k refl, eq-eqb _ _ k, ne-eqb _ _ some)
+
+  -- the five kinds whose first part begins
+  pub begins-first : kindAt T r ≢ 0 → kindAt T r ≢ 1 → kindAt T r ≢ 7 → kindAt T r ≢ 8 → beginning T input p r s ≡ begin (suc r) s
+  unfolding beginning
+  begins-first a b c d = simp (beginning, ne-eqb _ _ a, ne-eqb _ _ b, ne-eqb _ _ c, ne-eqb _ _ d)
+
+-- what is written
+pub said-node : (T : List ℕ) (r : ℕ) → kindAt T r ≡ 6 → saidFirst T r ≡ nodeTag ∷ []
+unfolding saidFirst
+said-node T r k = simp (saidFirst, eq-eqb _ _ k)
+
+pub said-nothing : (T : List ℕ) (r : ℕ) → kindAt T r ≢ 6 → saidFirst T r ≡ []
+unfolding saidFirst
+said-nothing T r k = simp (saidFirst, ne-eqb _ _ k)
+
+-- ---- a record is through
+
+module _ (T : List ℕ) (r x : ℕ) (s : State) where
+  pub rises-whole : roleAt T r ≡ whole → rising T r x s ≡ closing x s
+  unfolding rising
+  rises-whole k = simp (rising, eq-eqb _ _ k)
+
+  pub rises-kept : roleAt T r ≡ kept → rising T r x s ≡ begin (behindAt T r) (withWord s (slotAt T r) x)
+  unfolding rising
+  rises-kept k = simp (rising, off _ 1 0 k refl, eq-eqb _ _ k)
+
+  pub rises-added : roleAt T r ≡ added → rising T r x s ≡ through (parentAt T r) (sum32 (wordAt s (slotAt T r)) x) s
+  unfolding rising
+  rises-added k = simp (rising, off _ 2 0 k refl, off _ 2 1 k refl, eq-eqb _ _ k)
+
+  pub rises-zero : roleAt T r ≡ tested → x ≡ 0 → rising T r x s ≡ begin (behindAt T r) s
+  unfolding rising
+  rises-zero k z = simp (rising, off _ 3 0 k refl, off _ 3 1 k refl, off _ 3 2 k refl, eq-eqb _ _ k, eq-eqb _ _ z)
+
+  pub rises-other : roleAt T r ≡ tested → x ≢ 0 → rising T r x s ≡ begin (behindAt T (behindAt T r)) s
+  unfolding rising
+  rises-other k o = simp (rising, off _ 3 0 k refl, off _ 3 1 k refl, off _ 3 2 k refl, eq-eqb _ _ k, ne-eqb _ _ o)
+
+  -- what a part is that is none of these
+  pub rises-on : roleAt T r ≢ whole → roleAt T r ≢ kept → roleAt T r ≢ added → roleAt T r ≢ tested → rising T r x s ≡ following T r x s
+  unfolding rising
+  rises-on a b c d = simp (rising, ne-eqb _ _ a, ne-eqb _ _ b, ne-eqb _ _ c, ne-eqb _ _ d)
+
+  pub follows-passed : roleAt T r ≡ passed → following T r x s ≡ through (parentAt T r) x s
+  unfolding following
+  follows-passed k = simp (following, eq-eqb _ _ k)
+
+  pub follows-labelled : roleAt T r ≡ labelled → following T r x s ≡ through (parentAt T r) 0 s
+  unfolding following
+  follows-labelled k = simp (following, off _ 5 4 k refl, eq-eqb _ _ k)
+
+  pub follows-followed : roleAt T r ≡ followed → following T r x s ≡ begin (behindAt T r) s
+  unfolding following
+  follows-followed k = simp (following, off _ 6 4 k refl, off _ 6 5 k refl, eq-eqb _ _ k)
+
+  pub follows-last : roleAt T r ≢ passed → roleAt T r ≢ labelled → roleAt T r ≢ followed
+      → following T r x s ≡ opens (parentAt T r) (withWord s (slotAt T r) x)
+  unfolding following
+  follows-last a b c = simp (following, ne-eqb _ _ a, ne-eqb _ _ b, ne-eqb _ _ c)
+
+  -- a role of four or more
+  late : (k : ℕ) → roleAt T r ≡ k → eqb k 0 ≡ false → eqb k 1 ≡ false → eqb k 2 ≡ false → eqb k 3 ≡ false → rising T r x s ≡ following T r x s
+  unfolding rising
+  late k e a b c d = simp (rising, off _ k 0 e a, off _ k 1 e b, off _ k 2 e c, off _ k 3 e d)
+
+  pub rises-passed : roleAt T r ≡ passed → rising T r x s ≡ through (parentAt T r) x s
+  rises-passed k = late 4 k refl refl refl refl ∙ follows-passed k
+
+  pub rises-labelled : roleAt T r ≡ labelled → rising T r x s ≡ through (parentAt T r) 0 s
+  rises-labelled k = late 5 k refl refl refl refl ∙ follows-labelled k
+
+  pub rises-followed : roleAt T r ≡ followed → rising T r x s ≡ begin (behindAt T r) s
+  rises-followed k = late 6 k refl refl refl refl ∙ follows-followed k
+
+  pub rises-last : roleAt T r ≡ lastArgument → rising T r x s ≡ opens (parentAt T r) (withWord s (slotAt T r) x)
+  unfolding following
+  rises-last k = late 7 k refl refl refl refl ∙ simp (following, off _ 7 4 k refl, off _ 7 5 k refl, off _ 7 6 k refl)
+
+-- a call closes
+pub closes-first : (x : ℕ) (s : State) → s .calls ≡ 0 → closing x s ≡ ended x
+unfolding closing
+closes-first x s k = simp (closing, k)
+
+pub closes-waiting : (x n : ℕ) (s : State) → s .calls ≡ suc n
+    → closing x s
+    ≡ through (getD (s .places) (2 * n) 0 % 65536) x
+    (record { words = s .words; places = s .places; calls = n; tree = getD (s .places) (suc (2 * n)) 0 })
+unfolding closing
+closes-waiting x n s k = simp (closing, k)
+
+-- what is written
+pub said-leaf : (T : List ℕ) (r x : ℕ) → roleAt T r ≡ labelled → saidLast T r x ≡ tokens (leaf x)
+unfolding saidLast
+said-leaf T r x k = simp (saidLast, eq-eqb _ _ k)
+
+pub said-none : (T : List ℕ) (r x : ℕ) → roleAt T r ≢ labelled → saidLast T r x ≡ []
+unfolding saidLast
+said-none T r x k = simp (saidLast, ne-eqb _ _ k)
+
+-- ---- a call opens
+
+pub opens-deep : (T : List ℕ) (p r : ℕ) (s : State) → mostWaiting ≤ s .calls → opening T p r s ≡ deep r
+unfolding opening
+opens-deep T p r s h = simp (opening, le-leb _ _ h)
+
+pub opens-frame : (T : List ℕ) (p r : ℕ) (s : State) → s .calls < mostWaiting → opening T p r s ≡ begin (operandAt T r) (framed T p r s)
+unfolding opening
+opens-frame T p r s h = simp (opening, lt-leb _ _ h)

@@ -1,0 +1,222 @@
+-- The steps of the source evaluation over the rows of a program.
+--
+-- A record begins; it is through, with its number (0 for a tree); or a call opens. A frame's tree is known by its place in the input, and every other tree
+-- that is named by the way from there. A frame's numbers stand on 16 words; a call that waits has two return words, its record and its frame's tree.
+use Prim.Native.Nat.{ℕ, zero, suc, _+_, _-_, _*_, _%_, _<_}
+use mathlib.Core.Bool.{true, false}
+use mathlib.Core.List.{List, [], _∷_}
+use mathlib.Core.Path.{_≡_}
+use lib.Dec.{eqb, leb, ltb}
+use lib.ListN.{length, getD, set, drop}
+use Rattle.formats.specs.Numbers.{sum32, numberAt}
+use Rattle.formats.specs.Results.{done}
+use Rattle.formats.specs.Tokens.{leaf, leafTag, nodeTag, tokens, firstEnd}
+use Rattle.stepwise.specs.Rows.{rowWords, whole, kept, added, tested, passed, labelled, followed}
+
+-- Words of a frame.
+abbrev pub frameWords : ℕ
+frameWords = 16
+
+-- The most calls that may wait: with the one that goes on, 1,024 are open.
+abbrev pub mostWaiting : ℕ
+mostWaiting = 1023
+
+-- Records are numbered below.
+abbrev pub mostRecords : ℕ
+mostRecords = 2048
+
+-- The lent words, how many calls wait, and the place of the frame's tree.
+pub record State : Type 0 where
+  pub words : List ℕ
+  pub places : List ℕ
+  pub calls : ℕ
+  pub tree : ℕ
+
+pub data Turn : Type 0 where
+  -- the record is to begin
+  begin : ℕ → State → Turn
+  -- the record is through, with this number
+  through : ℕ → ℕ → State → Turn
+  -- the call at this record is to open
+  opens : ℕ → State → Turn
+  -- the first frame is through, with this number
+  ended : ℕ → Turn
+  -- the call at this record is one too many
+  deep : ℕ → Turn
+  -- none of these
+  stuck : Turn
+
+-- ---- rows
+
+abbrev pub field : List ℕ → ℕ → ℕ → ℕ
+field T r f = getD T (rowWords * r + f) 0
+
+abbrev pub kindAt : List ℕ → ℕ → ℕ
+kindAt T r = field T r 0
+
+abbrev pub operandAt : List ℕ → ℕ → ℕ
+operandAt T r = field T r 1
+
+abbrev pub treeAt : List ℕ → ℕ → ℕ
+treeAt T r = field T r 2
+
+abbrev pub moreAt : List ℕ → ℕ → ℕ
+moreAt T r = field T r 3
+
+abbrev pub roleAt : List ℕ → ℕ → ℕ
+roleAt T r = field T r 4
+
+abbrev pub parentAt : List ℕ → ℕ → ℕ
+parentAt T r = field T r 5
+
+abbrev pub slotAt : List ℕ → ℕ → ℕ
+slotAt T r = field T r 6
+
+abbrev pub behindAt : List ℕ → ℕ → ℕ
+behindAt T r = field T r 7
+
+-- ---- the place of a named tree
+
+-- `Found T input own code p`: in a frame whose own tree is at `own`, the tree of this code is at place p of the input. A left tree stands behind its node's
+-- tag, a right tree behind the left one. The Case that looks at the node is an earlier record, so its own code is smaller.
+pub data Found (T input : List ℕ) (own : ℕ) : ℕ → ℕ → Type 0 where
+  the-own : Found T input own 0 own
+  the-left : (c p : ℕ) → treeAt T c < suc (2 * c) → p < length input → Found T input own (treeAt T c) p → Found T input own (suc (2 * c)) (suc p)
+  the-right :
+      (c p n : ℕ)
+      → treeAt T c < suc (2 * c)
+      → p < length input
+      → Found T input own (treeAt T c) p
+      → firstEnd (drop (suc p) input) ≡ done n
+      → Found T input own (suc (suc (2 * c))) (suc p + n)
+
+-- ---- words
+
+abbrev pub wordAt : State → ℕ → ℕ
+wordAt s slot = getD (s .words) (frameWords * s .calls + slot) 0
+
+abbrev pub withWord : State → ℕ → ℕ → State
+withWord s slot x =
+    record { words = set (s .words) (frameWords * s .calls + slot) x; places = s .places; calls = s .calls; tree = s .tree }
+
+-- The first n arguments of a call, on words from `slot` down of the frame at word `base`, put on the first words of the next frame.
+unfoldable pub copied : List ℕ → ℕ → ℕ → ℕ → List ℕ
+copied words base slot zero = words
+copied words base slot (suc n) =
+    let before : List ℕ = copied words base slot n in
+    set before (base + frameWords + n) (getD before (base + (slot - n)) 0)
+
+-- ---- a record begins
+
+-- By the tag of the tree at place p: a label is put on its word, and the leaf part begins; or the node part does.
+unfoldable pub looking : List ℕ → List ℕ → ℕ → ℕ → State → Turn
+looking T input p r s =
+    elim (ltb p (length input)) [
+      | true ↦
+          elim (eqb (getD input p 0) leafTag) [
+            | true ↦ begin (suc r) (withWord s (operandAt T r) (numberAt 4 input (suc p)))
+            | false ↦ begin (behindAt T (suc r)) s
+          ]
+      | false ↦ stuck
+    ]
+
+-- Const and Var are through; a Case looks at its tree, at place p; a Call without arguments opens; else the first part begins.
+unfoldable pub beginning : List ℕ → List ℕ → ℕ → ℕ → State → Turn
+beginning T input p r s =
+    elim (eqb (kindAt T r) 0) [
+      | true ↦ through r (operandAt T r + 65536 * moreAt T r) s
+      | false ↦
+          elim (eqb (kindAt T r) 1) [
+            | true ↦ through r (wordAt s (operandAt T r)) s
+            | false ↦
+                elim (eqb (kindAt T r) 7) [
+                  | true ↦ looking T input p r s
+                  | false ↦
+                      elim (eqb (kindAt T r) 8) [
+                        | true ↦ elim (eqb (moreAt T r) 0) [ true ↦ opens r s | false ↦ begin (suc r) s ]
+                        | false ↦ begin (suc r) s
+                      ]
+                ]
+          ]
+    ]
+
+-- A node's tag is written when it begins.
+unfoldable pub saidFirst : List ℕ → ℕ → List ℕ
+saidFirst T r = elim (eqb (kindAt T r) 6) [ true ↦ nodeTag ∷ [] | false ↦ [] ]
+
+-- ---- a record is through
+
+-- The call that waits goes on; the first frame is the last.
+unfoldable pub closing : ℕ → State → Turn
+closing x s =
+    elim (s .calls) [
+      | zero ↦ ended x
+      | suc n ↦
+          through (getD (s .places) (2 * n) 0 % 65536) x
+          (record { words = s .words; places = s .places; calls = n; tree = getD (s .places) (suc (2 * n)) 0 })
+    ]
+
+-- What the value of a part is, or that the next part or the call follows it.
+unfoldable pub following : List ℕ → ℕ → ℕ → State → Turn
+following T r x s =
+    elim (eqb (roleAt T r) passed) [
+      | true ↦ through (parentAt T r) x s
+      | false ↦
+          elim (eqb (roleAt T r) labelled) [
+            | true ↦ through (parentAt T r) 0 s
+            | false ↦
+                elim (eqb (roleAt T r) followed) [
+                  | true ↦ begin (behindAt T r) s
+                  | false ↦ opens (parentAt T r) (withWord s (slotAt T r) x)
+                ]
+          ]
+    ]
+
+-- By what the record is to its parent.
+unfoldable pub rising : List ℕ → ℕ → ℕ → State → Turn
+rising T r x s =
+    elim (eqb (roleAt T r) whole) [
+      | true ↦ closing x s
+      | false ↦
+          elim (eqb (roleAt T r) kept) [
+            | true ↦ begin (behindAt T r) (withWord s (slotAt T r) x)
+            | false ↦
+                elim (eqb (roleAt T r) added) [
+                  | true ↦ through (parentAt T r) (sum32 (wordAt s (slotAt T r)) x) s
+                  | false ↦
+                      elim (eqb (roleAt T r) tested) [
+                        | true ↦ elim (eqb x 0) [ true ↦ begin (behindAt T r) s | false ↦ begin (behindAt T (behindAt T r)) s ]
+                        | false ↦ following T r x s
+                      ]
+                ]
+          ]
+    ]
+
+-- A leaf is written when its number is through.
+unfoldable pub saidLast : List ℕ → ℕ → ℕ → List ℕ
+saidLast T r x = elim (eqb (roleAt T r) labelled) [ true ↦ tokens (leaf x) | false ↦ [] ]
+
+-- While records are through this falls: the parent is an earlier record, and a call that closes leaves fewer that wait.
+unfoldable pub weight : Turn → ℕ
+weight (begin r s) = 0
+weight (through r x s) = suc (65536 * s .calls + r)
+weight (opens r s) = 0
+weight (ended x) = 0
+weight (deep r) = 0
+weight stuck = 0
+
+-- ---- a call opens
+
+-- The frame of the call at record r, its tree at place p.
+abbrev pub framed : List ℕ → ℕ → ℕ → State → State
+framed T p r s =
+    record {
+      words = copied (s .words) (frameWords * s .calls) (slotAt T (suc r)) (moreAt T r);
+      places = set (set (s .places) (2 * s .calls) r) (suc (2 * s .calls)) (s .tree);
+      calls = suc (s .calls);
+      tree = p;
+    }
+
+-- The function's body begins, or the call is one too many.
+unfoldable pub opening : List ℕ → ℕ → ℕ → State → Turn
+opening T p r s = elim (leb mostWaiting (s .calls)) [ true ↦ deep r | false ↦ begin (operandAt T r) (framed T p r s) ]

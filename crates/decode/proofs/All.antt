@@ -1,0 +1,253 @@
+-- A program's functions one after the other: what is left of them at function j, whose body is at record k.
+use Prim.Native.Nat.{ℕ, zero, suc, _+_, _-_, _*_, _≤_, _<_}
+use mathlib.Core.List.{List, [], _∷_, _++_, map}
+use mathlib.Core.Path.{_≡_, refl, sym, ap, ap₂, subst, _∙_}
+use native.Mathlib.Numerals.{add-one}
+use native.Mathlib.Omega.{arith}
+use borrow.Author.Needs.{needs}
+use lib.ListN.{length, getD, take, length-append}
+use Rattle.formats.specs.Numbers.{Bytes, numberAt}
+use Rattle.formats.specs.Results.{done, each}
+use Rattle.formats.specs.Records.{recordAt}
+use Rattle.formats.specs.Programs.{size, Signature, arityOf, total, Function, signatureOf, Program, signatures}
+use Rattle.formats.specs.Rows.{headerIn, functionIn, readProgram}
+use Rattle.formats.specs.Written.{written}
+use Rattle.formats.proofs.Results.{Value, passed-is, each-inv, each-none, each-front}
+use Rattle.formats.proofs.Rows.{function-read, flattens}
+use Rattle.formats.proofs.Written.{written-append, written-none, wrote}
+use Rattle.functions.specs.Counts.{countsFrom}
+use Rattle.meaning.specs.OpenCalls.{firstRecord}
+use Rattle.rules.proofs.Parts.{Known, Holds, Bodies, no-more, one-more}
+use Rattle.rules.proofs.Walks.{program-held, signature-of}
+use Rattle.stepwise.specs.Rows.{rowWords, bodyPlace, rowsOf, rowsOfAll, tabled}
+use Rattle.stepwise.proofs.Rows.{length-rows, length-rows-all}
+use Rattle.decode.specs.declared.Place.{Place}
+use Rattle.decode.specs.Decoding.{tableWords}
+use Rattle.decode.specs.Walk.{placeOf, firstIn, Agrees, Small, Entering, Filled, Fills, Starts, Ready, FillsAll}
+
+-- ---- the first records and the arities of a program's functions
+
+-- the counts of functions that were read are summed
+total-is : (s : List ℕ) (n j : ℕ) (gs : List Signature) → each (functionIn s) n j ≡ done gs → total gs ≡ countsFrom n s j
+unfolding total countsFrom
+total-is s zero j gs e = ap total (each-none (functionIn s) j gs e)
+total-is s (suc n) j gs e =
+    let i = each-inv (functionIn s) n j gs e in
+    ap total (i .both) ∙ ap₂ _+_ (function-read s j (i .head) (i .here) .count) (total-is s n (suc j) (i .tail) (i .later))
+
+-- fewer functions have no more nodes
+total-front : (b : ℕ) (gs : List Signature) → total (take b gs) ≤ total gs
+unfolding total
+total-front zero gs = omega arith
+total-front (suc b) [] = omega arith
+total-front (suc b) (g ∷ gs) = omega (arith, total-front b gs)
+
+-- so they are as the function records say
+pub agreeing : (s : List ℕ) (program : Program) → Bytes s → readProgram s ≡ done program → Agrees s (firstRecord program) (arityOf (signatures program))
+unfolding firstRecord firstIn arityOf
+agreeing s program bytes e =
+    let h = program-held s program bytes e in
+    let gs = signatures program in
+    let few = flattens s program bytes e .lawful .few-functions in
+    record {
+      entries = λ b there.
+          let front = total-is s b 0 (take b gs) (each-front (functionIn s) (headerIn s .functions) b 0 gs (h .known) (omega arith)) in
+          omega (arith, h .functions, front);
+      arities = λ b there.
+          let g = signature-of s gs b (h .known) there in
+          rw (g .there, arityOf) (g .its-fields .arity);
+      low = λ b there. omega (arith, total-front b gs, h .nodes, h .few-nodes, few);
+    }
+
+-- ---- the loop
+
+-- The rows of the functions from j on are still to be written.
+pub record Left (s : List ℕ) (functions end : ℕ) (table₀ table : List ℕ) (k j : ℕ) (program : Program) : Type 0 where
+  pub others : List Function
+  pub known : Known s (signatures program)
+  pub agrees : Agrees s (firstRecord program) (arityOf (signatures program))
+  pub held : Bodies s (signatures program) j k others
+  pub many : j + length others ≡ functions
+  pub ends : k + total (map signatureOf others) ≡ end
+  pub due : tabled table₀ program ≡ written table (rowWords * k) (rowsOfAll (firstRecord program) (arityOf (signatures program)) k others)
+
+-- The same of every program that the records are, with the lengths of the table and of the stack.
+pub record Filling (s : List ℕ) (functions end : ℕ) (table₀ cases₀ table cases : List ℕ) (k j : ℕ) : Type 0 where
+  pub some-program : Value (readProgram s)
+  pub within : k ≤ end
+  pub few : end ≤ 1057
+  pub table-long : length table ≡ length table₀
+  pub cases-long : length cases ≡ length cases₀
+  pub room : tableWords ≤ length table₀
+  pub stack : 1057 ≤ length cases₀
+  pub left : (program : Program) → readProgram s ≡ done program → Left s functions end table₀ table k j program
+
+-- at first all of them
+pub fill-first : (s table cases : List ℕ) (functions nodes end : ℕ) → Bytes s → Ready s table cases → functions ≡ getD s 1 0 → nodes ≡ numberAt 2 s 2 → end ≡ 1 + functions + nodes
+    → Filling s functions end table cases table cases (1 + functions) 0
+unfolding headerIn recordAt tabled
+fill-first s table cases functions nodes end bytes ready ef en el =
+    let v = passed-is (readProgram s) (ready .is-read) in
+    let own = program-held s (v .value) bytes (v .is) in
+    let few = flattens s (v .value) bytes (v .is) .lawful .few-functions in
+    record {
+      some-program = v;
+      within = omega arith;
+      few = omega (arith, own .functions, own .few-nodes, few);
+      table-long = refl;
+      cases-long = refl;
+      room = ready .room;
+      stack = ready .stack;
+      left = λ program e.
+          let h = program-held s program bytes e in
+          let place : suc (length (program .functions)) ≡ 1 + functions = omega (arith, h .functions) in
+          record {
+            others = program .functions;
+            known = h .known;
+            agrees = agreeing s program bytes e;
+            held = rw place at (h .held);
+            many = omega (arith, h .functions);
+            ends = omega (arith, h .nodes);
+            due = ap (λ k. written table (rowWords * k) (rowsOfAll (firstRecord program) (arityOf (signatures program)) k (program .functions))) place;
+          };
+    }
+
+module _ (s : List ℕ) (functions end : ℕ) (table₀ cases₀ table cases : List ℕ) (k j : ℕ) (l : Filling s functions end table₀ cases₀ table cases k j) where
+  -- at last none
+  pub fill-all : functions ≤ j → FillsAll s table₀ table
+  unfolding rowsOfAll
+  fill-all over = record { is = λ program e. let f = l .left program e in by program (f .others) (f .many) (f .due) }
+    where
+      by : (program : Program) (fs : List Function) → j + length fs ≡ functions
+          → tabled table₀ program ≡ written table (rowWords * k) (rowsOfAll (firstRecord program) (arityOf (signatures program)) k fs)
+          → table ≡ tabled table₀ program
+      by program [] many due = sym (due ∙ written-none table (rowWords * k))
+      by program (f ∷ fs) many due = absurd (omega arith)
+
+  module _ (p : Place) (starts : Starts s j p) (more : j < functions) where
+    -- its counts are small
+    pub fill-asked : Small k end p
+    fill-asked =
+        let few = starts .few in
+        record {
+          before-end = l .within;
+          few = omega (arith, l .few);
+          role = rw (starts .is) (omega arith);
+          parent = rw (starts .is) (omega arith);
+          slot = rw (starts .is) (omega arith);
+          names = omega (arith, l .few);
+          keeps = rw (starts .is) (omega (arith, l .few));
+          depth = rw (starts .is) (omega (arith, l .few));
+        }
+
+    -- function j, and those behind it
+    record Turn (program : Program) : Type 0 where
+      here : Function
+      others : List Function
+      signed : functionIn s j ≡ done (signatureOf here)
+      holds : Holds s (signatures program) k (here .body)
+      behind : Bodies s (signatures program) (suc j) (k + size (here .body)) others
+      many : suc j + length others ≡ functions
+      ends : k + size (here .body) + total (map signatureOf others) ≡ end
+      due : tabled table₀ program ≡ written table (rowWords * k) (rowsOfAll (firstRecord program) (arityOf (signatures program)) k (here ∷ others))
+
+    -- there is one
+    turn : (program : Program) → readProgram s ≡ done program → Turn program
+    unfolding total signatureOf
+    turn program e = let f = l .left program e in by (f .others) (f .held) (f .many) (f .ends) (f .due)
+      where
+        by : (fs : List Function) → Bodies s (signatures program) j k fs → j + length fs ≡ functions → k + total (map signatureOf fs) ≡ end
+            → tabled table₀ program ≡ written table (rowWords * k) (rowsOfAll (firstRecord program) (arityOf (signatures program)) k fs)
+            → Turn program
+        by [] no-more many ends due = absurd (omega arith)
+        by (f ∷ fs) (one-more signed holds behind) many ends due = record {
+          here = f;
+          others = fs;
+          signed = signed;
+          holds = holds;
+          behind = behind;
+          many = omega arith;
+          ends = omega arith;
+          due = due;
+        }
+
+    -- its body is entered
+    body-entered : (program : Program) (e : readProgram s ≡ done program)
+        → Entering s table cases (firstRecord program) (arityOf (signatures program)) k end p (turn program e .here .body)
+    body-entered program e =
+        let t = turn program e in
+        let flat-depth : p .depth ≡ 0 = ap (λ (q : Place). q .depth) (starts .is) in
+        record {
+          signed = signatures program;
+          known = l .left program e .known;
+          holds = t .holds;
+          fits = omega (arith, t .ends);
+          agrees = l .left program e .agrees;
+          room = omega (arith, l .few, l .room, l .table-long);
+          stacked = record { room = omega (arith, l .few, l .stack, l .cases-long); low = λ n below. absurd (omega arith) };
+        }
+
+    -- its place is the one wanted
+    body-place : (program : Program) (f : Function) → functionIn s j ≡ done (signatureOf f) → placeOf p cases ≡ bodyPlace (firstRecord program) (arityOf (signatures program)) f
+    unfolding signatureOf
+    body-place program f signed =
+        ap (λ q. placeOf q cases) (starts .is)
+        ∙ ap (λ n. record { role = 0; parent = 0; slot = 0; names = n; keeps = 0; cases = [] }) (sym (function-read s j (signatureOf f) signed .arity))
+
+    module _ (table′ cases′ : List ℕ) (next : ℕ) (fills : Fills s table table′ cases cases′ k end p next) where
+      -- its rows are filled
+      filled : (program : Program) (e : readProgram s ≡ done program)
+          → Filled table table′ cases cases′ (firstRecord program) (arityOf (signatures program)) k p (turn program e .here .body) next
+      filled program e = fills .is (firstRecord program) (arityOf (signatures program)) (turn program e .here .body) (body-entered program e)
+
+      -- the table keeps its length
+      same-table : length table′ ≡ length table
+      same-table =
+          let v = l .some-program in
+          ap length (filled (v .value) (v .is) .rows) ∙ wrote table (rowWords * k) _ .same-length
+
+      -- those behind it are left
+      rest-left : (program : Program) → readProgram s ≡ done program → Left s functions end table₀ table′ next (j + 1) program
+      unfolding rowsOfAll
+      rest-left program e =
+          let t = turn program e in
+          let g = filled program e in
+          let entry = firstRecord program in
+          let arity = arityOf (signatures program) in
+          let body = t .here .body in
+          let own = rowsOf entry arity (bodyPlace entry arity (t .here)) k body in
+          let others = rowsOfAll entry arity (k + size body) (t .others) in
+          let place = rowWords * k in
+          let long-own : length own ≡ rowWords * size body = length-rows entry arity (bodyPlace entry arity (t .here)) k body in
+          let own-written : table′ ≡ written table place own =
+          g .rows ∙ ap (λ q. written table place (rowsOf entry arity q k body)) (body-place program (t .here) (t .signed)) in
+          let behind-own : place + length own ≡ rowWords * next = omega (arith, g .behind) in
+          let room : place + length (own ++ others) ≤ length table =
+          omega (arith, length-append own others, length-rows-all entry arity (k + size body) (t .others), t .ends, l .few, l .room, l .table-long) in
+          record {
+            others = t .others;
+            known = l .left program e .known;
+            agrees = l .left program e .agrees;
+            held = subst (λ n. Bodies s (signatures program) (j + 1) n (t .others)) (sym (g .behind)) (rw add-one (t .behind));
+            many = omega (arith, t .many);
+            ends = omega (arith, t .ends, g .behind);
+            due =
+                t .due
+                ∙ sym (written-append table place own others room)
+                ∙ ap₂ (λ (x : List ℕ) n. written x n others) (sym own-written) behind-own
+                ∙ ap (λ n. written table′ (rowWords * next) (rowsOfAll entry arity n (t .others))) (sym (g .behind));
+          }
+
+      pub fill-more : Filling s functions end table₀ cases₀ table′ cases′ next (j + 1)
+      fill-more = record {
+        some-program = l .some-program;
+        within = fills .went .inside;
+        few = l .few;
+        table-long = same-table ∙ l .table-long;
+        cases-long = let v = l .some-program in filled (v .value) (v .is) .stack .long ∙ l .cases-long;
+        room = l .room;
+        stack = l .stack;
+        left = rest-left;
+      }
+
+pub ruleset filling = (fill-first, fill-asked, fill-more, fill-all, needs)

@@ -1,0 +1,64 @@
+-- `decode`: a law for each way out.
+use Prim.Native.Nat.{ℕ, _≤_, _<_}
+use mathlib.Core.List.{List}
+use mathlib.Core.Path.{_≡_, sym, ap, _∙_}
+use borrow.Author.Tests.{le-leb, lt-leb}
+use native.Mathlib.Omega.{arith}
+use lib.Dec.{leb}
+use lib.ListN.{length}
+use Rattle.formats.specs.Refusals.{spaceTooShort}
+use Rattle.formats.specs.Results.{Result, done, refusal, verdict, check, andThen}
+use Rattle.formats.specs.Rows.{readProgram}
+use Rattle.formats.proofs.Results.{Followed, byResult, then-done, then-refused, then-inv}
+use Rattle.refusal.specs.Number.{number}
+use Rattle.refusal.specs.Said.{said}
+use Rattle.refusal.specs.declared.Refusal.{Refusal}
+use Rattle.refusal.specs.declared.Refusal.the-variants.{SpaceTooShort}
+use Rattle.refusal.specs.declared.Verdict.{Verdict}
+use Rattle.refusal.specs.declared.Verdict.the-variants.{Passed, Refused}
+use Rattle.rules.specs.PassOne.{passOne, checkOne}
+use Rattle.stepwise.specs.Rows.{tabled}
+use Rattle.decode.specs.Decoding.{tableWords, decoded, orElse, Decodes}
+use Rattle.decode.specs.Walk.{Ready, FillsAll}
+
+module _ (s table : List ℕ) where
+  -- the refusal that is told
+  refused : (why : Refusal) (place : ℕ) → decoded s table ≡ refusal (number why) place → Decodes s table table (Refused why place)
+  unfolding orElse
+  refused why place e = record { said-so = sym (ap verdict e); after-is = sym (rw (e, orElse)) }
+
+  -- a refusal of the checks is one of the whole
+  checks-refuse : (n place : ℕ) → checkOne s ≡ refusal n place → decoded s table ≡ refusal n place
+  unfolding checkOne decoded
+  checks-refuse n place e =
+      byResult (readProgram s)
+      (λ program is. then-done _ is ∙ then-refused _ (sym (then-done passOne is) ∙ e))
+      (λ m at is. then-refused _ is ∙ ap (λ (r : Result (Unit {0})). andThen {B = List ℕ} r (λ u. refusal n place)) (sym (then-refused passOne is) ∙ e))
+
+  module _ (checks : Verdict) (told : said checks ≡ checkOne s) where
+    pub decode-refused : (why : Refusal) (place : ℕ) → checks ≡ Refused why place → Decodes s table table (Refused why place)
+    decode-refused why place case = refused why place (checks-refuse (number why) place (sym told ∙ ap said case))
+
+    module _ (passes : checks ≡ Passed) where
+      -- the program that passes, and its rows
+      the-program : Followed (readProgram s) passOne tt
+      unfolding checkOne
+      the-program = then-inv (readProgram s) passOne tt (sym told ∙ ap said passes)
+
+      into : decoded s table ≡ check (leb tableWords (length table)) spaceTooShort 0 (tabled table (the-program .value))
+      unfolding decoded
+      into = then-done _ (the-program .first) ∙ then-done _ (the-program .second)
+
+      pub decode-short : length table < tableWords → Decodes s table table (Refused SpaceTooShort 0)
+      decode-short short = refused SpaceTooShort 0 (into ∙ simp (lt-leb _ _ short))
+
+      pub decode-ready : (cases : List ℕ) → length cases ≡ 1057 → tableWords ≤ length table → Ready s table cases
+      decode-ready cases long room = record { is-read = ap verdict (the-program .first); room = room; stack = omega arith }
+
+      pub decode-done : (after : List ℕ) → tableWords ≤ length table → FillsAll s table after → Decodes s table after Passed
+      unfolding orElse
+      decode-done after room l =
+          let all : decoded s table ≡ done (tabled table (the-program .value)) = into ∙ simp (le-leb _ _ room) in
+          record { said-so = sym (ap verdict all); after-is = l .is (the-program .value) (the-program .first) ∙ sym (rw (all, orElse)) }
+
+pub ruleset ways = (decode-refused, decode-short, decode-ready, decode-done)

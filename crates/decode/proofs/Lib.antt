@@ -1,0 +1,7 @@
+-- The laws that the functions' proofs cite.
+pub mod Leaves
+pub mod Places
+pub mod Rows
+pub mod Walk
+pub mod All
+pub mod Calls

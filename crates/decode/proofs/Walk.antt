@@ -1,0 +1,292 @@
+-- The functions that fill the rows of an expression and of its parts: a law for each way out of them, and what their calls ask.
+use Prim.Native.Nat.{ℕ, suc, _+_, _-_, _*_, _%_, _≤_, _<_}
+use mathlib.Core.Bool.{true}
+use mathlib.Core.List.{List, [], _∷_, _++_}
+use mathlib.Core.Path.{_≡_, refl, sym, ap, ap₂, subst, _∙_}
+use native.Mathlib.Nat.{le-refl}
+use native.Mathlib.Numerals.{add-one}
+use native.Mathlib.Omega.{arith}
+use borrow.Author.Needs.{needs}
+use borrow.Author.Tests.{ltb-true}
+use lib.ListN.{length, length-append}
+use Rattle.formats.specs.Results.{onValue}
+use Rattle.formats.specs.Records.{Kind, below, partsOf, partCount}
+use Rattle.formats.specs.Programs.{Expr, size, Placed, behind, partsAt}
+use Rattle.formats.specs.Rows.{headerIn, arityIn, nodeIn}
+use Rattle.formats.specs.Written.{written}
+use Rattle.formats.proofs.Results.{done-injective, done-not}
+use Rattle.formats.proofs.Records.{node-below}
+use Rattle.formats.proofs.Programs.{some-record}
+use Rattle.formats.proofs.Written.{written-append, written-front, written-none, wrote}
+use Rattle.refusal.specs.declared.Refusal.{Refusal}
+use Rattle.records.specs.Read.{Shape, meant, listed, described, shapeOf, shaped}
+use Rattle.records.specs.declared.Record.{Record}
+use Rattle.records.specs.declared.Parts.{Parts}
+use Rattle.records.specs.declared.Template.{Template}
+use Rattle.records.specs.declared.RecordRead.{RecordRead}
+use Rattle.records.specs.declared.RecordRead.the-variants.{Read, Refused}
+use Rattle.rules.proofs.Parts.{headOf, Row}
+use Rattle.rules.proofs.Walks.{node-held, parts-held, parts-counted, FirstOf, row-first, row-none, row-upto}
+use Rattle.stepwise.specs.Rows.{rowWords, partPlace, rowOf, rowsOf}
+use Rattle.stepwise.proofs.Rows.{length-rows}
+use Rattle.decode.specs.declared.Own.{Own}
+use Rattle.decode.specs.declared.Place.{Place}
+use Rattle.decode.specs.Walk.{placeOf, noted, insidePlace, Grows, Told, Owns, rowIn, Small, Went, Entering, Same, Filled, Fills, rowsOfParts, SmallParts, Counted, EnteringParts, FillsParts}
+use Rattle.decode.proofs.Places.{place-inside, few-part, stacked-less, stacked-same, same-more, stacked-inside, same-inside}
+use Rattle.decode.proofs.Rows.{rows-split, length-parts}
+
+-- ---- `decode_at`
+
+-- a row's words, where they are small
+row-is : (entry arity : ℕ → ℕ) (cases : List ℕ) (k end : ℕ) (p : Place) (kind : Kind) (own : Own) (next : ℕ) → Told entry arity (placeOf p cases) kind own → Small k end p → next ≤ end
+    → rowIn own p next ≡ rowOf entry arity (placeOf p cases) next kind
+row-is entry arity cases k end p kind own next told small inside =
+    let role : p .role % 65536 ≡ p .role = omega (arith, small .role) in
+    let parent : p .parent % 65536 ≡ p .parent = omega (arith, small .parent) in
+    let slot : p .slot % 65536 ≡ p .slot = omega (arith, small .slot) in
+    let after : next % 65536 ≡ next = omega (arith, small .few) in
+    let rest = ap₂ _∷_ role (ap₂ _∷_ parent (ap₂ _∷_ slot (ap (λ n. n ∷ []) after))) in
+    ap₂ _∷_ (told .kind-is) (ap₂ _∷_ (told .operand) (ap₂ _∷_ (told .tree) (ap₂ _∷_ (told .more) rest)))
+
+module _ (s table cases : List ℕ) (k end : ℕ) (p : Place) where
+  -- nothing is filled
+  stayed : Small k end p → Went k end k
+  stayed small = record { on = le-refl k; inside = small .before-end }
+
+  -- past the end no expression stands
+  pub fill-past : Small k end p → end ≤ k → Fills s table table cases cases k end p k
+  fill-past small over = record { went = stayed small; is = λ entry arity e h. absurd (omega (arith, some-record e, h .fits)) }
+
+  module _ (read : RecordRead) (told : described read ≡ onValue shapeOf (nodeIn s k)) where
+    -- no expression begins with a record that is refused
+    pub fill-unread : (why : Refusal) (place : ℕ) → Small k end p → read ≡ Refused why place → Fills s table table cases cases k end p k
+    fill-unread why place small is = record {
+      went = stayed small;
+      is = λ entry arity e h. done-not (told ∙ ap (onValue shapeOf) (node-held s (h .signed) k e (h .holds))) (ap described is);
+    }
+
+    module _ (node : Record) (parts : Parts) (template : Template) (count : ℕ) (is : read ≡ Read node parts template) (many : count ≡ partCount (arityIn s) (listed parts)) where
+      module _ {entry arity : ℕ → ℕ} {e : Expr} (h : Entering s table cases entry arity k end p e) where
+        -- what is read is the expression's own record
+        own-shape : shaped node parts template ≡ shapeOf (headOf e)
+        own-shape = done-injective (ap described (sym is) ∙ told ∙ ap (onValue shapeOf) (node-held s (h .signed) k e (h .holds)))
+
+        own-kind : meant node ≡ headOf e
+        own-kind = ap (λ (x : Shape). x .kind) own-shape
+
+        -- a function that it calls is there
+        own-below : below (headerIn s .functions) (meant node) ≡ true
+        own-below = rw own-kind (node-below s k (headOf e) (node-held s (h .signed) k e (h .holds)))
+
+        -- it has so many parts ..
+        own-count : count ≡ partCount (arityIn s) (partsOf (meant node))
+        own-count = many ∙ ap (λ (x : Shape). partCount (arityIn s) (x .parts)) own-shape ∙ ap (λ kind. partCount (arityIn s) (partsOf kind)) (sym own-kind)
+
+        -- .. and a Call as many as its function has parameters
+        own-counted : Counted arity (meant node) count
+        unfolding below partsOf partCount
+        own-counted = record {
+          is = λ a b case.
+              let there = ltb-true b (headerIn s .functions) (sym (ap (below (headerIn s .functions)) case) ∙ own-below) in
+              h .agrees .arities b there ∙ sym (own-count ∙ ap (λ kind. partCount (arityIn s) (partsOf kind)) case);
+        }
+
+        -- its parts are entered
+        parts-entered : k < end → EnteringParts s table cases entry arity node 0 count (k + 1) end p (partsAt k e) (k + size e)
+        parts-entered more = record {
+          many = omega (arith, parts-counted s (h .signed) k e (h .known) (h .holds), own-count, ap (λ kind. partCount (arityIn s) (partsOf kind)) own-kind);
+          counted = own-counted;
+          signed = h .signed;
+          known = h .known;
+          row = rw add-one (parts-held s (h .signed) k e (h .holds));
+          fits = h .fits;
+          agrees = h .agrees;
+          room = h .room;
+          stacked = stacked-less cases (p .depth) (end - k) (suc (end - (k + 1))) (h .stacked) (omega arith);
+        }
+
+      -- the own row in front of the parts' rows
+      pub fill-read : (own : Own) (there after cases′ : List ℕ) (next : ℕ) → Small k end p → k < end → Owns s cases p node own
+          → FillsParts s table there cases cases′ node k 0 count (k + 1) end p next
+          → after ≡ written there (rowWords * k) (rowIn own p next)
+          → Fills s table after cases cases′ k end p next
+      fill-read own there after cases′ next small more owns l wrote-it = record {
+        went = record { on = omega (arith, l .went .on); inside = l .went .inside };
+        is = λ entry arity e h.
+            let f = l .is entry arity (partsAt k e) (k + size e) (parts-entered h more) in
+            let P = placeOf p cases in
+            let row = rowOf entry arity P (k + size e) (headOf e) in
+            let rows = rowsOfParts entry arity P (headOf e) k 0 (partsAt k e) in
+            let own-row : rowIn own p next ≡ row =
+            row-is entry arity cases k end p (meant node) own next (owns .is entry arity (end - k) (h .agrees) (own-below h) (omega (arith, small .names)) (h .stacked)) small (l .went .inside)
+            ∙ ap₂ (λ n kind. rowOf entry arity P n kind) (f .behind) (own-kind h) in
+            let others : there ≡ written table (rowWords * k + length row) rows =
+            f .rows ∙ ap₂ (λ n (kind : Kind). written table n (rowsOfParts entry arity P kind k 0 (partsAt k e))) (omega arith) (own-kind h) in
+            let whole = rows-split entry arity P k e in
+            record {
+              behind = f .behind;
+              rows =
+                  wrote-it
+                  ∙ ap₂ (λ (l m : List ℕ). written l (rowWords * k) m) others own-row
+                  ∙ written-front table (rowWords * k) row rows (omega (arith, ap length whole, length-rows entry arity P k e, h .fits, h .room))
+                  ∙ ap (written table (rowWords * k)) (sym whole);
+              stack = f .stack;
+            };
+      }
+
+pub ruleset expressions = (fill-past, fill-unread, fill-read)
+
+-- ---- `decode_parts`
+
+module _ (s table cases : List ℕ) (node : Record) (r i count k end : ℕ) (p : Place) (small : SmallParts r i k end p) where
+  -- the parts are through
+  pub parts-done : count ≤ i → FillsParts s table table cases cases node r i count k end p k
+  unfolding rowsOfParts
+  parts-done over = record {
+    went = record { on = le-refl k; inside = small .before-end };
+    is = λ entry arity ps m h.
+        let none = row-none (h .row) (omega (arith, h .many)) in
+        record {
+          behind = sym (none .1);
+          rows =
+              sym
+              (ap (λ qs. written table (rowWords * k) (rowsOfParts entry arity (placeOf p cases) (meant node) r i qs)) (none .0) ∙ written-none table (rowWords * k));
+          stack = record { long = refl; below-depth = refl };
+        };
+  }
+
+  module _ (inner : Place) (noted-cases between cases₁ : List ℕ) (next : ℕ) (is-inner : inner ≡ insidePlace (meant node) r i count p)
+      (is-noted : noted-cases ≡ noted (meant node) r i (p .depth) cases) (f : Fills s table between noted-cases cases₁ k end inner next) (more : i < count) where
+    module _ {entry arity : ℕ → ℕ} {ps : List Placed} {m : ℕ} (h : EnteringParts s table cases entry arity node i count k end p ps m) where
+      -- the part that stands here, and those behind it
+      first : FirstOf s (h .signed) k ps m
+      first = row-first (h .row) (omega (arith, h .many))
+
+      -- it is entered ..
+      first-entered : Entering s table noted-cases entry arity k end inner (first .expr)
+      unfolding insidePlace
+      first-entered = record {
+        signed = h .signed;
+        known = h .known;
+        holds = first .here;
+        fits = omega (arith, row-upto (first .later), h .fits);
+        agrees = h .agrees;
+        room = h .room;
+        stacked = rw (is-inner, is-noted) (stacked-inside (meant node) r i (p .depth) cases (end - k) (h .stacked) (small .parent));
+      }
+
+      -- .. and its rows are filled
+      filled : Filled table between noted-cases cases₁ entry arity k inner (first .expr) next
+      filled = f .is entry arity (first .expr) first-entered
+
+      -- it leaves the stack as it was, up to the depth
+      kept : Same cases cases₁ (p .depth)
+      unfolding insidePlace
+      kept = same-inside (meant node) r i (p .depth) cases cases₁ (rw (← is-noted) (rw is-inner at (filled .stack)))
+
+      -- the others see the same place
+      same-place : placeOf p cases₁ ≡ placeOf p cases
+      same-place = ap (λ (c : List ℕ). record { role = p .role; parent = p .parent; slot = p .slot; names = p .names; keeps = p .keeps; cases = c }) (kept .below-depth)
+
+      -- its rows are those wanted
+      abbrev own-rows : List ℕ
+      own-rows = rowsOf entry arity (partPlace entry arity (placeOf p cases) (meant node) r i) k (first .expr)
+
+      own-written : between ≡ written table (rowWords * k) own-rows
+      own-written =
+          let room : p .depth < length cases = omega (arith, h .stacked .room) in
+          filled .rows
+          ∙ ap (λ q. written table (rowWords * k) (rowsOf entry arity q k (first .expr)))
+          (ap₂ placeOf is-inner is-noted ∙ place-inside entry arity (meant node) r i count p cases (h .counted) (small .parent) room)
+
+      -- the table keeps its length
+      same-length : length between ≡ length table
+      same-length = ap length own-written ∙ wrote table (rowWords * k) own-rows .same-length
+
+      -- the others are entered
+      rest-entered : EnteringParts s between cases₁ entry arity node (i + 1) count next end p (first .others) m
+      rest-entered =
+          let fewer : suc (end - next) ≤ suc (end - k) = omega (arith, f .went .on) in
+          record {
+            many = omega (arith, h .many, ap length (first .both));
+            counted = h .counted;
+            signed = h .signed;
+            known = h .known;
+            row = subst (λ n. Row s (h .signed) n (first .others) m) (sym (filled .behind)) (first .later);
+            fits = h .fits;
+            agrees = h .agrees;
+            room = omega (arith, h .room, same-length);
+            stacked = stacked-same cases cases₁ (p .depth) kept _ (stacked-less cases (p .depth) _ _ (h .stacked) fewer);
+          }
+
+    -- a part that is not entered: none stands there
+    pub parts-stuck : next ≤ k → FillsParts s table between cases cases₁ node r i count k end p next
+    parts-stuck stuck = record {
+      went = f .went;
+      is = λ entry arity ps m h. absurd (omega (arith, some-record (first h .expr), filled h .behind));
+    }
+
+    -- the part's rows, and behind them those of the others
+    pub parts-more : (table′ cases′ : List ℕ) (n : ℕ) → FillsParts s between table′ cases₁ cases′ node r (i + 1) count next end p n
+        → FillsParts s table table′ cases cases′ node r i count k end p n
+    unfolding rowsOfParts
+    parts-more table′ cases′ n l = record {
+      went = record { on = omega (arith, f .went .on, l .went .on); inside = l .went .inside };
+      is = λ entry arity ps m h.
+          let g = l .is entry arity (first h .others) m (rest-entered h) in
+          let P = placeOf p cases in
+          let kind = meant node in
+          let place = rowWords * k in
+          let own = own-rows h in
+          let others = rowsOfParts entry arity P kind r (suc i) (first h .others) in
+          let long-own : length own ≡ rowWords * size (first h .expr) = length-rows entry arity (partPlace entry arity P kind r i) k (first h .expr) in
+          let long-others = length-parts entry arity P kind r (suc i) (first h .later) in
+          let behind-own : rowWords * next ≡ place + length own = omega (arith, filled h .behind) in
+          let room : place + length (own ++ others) ≤ length table = omega (arith, length-append own others, h .fits, h .room) in
+          record {
+            behind = g .behind;
+            rows =
+                g .rows
+                ∙ ap₂ (λ j q. written between (rowWords * next) (rowsOfParts entry arity q kind r j (first h .others))) (add-one i) (same-place h)
+                ∙ ap₂ (λ (l : List ℕ) j. written l j others) (own-written h) behind-own
+                ∙ written-append table place own others room
+                ∙ ap (λ qs. written table place (rowsOfParts entry arity P kind r i qs)) (sym (first h .both));
+            stack = same-more cases cases₁ (p .depth) (kept h) cases′ (g .stack);
+          };
+    }
+
+pub ruleset parts = (parts-done, parts-stuck, parts-more)
+
+-- ---- what the calls ask: counts stay small, and the records left fall
+
+-- the parts of a record
+pub few-parts : (k end : ℕ) (p : Place) → Small k end p → k < end → SmallParts k 0 (k + 1) end p
+few-parts k end p small more = record {
+  before-end = omega arith;
+  few = small .few;
+  parent = omega (arith, small .few);
+  names = omega (arith, small .names);
+  keeps = omega (arith, small .keeps);
+  depth = omega (arith, small .depth);
+}
+
+-- a part of it
+pub grows : (r i k end : ℕ) (p : Place) → SmallParts r i k end p → Grows i p
+grows r i k end p small = record { names = omega (arith, small .names); keeps = omega (arith, small .keeps); depth = omega (arith, small .depth) }
+
+-- the measure, from a part to those behind it
+pub fall-on : (t k end next : ℕ) → 2 * (end - k) + 1 ≡ t → Went k end next → k < next → 2 * (end - next) + 1 < t
+fall-on t k end next is went on = omega (arith, went .inside)
+
+-- the parts behind it
+pub few-rest : (r i k end : ℕ) (p : Place) (next : ℕ) → SmallParts r i k end p → Went k end next → k < next → SmallParts r (i + 1) next end p
+few-rest r i k end p next small went on = record {
+  before-end = went .inside;
+  few = small .few;
+  parent = small .parent;
+  names = omega (arith, small .names, went .inside);
+  keeps = omega (arith, small .keeps, went .inside);
+  depth = omega (arith, small .depth, went .inside);
+}
+
+pub ruleset asked = (few-parts, few-part, grows, fall-on, few-rest, needs)

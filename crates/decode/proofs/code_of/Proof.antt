@@ -1,0 +1,14 @@
+-- `decode::code_of` meets its contract: the frame's own tree, or one of the tree that a Case looks at.
+use borrow.Author.Needs.{needs}
+use Rattle.decode.proofs.Leaves.{codes}
+use Rattle.decode.proofs.code_of.Statement.{statement}
+use Rattle.decode.proofs.code_of.Tie as tie
+
+pub code-of-spec : {M : Type 1} → statement M
+code-of-spec =
+    tie.close
+    (tie.spec
+    (λ c. search codes)
+    (λ c. search needs) (λ c κs. search needs) (λ c. search needs) (λ c. search needs) (λ c. search needs) (λ c. search needs)
+    (λ c. search needs)
+    (λ c. search codes))

@@ -1,0 +1,36 @@
+-- `decode::decode_all` meets its contract: the rows of the functions below j are written. What is left of the functions falls.
+use Prim.Native.Nat.{_-_}
+use native.Mathlib.Omega.{arith}
+use borrow.Author.Needs.{needs}
+use denote.Ref.{now}
+use Rattle.formats.specs.Numbers.{Bytes}
+use Rattle.decode.proofs.All.{Filling, fill-more, filling}
+use Rattle.decode.proofs.decode_all.Statement.{statement}
+use Rattle.decode.proofs.decode_all.Tie as tie
+
+abbrev Inv-loop : tie.InvT-loop
+Inv-loop flat table₀ cases₀ functions nodes end k₀ j₀ table cases k j = Filling flat functions end table₀ cases₀ table cases k j
+
+abbrev μ-loop : tie.MeasureT-loop
+μ-loop flat table₀ cases₀ functions nodes end k₀ j₀ table cases k j = functions - j
+
+pub decode-all-spec : {M : Type 1} → statement M
+decode-all-spec =
+    tie.close
+    (tie.spec
+    Inv-loop
+    μ-loop
+    (λ c κs. search needs) (λ c. search needs) (λ c κs. search needs) (λ c. search needs) (λ c. search needs) (λ c. search needs)
+    (λ c. search needs) (λ c. search needs) (λ c. search needs)
+    (λ c.
+    let bytes : Bytes (now (c .before .before .before .before .before .args .flat)) = λ i. omega (arith, c .before .before .before .before .shared-slice-known .given i) in
+    search filling)
+    (λ c κs. search needs)
+    (λ c κs. search filling)
+    (λ c. search needs) (λ c. search needs)
+    (λ c.
+    let entered = c .before .before .before .before .before .before .before in
+    fill-more _ _ _ _ _ _ _ _ _ (entered .before .before .loop .inv) _ (entered .start .ensures) (entered .before .loop-test .taken) _ _ _ (c .before .before .before .before .decode-at .ensures))
+    (λ c. search filling)
+    (λ c. search filling)
+    (λ c. search filling))

@@ -1,0 +1,16 @@
+-- `decode::note_case` meets its contract: only the node part of a Case changes the stack.
+use borrow.Author.Needs.{needs}
+use Rattle.decode.proofs.Places.{notes}
+use Rattle.decode.proofs.note_case.Statement.{statement}
+use Rattle.decode.proofs.note_case.Tie as tie
+
+pub note-case-spec : {M : Type 1} → statement M
+note-case-spec =
+    tie.close
+    (tie.spec
+    (λ c. search needs)
+    (λ c. search notes)
+    (λ c. search notes)
+    (λ c. search needs) (λ c. search needs) (λ c. search needs) (λ c. search needs)
+    (λ c. search notes)
+    (λ c. search notes))

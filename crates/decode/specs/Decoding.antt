@@ -1,0 +1,37 @@
+-- A table filled with a program's rows, or the refusal.
+use Prim.Native.Nat.{ℕ}
+use mathlib.Core.List.{List}
+use mathlib.Core.Path.{_≡_}
+use lib.Dec.{leb}
+use lib.ListN.{length}
+use Rattle.formats.specs.Refusals.{spaceTooShort}
+use Rattle.formats.specs.Results.{Result, done, refusal, andThen, verdict, check}
+use Rattle.formats.specs.Rows.{readProgram}
+use Rattle.refusal.specs.Said.{said}
+use Rattle.refusal.specs.declared.Verdict.{Verdict}
+use Rattle.rules.specs.PassOne.{passOne}
+use Rattle.stepwise.specs.Rows.{tabled}
+
+-- The words of a table: 8 for each of 1,057 records, the header, 32 functions and 1,024 nodes.
+abbrev pub tableWords : ℕ
+tableWords = 8456
+
+-- The table with the rows of a program that passes pass one; or the first refusal of the rows header to prefix form and pass one, and last 13 where the
+-- table is too short.
+unfoldable pub decoded : List ℕ → List ℕ → Result (List ℕ)
+decoded s table =
+    andThen
+    (readProgram s)
+    (λ program. andThen
+    (passOne program)
+    (λ u. check (leb tableWords (length table)) spaceTooShort 0 (tabled table program)))
+
+-- The value, or else what was there before.
+unfoldable pub orElse : {A : Type 0} → Result A → A → A
+orElse (done x) before = x
+orElse (refusal number place) before = before
+
+-- What is said, and every word of the table.
+pub record Decodes (s table after : List ℕ) (r : Verdict) : Type 0 where
+  pub said-so : said r ≡ verdict (decoded s table)
+  pub after-is : after ≡ orElse (decoded s table) table

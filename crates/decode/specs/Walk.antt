@@ -1,0 +1,207 @@
+-- What the functions answer that fill a table, over flat records s. `table` and `cases` hold at entry the words of the table and of the stack of Cases,
+-- `table′` and `cases′` those at exit.
+use Prim.Native.Nat.{ℕ, zero, suc, _+_, _-_, _*_, _%_, _≤_, _<_}
+use mathlib.Core.Bool.{true}
+use mathlib.Core.List.{List, [], _∷_, _++_}
+use mathlib.Core.Path.{_≡_}
+use lib.ListN.{length, getD, set, take}
+use Rattle.formats.specs.Results.{done, verdict}
+use Rattle.formats.specs.Records.{Kind, Const, Var, Add, IfZero, Let, Leaf, Node, Case, Call, below}
+use Rattle.formats.specs.Programs.{Expr, size, Placed, Signature, Program}
+use Rattle.formats.specs.Rows.{headerIn, arityIn, readProgram}
+use Rattle.formats.specs.Written.{written}
+use Rattle.functions.specs.Counts.{countsFrom}
+use Rattle.records.specs.Read.{meant}
+use Rattle.records.specs.declared.Record.{Record}
+use Rattle.rules.proofs.Parts.{Known, Holds, Row}
+use Rattle.stepwise.specs.Rows.{whole, kindNumber, roleOf, slotOf, namesIn, keepsIn, partPlace, operandOf, treeOf, moreOf, rowsOf, rowWords, tabled}
+use Rattle.stepwise.specs.Rows.{Place as PlaceThere}
+use Rattle.decode.specs.Decoding.{tableWords}
+use Rattle.decode.specs.declared.Own.{Own}
+use Rattle.decode.specs.declared.Place.{Place}
+
+-- ---- places
+
+-- A place, with the Cases on the stack.
+abbrev pub placeOf : Place → List ℕ → PlaceThere
+placeOf p cases =
+    record { role = p .role; parent = p .parent; slot = p .slot; names = p .names; keeps = p .keeps; cases = take (p .depth) cases }
+
+-- On entering part i of a record: how many Cases' node parts it stands in, where the record stands in so many.
+unfoldable pub deeper : Kind → ℕ → ℕ → ℕ
+deeper (Const c) i depth = depth
+deeper (Var a) i depth = depth
+deeper Add i depth = depth
+deeper IfZero i depth = depth
+deeper Let i depth = depth
+deeper Leaf i depth = depth
+deeper Node i depth = depth
+deeper (Case a) zero depth = depth
+deeper (Case a) (suc i) depth = suc depth
+deeper (Call a b) i depth = depth
+
+-- .. and the stack.
+unfoldable pub noted : Kind → (r i depth : ℕ) → List ℕ → List ℕ
+noted (Const c) r i depth cases = cases
+noted (Var a) r i depth cases = cases
+noted Add r i depth cases = cases
+noted IfZero r i depth cases = cases
+noted Let r i depth cases = cases
+noted Leaf r i depth cases = cases
+noted Node r i depth cases = cases
+noted (Case a) r zero depth cases = cases
+noted (Case a) r (suc i) depth cases = set cases depth (r % 65536)
+noted (Call a b) r i depth cases = cases
+
+-- Where part i of the record r stands, which has so many parts. (Of the functions only the arity counts, and of the place not its Cases.)
+unfoldable pub insidePlace : Kind → (r i count : ℕ) → Place → Place
+insidePlace kind r i count p =
+    record {
+      role = roleOf (λ b. 0) (λ b. count) kind i;
+      parent = r;
+      slot = slotOf (λ b. 0) (λ b. count) (placeOf p []) kind i;
+      names = namesIn (λ b. 0) (λ b. count) (placeOf p []) kind i;
+      keeps = keepsIn (λ b. 0) (λ b. count) (placeOf p []) kind i;
+      depth = deeper kind i (p .depth);
+    }
+
+-- Counts that can grow on entering part i.
+pub record Grows (i : ℕ) (p : Place) : Type 0 where
+  pub names : p .names < 4000
+  pub keeps : p .keeps + i < 4000
+  pub depth : p .depth < 4000
+
+-- ---- a row's first half
+
+-- The first record of function b, by the counts of the function records.
+unfoldable pub firstIn : List ℕ → ℕ → ℕ
+firstIn s b = 1 + headerIn s .functions + countsFrom b s 0
+
+-- Of the functions that there are, `entry` has the first records and `arity` the numbers of parameters.
+pub record Agrees (s : List ℕ) (entry arity : ℕ → ℕ) : Type 0 where
+  pub entries : (b : ℕ) → b < headerIn s .functions → entry b ≡ firstIn s b
+  pub arities : (b : ℕ) → b < headerIn s .functions → arity b ≡ arityIn s b
+  pub low : (b : ℕ) → b < headerIn s .functions → entry b ≤ 2000
+
+-- So many entries of a stack are records, and there is room for so many more.
+pub record Stacked (cases : List ℕ) (depth more : ℕ) : Type 0 where
+  pub room : depth + more ≤ length cases
+  pub low : (n : ℕ) → n < depth → getD cases n 0 ≤ 2000
+
+-- The first half of a row.
+pub record Told (entry arity : ℕ → ℕ) (p : PlaceThere) (kind : Kind) (o : Own) : Type 0 where
+  pub kind-is : o .kind ≡ kindNumber kind
+  pub operand : o .operand ≡ operandOf entry arity p kind
+  pub tree : o .tree ≡ treeOf entry arity p kind
+  pub more : o .more ≡ moreOf entry arity kind
+
+pub record Owns (s cases : List ℕ) (p : Place) (node : Record) (o : Own) : Type 0 where
+  pub is : (entry arity : ℕ → ℕ) (more : ℕ) → Agrees s entry arity → below (headerIn s .functions) (meant node) ≡ true → p .names ≤ 4000 → Stacked cases (p .depth) more
+      → Told entry arity (placeOf p cases) (meant node) o
+
+-- A row's words.
+abbrev pub rowIn : Own → Place → ℕ → List ℕ
+rowIn o p behind =
+    o .kind ∷ o .operand ∷ o .tree ∷ o .more ∷ (p .role % 65536) ∷ (p .parent % 65536) ∷ (p .slot % 65536) ∷ (behind % 65536) ∷ []
+
+-- ---- an expression
+
+-- Counts stay small up to the end.
+pub record Small (k end : ℕ) (p : Place) : Type 0 where
+  pub before-end : k ≤ end
+  pub few : end ≤ 2000
+  pub role : p .role ≤ 7
+  pub parent : p .parent ≤ 2000
+  pub slot : p .slot ≤ 5000
+  pub names : p .names + (end - k) ≤ 4000
+  pub keeps : p .keeps + (end - k) ≤ 4000
+  pub depth : p .depth + (end - k) ≤ 4000
+
+-- How far it went.
+pub record Went (k end next : ℕ) : Type 0 where
+  pub on : k ≤ next
+  pub inside : next ≤ end
+
+-- Expression e of a program stands at record k and ends by the end, the table has rows up to the end, and the stack has room.
+pub record Entering (s table cases : List ℕ) (entry arity : ℕ → ℕ) (k end : ℕ) (p : Place) (e : Expr) : Type 0 where
+  pub signed : List Signature
+  pub known : Known s signed
+  pub holds : Holds s signed k e
+  pub fits : k + size e ≤ end
+  pub agrees : Agrees s entry arity
+  pub room : rowWords * end ≤ length table
+  pub stacked : Stacked cases (p .depth) (end - k)
+
+-- The stack is as it was, up to the depth.
+pub record Same (cases cases′ : List ℕ) (depth : ℕ) : Type 0 where
+  pub long : length cases′ ≡ length cases
+  pub below-depth : take depth cases′ ≡ take depth cases
+
+-- The expression's rows, at the places of its records.
+pub record Filled (table table′ cases cases′ : List ℕ) (entry arity : ℕ → ℕ) (k : ℕ) (p : Place) (e : Expr) (next : ℕ) : Type 0 where
+  pub behind : next ≡ k + size e
+  pub rows : table′ ≡ written table (rowWords * k) (rowsOf entry arity (placeOf p cases) k e)
+  pub stack : Same cases cases′ (p .depth)
+
+pub record Fills (s table table′ cases cases′ : List ℕ) (k end : ℕ) (p : Place) (next : ℕ) : Type 0 where
+  pub went : Went k end next
+  pub is : (entry arity : ℕ → ℕ) (e : Expr) → Entering s table cases entry arity k end p e → Filled table table′ cases cases′ entry arity k p e next
+
+-- ---- parts
+
+-- The rows of the parts of the record r from part i on.
+unfoldable pub rowsOfParts : (entry arity : ℕ → ℕ) → PlaceThere → Kind → (r i : ℕ) → List Placed → List ℕ
+rowsOfParts entry arity p kind r i [] = []
+rowsOfParts entry arity p kind r i (q ∷ qs) =
+    rowsOf entry arity (partPlace entry arity p kind r i) (q .at-record) (q .expr) ++ rowsOfParts entry arity p kind r (suc i) qs
+
+-- On entering part i of the record r at record k.
+pub record SmallParts (r i k end : ℕ) (p : Place) : Type 0 where
+  pub before-end : k ≤ end
+  pub few : end ≤ 2000
+  pub parent : r ≤ 2000
+  pub names : p .names + 1 + (end - k) ≤ 4000
+  pub keeps : p .keeps + i + 1 + (end - k) ≤ 4000
+  pub depth : p .depth + 1 + (end - k) ≤ 4000
+
+-- A Call has as many parts as its function has parameters.
+pub record Counted (arity : ℕ → ℕ) (kind : Kind) (count : ℕ) : Type 0 where
+  pub is : (a b : ℕ) → kind ≡ Call a b → arity b ≡ count
+
+-- Parts of the record r from part i on stand one behind the other, the next at record k and the last before record m.
+pub record EnteringParts (s table cases : List ℕ) (entry arity : ℕ → ℕ) (node : Record) (i count k end : ℕ) (p : Place) (ps : List Placed) (m : ℕ) : Type 0 where
+  pub many : i + length ps ≡ count
+  pub counted : Counted arity (meant node) count
+  pub signed : List Signature
+  pub known : Known s signed
+  pub row : Row s signed k ps m
+  pub fits : m ≤ end
+  pub agrees : Agrees s entry arity
+  pub room : rowWords * end ≤ length table
+  pub stacked : Stacked cases (p .depth) (suc (end - k))
+
+pub record FilledParts (table table′ cases cases′ : List ℕ) (entry arity : ℕ → ℕ) (kind : Kind) (r i k : ℕ) (p : Place) (ps : List Placed) (m next : ℕ) : Type 0 where
+  pub behind : next ≡ m
+  pub rows : table′ ≡ written table (rowWords * k) (rowsOfParts entry arity (placeOf p cases) kind r i ps)
+  pub stack : Same cases cases′ (p .depth)
+
+pub record FillsParts (s table table′ cases cases′ : List ℕ) (node : Record) (r i count k end : ℕ) (p : Place) (next : ℕ) : Type 0 where
+  pub went : Went k end next
+  pub is : (entry arity : ℕ → ℕ) (ps : List Placed) (m : ℕ) → EnteringParts s table cases entry arity node i count k end p ps m
+      → FilledParts table table′ cases cases′ entry arity (meant node) r i k p ps m next
+
+-- ---- all functions
+
+-- Where the body of function j stands.
+pub record Starts (s : List ℕ) (j : ℕ) (p : Place) : Type 0 where
+  pub is : p ≡ record { role = whole; parent = 0; slot = 0; names = arityIn s j; keeps = 0; depth = 0 }
+  pub few : p .names < 256
+
+-- The records are a program, and there is room for its rows and for its Cases.
+pub record Ready (s table cases : List ℕ) : Type 0 where
+  pub is-read : verdict (readProgram s) ≡ done tt
+  pub room : tableWords ≤ length table
+  pub stack : 1057 ≤ length cases
+
+pub record FillsAll (s table table′ : List ℕ) : Type 0 where
+  pub is : (program : Program) → readProgram s ≡ done program → table′ ≡ tabled table program

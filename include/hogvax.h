@@ -53,13 +53,15 @@ extern "C" {
 /* The bytes of the longest code: 4,128 instructions. */
 #define HOGVAX_LONGEST_CODE 33024
 
-/* The work words of a run: `values`, and `returns`. A run needs them all,
- * however few would do; more change nothing. */
+/* The work words of a run, stream or source: `values`, and `returns`. A run
+ * needs them all, however few would do; more change nothing. */
 #define HOGVAX_VALUE_WORDS 16384
 #define HOGVAX_RETURN_WORDS 2048
 
-/* The places of an answer: of a run's, and of any other. */
+/* The places of an answer: of a stream run's, of a source run's, and of any
+ * other. */
 #define HOGVAX_RUN_PLACES 5
+#define HOGVAX_SOURCE_PLACES 4
 #define HOGVAX_ANSWER_PLACES 2
 
 /* ---- Places of an answer */
@@ -72,15 +74,21 @@ extern "C" {
  * and for a check. */
 #define HOGVAX_BYTES 1
 
-/* Of a run: the instructions performed, the bytes read from the start of the
- * input on, and the bytes written from the start of the output on. */
+/* Of a stream run: the instructions performed, the bytes read from the start of
+ * the input on, and the bytes written from the start of the output on. */
 #define HOGVAX_UNITS 1
 #define HOGVAX_READ 2
 #define HOGVAX_WRITTEN 3
 
-/* Of a run: the number given, in two's complement, sign-extended from 32 bits
- * to 64: -3 is UINT64_MAX - 2. 0 for a tree and on a refusal. */
+/* Of a stream run: the number given, in two's complement, sign-extended from 32
+ * bits to 64: -3 is UINT64_MAX - 2. 0 for a tree and on a refusal. */
 #define HOGVAX_NUMBER 4
+
+/* Of a source run: the expressions begun; the bytes written from the start of
+ * the output on, 0 on a refusal; and the number, as a stream run gives it. */
+#define HOGVAX_SOURCE_BEGUN 1
+#define HOGVAX_SOURCE_WRITTEN 2
+#define HOGVAX_SOURCE_NUMBER 3
 
 /* ---- Refusals */
 
@@ -104,12 +112,12 @@ enum hogvax_refusal {
     HOGVAX_TOO_MANY_PENDING = 12, /* a Case with 16 trees pending */
     /* A lent buffer. The place is 0. */
     HOGVAX_SPACE_TOO_SHORT = 13,  /* code, file, records, work or answer */
-    /* A run. The place is the bytes read. The tree reader has 15, 16 and 20,
-     * at a byte of the input. */
-    HOGVAX_FUEL_USED_UP = 14,     /* units are the fuel */
+    /* A run. The place is the bytes read; of a source run's 14, 17 and 18 it is
+     * 0. The tree reader has 15, 16 and 20, at a byte of the input. */
+    HOGVAX_FUEL_USED_UP = 14,     /* units, or expressions begun, are the fuel */
     HOGVAX_INPUT_ENDED = 15,      /* a tag or a whole label is not there */
     HOGVAX_NOT_A_TAG = 16,        /* a byte is not 1 or 2 */
-    HOGVAX_OUTPUT_FULL = 17,      /* no room for a tag or a label */
+    HOGVAX_OUTPUT_FULL = 17,      /* no room for a tag, a label or a result */
     HOGVAX_TOO_MANY_CALLS = 18,   /* a call with 1,024 open */
     HOGVAX_CANNOT_PERFORM = 19,   /* opcode, address, return byte, or words */
     HOGVAX_TOO_DEEP = 20          /* a node tag under 1,024 others */
@@ -238,6 +246,35 @@ uint32_t hogvax_run(const uint8_t *file, size_t file_len,
                     uint32_t *values, size_t values_len,
                     uint64_t *returns, size_t returns_len,
                     uint64_t *answer, size_t answer_len);
+
+/* ---- The source run */
+
+/* Evaluates the program in `file` on the tree that begins `input`, with so much
+ * fuel: a unit for each expression begun. Returns 0 where the evaluation ended.
+ * The program need not take its trees in order: what hogvax_check refuses with
+ * 11 or 12 is evaluated, too. Bytes after the tree are not looked at.
+ *
+ * Refused with 1 to 7, then with 9, 8, 10, as by hogvax_check; then with 13
+ * where `values` or `returns` are too few, HOGVAX_VALUE_WORDS and
+ * HOGVAX_RETURN_WORDS; then with 15, 16 or 20 where no tree begins `input`, as
+ * by hogvax_tree. All other places of the answer are then 0. Else with 14 before
+ * an expression, or with 18 at a call, after its arguments; last with 17 where
+ * the evaluation ended and `output` is shorter than the result. These are at 0,
+ * and HOGVAX_SOURCE_BEGUN is what was begun.
+ *
+ * A tree goes to the start of `output`, as tokens; the rest of `output` is
+ * untouched. All of it is untouched where the result is a number, and on every
+ * refusal. 17 does not tell how long the result is; a call with a longer output
+ * may have room for it. What `values` and `returns` hold afterwards is not said.
+ *
+ * The answer has HOGVAX_SOURCE_PLACES places. */
+uint32_t hogvax_source(const uint8_t *file, size_t file_len,
+                       const uint8_t *input, size_t input_len,
+                       uint64_t fuel,
+                       uint8_t *output, size_t output_len,
+                       uint32_t *values, size_t values_len,
+                       uint64_t *returns, size_t returns_len,
+                       uint64_t *answer, size_t answer_len);
 
 #ifdef __cplusplus
 }

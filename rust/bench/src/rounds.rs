@@ -1,6 +1,9 @@
-//! What the benchmarks share: rounds of two ways in turn, and what they took.
+//! What the benchmarks share: rounds of two ways in turn, what they took, and
+//! trees.
 
 #![forbid(unsafe_code)]
+
+pub mod trees;
 
 use std::time::Instant;
 
@@ -11,7 +14,8 @@ pub fn in_turn<T: Copy>(rounds: usize, ways: [T; 2], mut go: impl FnMut(T)) -> V
     (0..rounds).map(|_| round()).collect()
 }
 
-fn seconds(go: impl FnOnce()) -> f64 {
+/// The seconds that it takes.
+pub fn seconds(go: impl FnOnce()) -> f64 {
     let start = Instant::now();
     go();
     start.elapsed().as_secs_f64()

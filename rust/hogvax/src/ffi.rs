@@ -78,6 +78,22 @@ extern "C" {
         answer: *mut u64,
         answer_len: usize,
     ) -> u32;
+
+    fn hogvax_source(
+        file: *const u8,
+        file_len: usize,
+        input: *const u8,
+        input_len: usize,
+        fuel: u64,
+        output: *mut u8,
+        output_len: usize,
+        values: *mut u32,
+        values_len: usize,
+        returns: *mut u64,
+        returns_len: usize,
+        answer: *mut u64,
+        answer_len: usize,
+    ) -> u32;
 }
 
 /// A call that reads its first slice and answers in its second.
@@ -86,6 +102,24 @@ type Question = unsafe extern "C" fn(*const u8, usize, *mut u64, usize) -> u32;
 /// A call that reads its first slice, writes to its second, and answers in
 /// its third.
 type Conversion = unsafe extern "C" fn(*const u8, usize, *mut u8, usize, *mut u64, usize) -> u32;
+
+/// A call that reads its first two slices, takes a fuel, writes to its third
+/// slice, works in the two behind, and answers in its last.
+type Run = unsafe extern "C" fn(
+    *const u8,
+    usize,
+    *const u8,
+    usize,
+    u64,
+    *mut u8,
+    usize,
+    *mut u32,
+    usize,
+    *mut u64,
+    usize,
+    *mut u64,
+    usize,
+) -> u32;
 
 /// The length of the first tree's own bytes, which begin the input; 0 on a
 /// refusal.
@@ -140,23 +174,17 @@ pub fn perform(
     returns: &mut [u64],
     answer: &mut [u64],
 ) -> u32 {
-    // SAFETY: pointers and lengths are those of one slice each, and the
-    // slices written are borrowed mutably.
+    // SAFETY: the library exports this call.
     unsafe {
-        hogvax_perform(
-            code.as_ptr(),
-            code.len(),
-            input.as_ptr(),
-            input.len(),
+        run_in(
+            hogvax_perform,
+            code,
+            input,
             fuel,
-            output.as_mut_ptr(),
-            output.len(),
-            values.as_mut_ptr(),
-            values.len(),
-            returns.as_mut_ptr(),
-            returns.len(),
-            answer.as_mut_ptr(),
-            answer.len(),
+            output,
+            values,
+            returns,
+            answer,
         )
     }
 }
@@ -196,6 +224,31 @@ pub fn run(
     }
 }
 
+/// The source run of this program file over this input; see `source_into`.
+pub fn source(
+    file: &[u8],
+    input: &[u8],
+    fuel: u64,
+    output: &mut [u8],
+    values: &mut [u32],
+    returns: &mut [u64],
+    answer: &mut [u64],
+) -> u32 {
+    // SAFETY: the library exports this call.
+    unsafe {
+        run_in(
+            hogvax_source,
+            file,
+            input,
+            fuel,
+            output,
+            values,
+            returns,
+            answer,
+        )
+    }
+}
+
 /// Lends the two slices to a call.
 ///
 /// # Safety
@@ -228,6 +281,43 @@ unsafe fn convert(call: Conversion, input: &[u8], output: &mut [u8], answer: &mu
             input.len(),
             output.as_mut_ptr(),
             output.len(),
+            answer.as_mut_ptr(),
+            answer.len(),
+        )
+    }
+}
+
+/// Lends the six slices to a call.
+///
+/// # Safety
+///
+/// The call is one that the library exports.
+#[allow(clippy::too_many_arguments)]
+unsafe fn run_in(
+    call: Run,
+    first: &[u8],
+    input: &[u8],
+    fuel: u64,
+    output: &mut [u8],
+    values: &mut [u32],
+    returns: &mut [u64],
+    answer: &mut [u64],
+) -> u32 {
+    // SAFETY: pointers and lengths are those of one slice each, and the
+    // slices written are borrowed mutably.
+    unsafe {
+        call(
+            first.as_ptr(),
+            first.len(),
+            input.as_ptr(),
+            input.len(),
+            fuel,
+            output.as_mut_ptr(),
+            output.len(),
+            values.as_mut_ptr(),
+            values.len(),
+            returns.as_mut_ptr(),
+            returns.len(),
             answer.as_mut_ptr(),
             answer.len(),
         )

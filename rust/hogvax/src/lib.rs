@@ -14,6 +14,7 @@ mod machine;
 mod order;
 mod program;
 mod run;
+mod source;
 mod translate;
 mod tree;
 
@@ -21,13 +22,14 @@ pub use machine::{perform, perform_in, perform_into, Ran, WorkSpace, LONGEST_COD
 pub use order::{check, check_into, check_records, check_records_into};
 pub use program::{pack, pack_into, unpack, unpack_into, LONGEST_FILE, LONGEST_RECORDS};
 pub use run::{run, run_in, run_into};
+pub use source::{source, source_in, source_into, Sourced};
 pub use translate::{translate, translate_into};
 pub use tree::{first_tree, tree, tree_into};
 
 /// A refusal: its number in document 01's table, and its place. What the
 /// place counts depends on the number: the tree reader's is a byte of the
 /// input, a program file's is a block or a record, a stream run's is the bytes
-/// read.
+/// read; a source run's own refusals are at 0.
 #[derive(Clone, Copy, Debug, PartialEq, Eq)]
 pub struct Refused {
     pub number: u32,
@@ -41,6 +43,21 @@ impl fmt::Display for Refused {
 }
 
 impl Error for Refused {}
+
+impl Refused {
+    /// What a call told by a number, 0 or the refusal's, and the place.
+    fn told(number: u32, place: u64) -> Option<Refused> {
+        (number != 0).then_some(Refused { number, place })
+    }
+}
+
+/// How the line of a run begins: `ended`, or the refusal.
+fn write_start(refused: Option<Refused>, f: &mut fmt::Formatter<'_>) -> fmt::Result {
+    match refused {
+        None => f.write_str("ended"),
+        Some(refused) => write!(f, "{refused}"),
+    }
+}
 
 /// The bytes that a call writes to a buffer of this length, which is always
 /// enough.
@@ -58,11 +75,9 @@ fn written(
 /// places: the refusal's place, and a length in bytes.
 fn length_or_refused(call: impl FnOnce(&mut [u64]) -> u32) -> Result<usize, Refused> {
     let mut answer = [0; 2];
-    match call(&mut answer) {
-        0 => Ok(answer[1] as usize),
-        number => Err(Refused {
-            number,
-            place: answer[0],
-        }),
+    let number = call(&mut answer);
+    match Refused::told(number, answer[0]) {
+        None => Ok(answer[1] as usize),
+        Some(refused) => Err(refused),
     }
 }

@@ -2,7 +2,7 @@
 
 use std::fmt;
 
-use crate::{ffi, Refused};
+use crate::{ffi, write_start, Refused};
 
 /// The bytes of the longest code: 4,128 instructions, 8 bytes each. What
 /// stands behind them is never performed.
@@ -36,7 +36,7 @@ impl Ran {
     pub(crate) fn told(number: u32, answer: [u64; 5]) -> Ran {
         let [place, units, read, written, word] = answer;
         Ran {
-            refused: (number != 0).then_some(Refused { number, place }),
+            refused: Refused::told(number, place),
             units,
             read: read as usize,
             written: written as usize,
@@ -55,10 +55,7 @@ impl fmt::Display for Ran {
             written,
             number,
         } = self;
-        match refused {
-            None => f.write_str("ended")?,
-            Some(refused) => refused.fmt(f)?,
-        }
+        write_start(*refused, f)?;
         write!(
             f,
             " units {units} read {read} written {written} number {number}"
@@ -67,8 +64,8 @@ impl fmt::Display for Ran {
 }
 
 /// The work space of a run, about 112 KiB, with room for the longest code. It
-/// may serve one run after another: what a run leaves there does not matter to
-/// the next.
+/// may serve one run after another, stream runs and source runs alike: what a
+/// run leaves there does not matter to the next.
 pub struct WorkSpace {
     pub(crate) code: Vec<u8>,
     pub(crate) values: Vec<u32>,

@@ -245,17 +245,16 @@ fn the_token_files_are_what_the_readme_says() {
     assert!(readme.contains("\n| `clades.tokens` | ") && readme.contains(clades));
 }
 
-/// Every program on every token file.
-#[test]
-fn runs_give_what_the_readme_says() {
-    let rows = table("Running the programs");
+/// Every program on every token file, by this verb, as the README's table says.
+fn each_gives_what_is_said(verb: &str, heading: &str) {
+    let rows = table(heading);
     let mut runs: Vec<(&str, &str)> = Vec::new();
     for row in &rows {
         let [name, file, data, line] = &row[..] else {
             panic!("not four cells: {row:?}");
         };
         let program = format!("samples/programs/{name}.program");
-        let output = hogvax_at_root(&["run", &program, &format!("samples/{file}")]);
+        let output = hogvax_at_root(&[verb, &program, &format!("samples/{file}")]);
         let data = match data.as_str() {
             "nothing" => vec![],
             tree if tree.starts_with('(') => tokens(tree),
@@ -274,6 +273,16 @@ fn runs_give_what_the_readme_says() {
     let on_each = |file| names.map(|name| (file, name));
     let all = [on_each("small.tokens"), on_each("clades.tokens")].concat();
     assert_eq!(runs, all);
+}
+
+#[test]
+fn runs_give_what_the_readme_says() {
+    each_gives_what_is_said("run", "Running the programs");
+}
+
+#[test]
+fn source_runs_give_what_the_readme_says() {
+    each_gives_what_is_said("source", "Evaluating the programs");
 }
 
 /// The commands of the README, each with what is said of it.
@@ -305,7 +314,7 @@ fn the_commands_print_what_the_readme_says() {
             .map_or("12 13 0 0 0", |(_, line)| line);
         assert_eq!(printed.lines().last(), Some(last), "{words}");
     }
-    assert_eq!(commands.len(), 12);
+    assert_eq!(commands.len(), 14);
 }
 
 // Their listings

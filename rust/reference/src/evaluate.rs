@@ -67,17 +67,37 @@ pub enum Evaluation {
 /// Evaluates a program that passes pass one on a tree, with at most so many
 /// calls open and at most so many expressions begun.
 pub fn evaluate(program: &Program, tree: &Tree, most_open: usize, most_begun: u64) -> Evaluation {
-    let depth = deepest(program, most_open, most_begun);
-    large_stack::with_depth(depth, || {
-        let mut source = Source::new(&program.functions, most_open, most_begun);
-        match source.start(tree) {
-            Ok(value) => Evaluation::Ended(source.ended(value)),
-            Err(Halt::TooManyOpen) => Evaluation::TooManyOpen {
-                begun: source.begun(),
-            },
-            Err(Halt::TooLong) => Evaluation::TooLong,
-        }
+    with_stack(program, most_open, most_begun, || {
+        on_this_stack(program, tree, most_open, most_begun)
     })
+}
+
+/// Does the work on a thread with a stack large enough for evaluations of the
+/// program with at most so many calls open and expressions begun.
+pub(crate) fn with_stack<T: Send>(
+    program: &Program,
+    most_open: usize,
+    most_begun: u64,
+    work: impl FnOnce() -> T + Send,
+) -> T {
+    large_stack::with_depth(deepest(program, most_open, most_begun), work)
+}
+
+/// As `evaluate`, on the stack of the thread that calls it.
+pub(crate) fn on_this_stack(
+    program: &Program,
+    tree: &Tree,
+    most_open: usize,
+    most_begun: u64,
+) -> Evaluation {
+    let mut source = Source::new(&program.functions, most_open, most_begun);
+    match source.start(tree) {
+        Ok(value) => Evaluation::Ended(source.ended(value)),
+        Err(Halt::TooManyOpen) => Evaluation::TooManyOpen {
+            begun: source.begun(),
+        },
+        Err(Halt::TooLong) => Evaluation::TooLong,
+    }
 }
 
 /// The most expressions that can be nested in each other: a body's own in

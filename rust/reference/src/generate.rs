@@ -15,6 +15,7 @@ pub mod programs;
 pub mod random_damage;
 pub mod record_damage;
 pub mod runs;
+pub mod sources;
 
 pub use bodies::Alphabet;
 pub use file_damage::FileDamage;
@@ -22,6 +23,7 @@ pub use order_damage::changed_program;
 pub use random_damage::{changed_file, damaged_file, damaged_records, resized_file};
 pub use record_damage::RecordDamage;
 pub use runs::any_run;
+pub use sources::any_source;
 
 /// Labels likely to be got wrong: the extremes, and labels whose bytes look
 /// like tags.

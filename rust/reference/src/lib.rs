@@ -1,7 +1,7 @@
 //! Reference implementation for tests: trees, their tokens, the tree reader,
 //! programs, their records and program files, the order checker, the
-//! translator, the stream run, the runner and the source evaluation, with
-//! generators of random inputs.
+//! translator, the stream run, the runner, the source evaluation and the
+//! source run, with generators of random inputs.
 
 #![forbid(unsafe_code)]
 
@@ -13,6 +13,7 @@ pub mod order;
 pub mod program;
 pub mod random;
 pub mod run;
+pub mod source;
 pub mod translate;
 pub mod tree;
 
@@ -31,6 +32,7 @@ pub use program::{BLOCK_BYTES, BLOCK_LIMIT, BLOCK_RECORDS, RECORD_BYTES};
 pub use program::{FUNCTION_LIMIT, NODE_LIMIT, PARAMETER_LIMIT};
 pub use random::Random;
 pub use run::{run, RunCase};
+pub use source::{source, SourceCase, Sourced};
 pub use translate::{listing, translate, translate_into, translate_program};
 pub use tree::{
     read_tree, tree_bytes, tree_end, tree_refusal, Prefix, Refusal, Token, Tree, DEPTH_LIMIT,

@@ -5,7 +5,9 @@ use std::env;
 use std::io;
 use std::process::{Command, Output};
 
-use crate::inputs::{programs, small_trees, Program};
+use bench::trees::small_trees;
+
+use crate::inputs::{programs, Program};
 use crate::machines::{pass, Lent, Machine, MACHINES};
 
 /// The word by which the benchmark calls itself, followed by the names of a

@@ -1,14 +1,14 @@
 //! The programs, and the trees that they run over.
 
+use bench::trees::{balanced, deepest_caterpillar, small_trees};
+use reference::assemble;
 use reference::machine::known::programs::{listed, FILL, GROW, SUM};
-use reference::machine::OPEN_LIMIT;
-use reference::{assemble, generate, Random};
 
 pub struct Program {
     pub name: &'static str,
     pub code: Vec<u8>,
     /// The calls open where its tree begins, the first frame counted.
-    open: usize,
+    pub open: usize,
 }
 
 /// Grow adds 1 to every label. Sum adds the labels. Fill hands a number down,
@@ -40,26 +40,13 @@ pub fn inputs(program: &Program) -> [Input; 3] {
         },
         Input {
             name: "balanced, 2^20 tips",
-            trees: vec![generate::balanced(&mut Random::new(2), 1 << 20).tokens()],
+            trees: vec![balanced(1 << 20)],
             passes: 1,
         },
         Input {
             name: "caterpillar, 1,024 calls open",
-            trees: vec![deepest_caterpillar(program)],
+            trees: vec![deepest_caterpillar(program.open)],
             passes: 1_000,
         },
     ]
-}
-
-/// 100 trees of 1,000 tips, of random shapes.
-pub fn small_trees() -> Vec<Vec<u8>> {
-    let mut random = Random::new(1);
-    let trees = (0..100).map(|_| generate::tree(&mut random, 1_000).tokens());
-    trees.collect()
-}
-
-/// A caterpillar, leaves on either side, as deep as the open calls allow.
-pub fn deepest_caterpillar(program: &Program) -> Vec<u8> {
-    let depth = OPEN_LIMIT - program.open;
-    generate::mixed_caterpillar(&mut Random::new(3), depth).tokens()
 }

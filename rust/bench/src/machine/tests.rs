@@ -1,11 +1,12 @@
 //! The plain machine is right, so that a comparison with it means something.
 
+use bench::trees::deepest_caterpillar;
 use hogvax::{Ran, Refused};
 use reference::machine::known;
 use reference::machine::FILLER;
 use reference::{generate, Random, TestCase};
 
-use crate::inputs::{deepest_caterpillar, programs};
+use crate::inputs::programs;
 use crate::safe::{safe_perform, RETURN_WORDS, VALUE_WORDS};
 
 /// The plain machine's answer, and its whole output.
@@ -73,7 +74,7 @@ fn too_few_work_words_are_refused() {
 #[test]
 fn no_caterpillar_is_deeper() {
     for program in programs() {
-        let deepest = deepest_caterpillar(&program);
+        let deepest = deepest_caterpillar(program.open);
         let deeper = [&[2], &deepest[..], &[1, 0, 0, 0, 0]].concat();
         for (input, number) in [(deepest, None), (deeper, Some(18))] {
             let mut output = vec![0; input.len()];

@@ -41,8 +41,9 @@ pub fn list() -> Outcome {
     }
     text += "
 FILE may be '-' or left out: then standard input is read. Verbs that write data,
-pack, unpack, perform and run, write it into the file of --out or, if that is
-'-' or left out, to standard output; their answer goes to standard error.
+pack, unpack, perform, run and source, write it into the file of --out or, if
+that is '-' or left out, to standard output; their answer goes to standard
+error.
 'hogvax help VERB' shows a verb's options.
 Exit status: 0 done; 1 refused; 2 wrong usage, or a file that can't be read or
 written.

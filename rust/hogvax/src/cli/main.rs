@@ -2,6 +2,7 @@
 
 #![forbid(unsafe_code)]
 
+mod answer;
 mod check;
 mod data;
 mod help;
@@ -11,8 +12,9 @@ mod pack;
 mod perform;
 mod refusals;
 mod run;
+mod runs;
+mod source;
 mod space;
-mod stream;
 mod streams;
 mod text;
 mod tree;

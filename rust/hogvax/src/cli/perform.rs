@@ -2,8 +2,10 @@
 
 use std::ffi::OsString;
 
+use hogvax::Ran;
+
 use crate::outcome::{Outcome, Trouble};
-use crate::stream::StreamRun;
+use crate::runs::RunVerb;
 use crate::verbs::Verb;
 
 pub const VERB: Verb = Verb {
@@ -40,12 +42,13 @@ Example:
 };
 
 /// What stands behind the longest code is never performed.
-const PERFORM: StreamRun = StreamRun {
+const PERFORM: RunVerb<Ran> = RunVerb {
     name: "CODE",
     longest: hogvax::LONGEST_CODE,
     fuel,
     call: hogvax::perform_in,
     data: |_, _, written| written,
+    partial: true,
 };
 
 fn run(words: &[OsString]) -> Option<Outcome> {

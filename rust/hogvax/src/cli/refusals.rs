@@ -138,7 +138,8 @@ number, each the body of the one before, and Const 1 as the last body:
 Trees are not taken in the order in which they come in the input, each once. A
 Case or Call names a tree that is not the head of the pending ones, or none is
 pending; the branches of a Case or IfZero leave different trees pending; or a
-function leaves a tree.",
+function leaves a tree. The source run does not need this order: 'source' never
+tells it.",
         place: "\
 the record of that Case or Call, of the Case or IfZero with those
 branches, or of the first node of that function; the header is record 0.",
@@ -157,7 +158,8 @@ Node, Call 0 on 2, Call 0 on 1; run, listing and check refuse it:
         name: "pending trees",
         meaning: "\
 A Case stands where 16 trees are pending. It would take one and put two in
-front, and 16 is the most.",
+front, and 16 is the most. The source run has no pending trees: 'source' never
+tells it.",
         place: "the record of the Case; the header is record 0.",
         example: "\
 one function, which gives a number: 16 times Case with Const 1 as its
@@ -173,8 +175,9 @@ A buffer that the caller lends for code, for a file, for records, for work
 words or for the answer is shorter than the call needs. Code takes 8 bytes for
 each instruction of the program at hand. A run always needs 16,384 value words
 and 2,048 return words. A short answer is told before all else, the others
-after all faults of the program and before anything is written or run. This
-command lends enough; a program that calls the library may meet it.",
+after all faults of the program and before the input is looked at or anything
+is written. This command lends enough; a program that calls the library may
+meet it.",
         place: "always 0.",
         example: "\
 a stream run that is lent 16,383 value words:
@@ -190,29 +193,33 @@ each, the fuel is looked at first.",
         place: "in the stream run the bytes read, in the source run 0.",
         example: "\
 document 01's program Grow on its tree T, a stream run of 25 units,
-with fuel 24, and the same of its code:
+with fuel 24, and the same of its code; its source run begins 14 expressions:
   $ ./hogvax run samples/programs/grow.program samples/small.tokens --fuel 24
   refused 14 11 units 24 read 11 written 11 number 0
   $ ./hogvax perform samples/code/grow.code samples/small.tokens --fuel 24
-  refused 14 11 units 24 read 11 written 11 number 0",
+  refused 14 11 units 24 read 11 written 11 number 0
+  $ ./hogvax source samples/programs/grow.program samples/small.tokens --fuel 13
+  refused 14 0 begun 13 written 0 number 0",
     },
     Refusal {
         number: 15,
         name: "input ended",
         meaning: "\
 The input ends where a tag is to be read, or fewer than 4 bytes are left where
-a label is. The tree reader reads to the end of one tree, a stream run as far
-as its code goes.",
+a label is. The tree reader reads to the end of one tree, and so does the
+source run before it begins; a stream run reads as far as its code goes.",
         place: "\
 the byte at which that tag or label begins, counted from 0; in the
 stream run this is the bytes read.",
         example: "\
 the input 01 05 00 00, a leaf whose label has 3 bytes, for the tree
-reader and in a stream run:
+reader, in a stream run and in a source run:
   $ printf '\\1\\5\\0\\0' | ./hogvax tree
   refused 15 1
   $ printf '\\1\\5\\0\\0' | ./hogvax perform samples/code/grow.code --fuel 25
-  refused 15 1 units 1 read 1 written 0 number 0",
+  refused 15 1 units 1 read 1 written 0 number 0
+  $ printf '\\1\\5\\0\\0' | ./hogvax source samples/programs/grow.program
+  refused 15 1 begun 0 written 0 number 0",
     },
     Refusal {
         number: 16,
@@ -223,11 +230,13 @@ there.",
         place: "\
 that byte, counted from 0; in the stream run this is the bytes read.",
         example: "\
-the input 03, for the tree reader and in a stream run:
+the input 03, for the tree reader, in a stream run and in a source run:
   $ printf '\\3' | ./hogvax tree
   refused 16 0
   $ printf '\\3' | ./hogvax perform samples/code/grow.code --fuel 25
-  refused 16 0 units 0 read 0 written 0 number 0",
+  refused 16 0 units 0 read 0 written 0 number 0
+  $ printf '\\3' | ./hogvax source samples/programs/grow.program
+  refused 16 0 begun 0 written 0 number 0",
     },
     Refusal {
         number: 17,
@@ -239,12 +248,16 @@ is shorter than the result; nothing is written.",
         place: "in the stream run the bytes read, in the source run 0.",
         example: "\
 document 01's program Grow on its tree T, a stream run with an output
-of 10 bytes, of which it writes 7, and the same of its code:
+of 10 bytes, of which it writes 7, and the same of its code; its source run
+writes none:
   $ ./hogvax run samples/programs/grow.program samples/small.tokens --space 10
   refused 17 11 units 20 read 11 written 7 number 0
   $ ./hogvax perform samples/code/grow.code samples/small.tokens \\
     --fuel 25 --space 10
-  refused 17 11 units 20 read 11 written 7 number 0",
+  refused 17 11 units 20 read 11 written 7 number 0
+  $ ./hogvax source samples/programs/grow.program samples/small.tokens \\
+    --space 10
+  refused 17 0 begun 14 written 0 number 0",
     },
     Refusal {
         number: 18,
@@ -255,8 +268,9 @@ tree is too deep for the program, or the program calls itself without end; more
 fuel or space does not help.",
         place: "in the stream run the bytes read, in the source run 0.",
         example: "\
-one function, whose only node is Call 0 on 0, a stream run with fuel
-1,024; its first instruction calls address 0 again and again:
+one function, whose only node is Call 0 on 0. Its source run begins
+1,024 expressions. Its stream run has fuel 1,024 here; its first instruction
+calls address 0 again and again:
   $ printf '\\14\\0\\0\\0\\0\\0\\0\\0' |
     ./hogvax perform - samples/small.tokens --fuel 1024
   refused 18 0 units 1023 read 0 written 0 number 0",
@@ -280,10 +294,14 @@ an empty code buffer, fuel 1:
         name: "too deep",
         meaning: "\
 A node tag stands under 1,024 other nodes. A leaf may stand there, so a tree of
-depth 1,024 is read.",
+depth 1,024 is read. The tree reader tells it, and so does the source run; a
+stream run has no such limit.",
         place: "the byte of that tag, counted from 0.",
         example: "\
 1,025 times the byte 02:
-  refused 20 1024",
+  refused 20 1024
+  $ head -c 1025 /dev/zero | tr '\\0' '\\2' |
+    ./hogvax source samples/programs/grow.program
+  refused 20 1024 begun 0 written 0 number 0",
     },
 ];

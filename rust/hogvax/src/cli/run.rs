@@ -5,7 +5,7 @@ use std::ffi::OsString;
 use hogvax::Ran;
 
 use crate::outcome::Outcome;
-use crate::stream::StreamRun;
+use crate::runs::{result, RunVerb};
 use crate::verbs::Verb;
 
 pub const VERB: Verb = Verb {
@@ -49,29 +49,15 @@ Example:
 };
 
 /// A longer file than the longest is 1 at 0, so one byte more tells all.
-const RUN: StreamRun = StreamRun {
+const RUN: RunVerb<Ran> = RunVerb {
     name: "PROGRAM",
     longest: hogvax::LONGEST_FILE + 1,
     fuel: |given| Ok(given.unwrap_or(u64::MAX)),
     call: hogvax::run_in,
-    data,
+    data: result,
+    partial: true,
 };
 
 fn run(words: &[OsString]) -> Option<Outcome> {
     RUN.run(words)
-}
-
-/// The tree's tokens, or the number on a line of its own.
-fn data(program: &[u8], ran: &Ran, written: Vec<u8>) -> Vec<u8> {
-    if gives_a_number(program) {
-        format!("{}\n", ran.number).into_bytes()
-    } else {
-        written
-    }
-}
-
-/// What function 0 of a program file gives is in the first byte of its record,
-/// which is record 1.
-fn gives_a_number(program: &[u8]) -> bool {
-    program[8] == 0
 }

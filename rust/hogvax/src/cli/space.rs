@@ -3,8 +3,7 @@
 
 use std::hint::black_box;
 
-use hogvax::Ran;
-
+use crate::answer::Answer;
 use crate::outcome::Trouble;
 use crate::words::Words;
 
@@ -20,14 +19,14 @@ const LEAST: u64 = 1 << 20;
 /// Without `--most-space` it grows up to 1 GiB.
 const MOST: u64 = 1 << 30;
 
-/// The refusal of a run whose output is full.
+/// The refusal of a run whose output is too short.
 const OUTPUT_FULL: u32 = 17;
 
 pub enum Space {
     /// So many bytes.
     Given(u64),
     /// At first what suits the input, then twice as much each time that the
-    /// output is full, up to so many bytes.
+    /// output is too short, up to so many bytes.
     Growing(u64),
 }
 
@@ -56,27 +55,27 @@ impl Space {
 
     /// Makes a run over an input of so many bytes, again and again while more
     /// space may help. Gives the last run's answer, and what it wrote.
-    pub fn run(
+    pub fn run<A: Answer>(
         &self,
         input: usize,
-        mut run: impl FnMut(&mut [u8]) -> Ran,
-    ) -> Result<(Ran, Vec<u8>), Trouble> {
+        mut run: impl FnMut(&mut [u8]) -> A,
+    ) -> Result<(A, Vec<u8>), Trouble> {
         let (mut bytes, most) = self.bounds(input);
         loop {
             let mut output = zeros(bytes)?;
-            let ran = run(&mut output);
-            if bytes == most || !is_full(&ran) {
-                output.truncate(ran.written);
-                return Ok((ran, output));
+            let answer = run(&mut output);
+            if bytes == most || !is_full(&answer) {
+                output.truncate(answer.written());
+                return Ok((answer, output));
             }
             bytes = bytes.saturating_mul(2).min(most);
         }
     }
 }
 
-fn is_full(ran: &Ran) -> bool {
-    ran.refused
-        .is_some_and(|refused| refused.number == OUTPUT_FULL)
+fn is_full(answer: &impl Answer) -> bool {
+    let refused = answer.refused();
+    refused.is_some_and(|refused| refused.number == OUTPUT_FULL)
 }
 
 /// So many zero bytes. `vec!` leaves the memory to be touched by the run, but
@@ -95,7 +94,7 @@ fn zeros(bytes: u64) -> Result<Vec<u8>, Trouble> {
 mod tests {
     use std::ffi::OsString;
 
-    use hogvax::Refused;
+    use hogvax::{Ran, Refused, Sourced};
 
     use super::*;
     use crate::words::Takes;
@@ -178,10 +177,31 @@ mod tests {
         assert_eq!(sizes(most(8 * MIB), 3 * MIB, 1), (vec![6 * MIB], true));
     }
 
+    /// 17 of a source run says nothing of how much it needs.
+    #[test]
+    fn space_of_a_source_run_doubles() {
+        let mut sizes = Vec::new();
+        let answer = space(&[]).run(0, |output| {
+            sizes.push(output.len());
+            output[0] = 7;
+            let (number, place) = (OUTPUT_FULL, 0);
+            let short = output.len() < 3 * MIB;
+            Sourced {
+                refused: short.then_some(Refused { number, place }),
+                begun: 9,
+                written: usize::from(!short),
+                number: 0,
+            }
+        });
+        let written = answer.map(|(_, written)| written).ok();
+        assert_eq!(sizes, [MIB, 2 * MIB, 4 * MIB]);
+        assert_eq!(written, Some(vec![7]));
+    }
+
     /// Other refusals are no matter of space.
     #[test]
     fn only_a_full_output_grows() {
-        for number in (13..=19).filter(|&number| number != OUTPUT_FULL) {
+        for number in (1..=20).filter(|&number| number != OUTPUT_FULL) {
             let mut runs = 0;
             let answer = space(&[]).run(0, |output| {
                 runs += 1;

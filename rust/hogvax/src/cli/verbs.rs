@@ -9,6 +9,7 @@ use crate::outcome::{Outcome, Trouble};
 use crate::pack;
 use crate::perform;
 use crate::run;
+use crate::source;
 use crate::tree;
 use crate::unpack;
 use crate::why;
@@ -38,6 +39,7 @@ pub const VERBS: &[Verb] = &[
     listing::VERB,
     perform::VERB,
     run::VERB,
+    source::VERB,
     why::VERB,
     help::VERB,
 ];

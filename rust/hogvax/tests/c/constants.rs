@@ -63,7 +63,7 @@ fn c_name(case: &str) -> String {
     name
 }
 
-const LENGTHS: [(&str, usize); 11] = [
+const LENGTHS: [(&str, usize); 12] = [
     ("HOGVAX_RECORD_BYTES", RECORD_BYTES),
     ("HOGVAX_INSTRUCTION_BYTES", INSTRUCTION_BYTES),
     ("HOGVAX_BLOCK_BYTES", BLOCK_BYTES),
@@ -74,17 +74,22 @@ const LENGTHS: [(&str, usize); 11] = [
     ("HOGVAX_VALUE_WORDS", VALUE_WORDS),
     ("HOGVAX_RETURN_WORDS", RETURN_WORDS),
     ("HOGVAX_RUN_PLACES", 5),
+    ("HOGVAX_SOURCE_PLACES", 4),
     ("HOGVAX_ANSWER_PLACES", 2),
 ];
 
-/// "place, units, bytes read, bytes written, the number"; or "place, bytes".
-const PLACES: [(&str, usize); 6] = [
+/// "place, units, bytes read, bytes written, the number"; "place, begun, bytes
+/// written, the number"; or "place, bytes".
+const PLACES: [(&str, usize); 9] = [
     ("HOGVAX_PLACE", 0),
     ("HOGVAX_BYTES", 1),
     ("HOGVAX_UNITS", 1),
     ("HOGVAX_READ", 2),
     ("HOGVAX_WRITTEN", 3),
     ("HOGVAX_NUMBER", 4),
+    ("HOGVAX_SOURCE_BEGUN", 1),
+    ("HOGVAX_SOURCE_WRITTEN", 2),
+    ("HOGVAX_SOURCE_NUMBER", 3),
 ];
 
 /// These constants and no others.

@@ -103,7 +103,7 @@ fn header() -> Vec<Declaration> {
 #[test]
 fn the_header_declares_what_the_wrapper_calls() {
     let (header, wrapper) = (header(), wrapper());
-    assert_eq!(wrapper.len(), 9);
+    assert_eq!(wrapper.len(), 10);
     assert_eq!(header, wrapper);
 }
 

@@ -1,9 +1,10 @@
-//! The C header and the C example, with the system's C compiler and the static
+//! The C header and the C examples, with the system's C compiler and the static
 //! library.
 
 mod constants;
 mod declarations;
 mod example;
+mod places;
 
 use std::fs;
 use std::path::{Path, PathBuf};

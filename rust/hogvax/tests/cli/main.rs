@@ -5,6 +5,8 @@ mod listing;
 mod perform;
 mod programs;
 mod run;
+mod runs;
+mod source;
 mod stream;
 mod tree;
 mod why;
@@ -14,8 +16,10 @@ use std::io::{ErrorKind, Write};
 use std::path::{Path, PathBuf};
 use std::process::{Child, Command, Output, Stdio};
 
-const VERBS: [&str; 9] = [
-    "tree", "pack", "unpack", "check", "listing", "perform", "run", "why", "help",
+use reference::{lay_out, Expr, Function, Program};
+
+const VERBS: [&str; 10] = [
+    "tree", "pack", "unpack", "check", "listing", "perform", "run", "source", "why", "help",
 ];
 
 /// Document 01: "Tree T: 02 01 05 00 00 00 01 07 00 00 00."
@@ -127,6 +131,27 @@ fn with(bytes: &[u8], place: usize, byte: u8) -> Vec<u8> {
     let mut bytes = bytes.to_vec();
     bytes[place] = byte;
     bytes
+}
+
+/// The file of a program of one function.
+fn file(tree_valued: bool, body: Expr) -> Vec<u8> {
+    let program = Program::new(vec![Function {
+        tree_valued,
+        parameters: 0,
+        body,
+    }]);
+    lay_out(&program.records())
+}
+
+/// A call of function 0.
+fn call(tree: u8) -> Expr {
+    Expr::call(tree, 0, vec![])
+}
+
+/// A tree of two leaves.
+fn two_leaves(left: i32, right: i32) -> Vec<u8> {
+    let (left, right) = (left.to_le_bytes(), right.to_le_bytes());
+    [&[2, 1][..], &left, &[1], &right].concat()
 }
 
 /// A new and empty folder, for one test.

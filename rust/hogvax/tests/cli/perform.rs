@@ -1,6 +1,7 @@
 //! `perform`: what it alone does.
 
-use super::stream::{refused, small, ENDED, GROWN, PERFORM};
+use super::runs::{small, ENDED, GROWN, PERFORM};
+use super::stream::refused;
 use super::*;
 
 /// What is said of Sum on T.

@@ -2,34 +2,14 @@
 
 use reference::generate::balanced;
 use reference::run::known;
-use reference::{lay_out, Expr, Function, Program, Random};
+use reference::Random;
 
-use super::stream::{refused, small, ENDED, GROWN, RUN};
+use super::runs::{manifold, small, ENDED, GROWN, RUN};
+use super::stream::refused;
 use super::*;
-
-/// The file of a program of one function.
-fn file(tree_valued: bool, body: Expr) -> Vec<u8> {
-    let program = Program::new(vec![Function {
-        tree_valued,
-        parameters: 0,
-        body,
-    }]);
-    lay_out(&program.records())
-}
-
-/// A call of function 0.
-fn call(tree: u8) -> Expr {
-    Expr::call(tree, 0, vec![])
-}
 
 fn sum() -> String {
     sample("programs/sum.program")
-}
-
-/// A tree of two leaves.
-fn two_leaves(left: i32, right: i32) -> Vec<u8> {
-    let (left, right) = (left.to_le_bytes(), right.to_le_bytes());
-    [&[2, 1][..], &left, &[1], &right].concat()
 }
 
 // Numbers
@@ -195,13 +175,6 @@ fn known_runs_are_told() {
 fn fuel_may_be_left_out() {
     assert_gives(&RUN.run_grow(&[]), 0, &GROWN, ENDED);
     assert_gives(&RUN.run_grow(&["--partial"]), 0, &GROWN, ENDED);
-}
-
-/// The file of a program that gives so many leaves for each leaf.
-fn manifold(leaves: usize) -> Vec<u8> {
-    let leaf = || Expr::leaf(Expr::var(0));
-    let many = (1..leaves).fold(leaf(), |tree, _| Expr::node(leaf(), tree));
-    file(true, Expr::case(0, many, Expr::node(call(1), call(2))))
 }
 
 /// What the program gives on these tokens, in an output of so many bytes.

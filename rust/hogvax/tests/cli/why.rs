@@ -1,7 +1,7 @@
 //! `why`.
 
 use reference::generate::programs;
-use reference::{lay_out, mend_checks, Expr, Function, Program, Random};
+use reference::{mend_checks, Expr, Random};
 
 use super::*;
 
@@ -64,6 +64,7 @@ fn typed(command: &str) -> Output {
 #[test]
 fn the_commands_are_true() {
     let (mut performed, mut run_programs) = (Vec::new(), Vec::new());
+    let mut sourced = Vec::new();
     for number in 1..=20 {
         let text = printed(run(&["why", &number.to_string()]));
         for (command, line) in commands(&text) {
@@ -77,10 +78,14 @@ fn the_commands_are_true() {
             if command.contains("./hogvax run ") {
                 run_programs.push(number);
             }
+            if command.contains("./hogvax source ") {
+                sourced.push(number);
+            }
         }
     }
     assert_eq!(performed, [14, 15, 16, 17, 18, 19]);
     assert_eq!(run_programs, [11, 14, 17]);
+    assert_eq!(sourced, [14, 15, 16, 17, 20]);
 }
 
 /// The example of 13, which this command never meets.
@@ -127,20 +132,9 @@ fn the_program_files_examples_are_true() {
     }
 }
 
-/// The file of a program of one function.
-fn file(tree_valued: bool, body: Expr) -> Vec<u8> {
-    let program = Program::new(vec![Function {
-        tree_valued,
-        parameters: 0,
-        body,
-    }]);
-    lay_out(&program.records())
-}
-
 #[test]
 fn the_order_checkers_examples_are_true() {
     let one = || Expr::constant(1);
-    let call = |tree| Expr::call(tree, 0, vec![]);
     let lets = (0..16).fold(one(), |body, _| Expr::let_in(one(), body));
     let right_first = Expr::node(call(2), call(1));
     let right_first = Expr::case(0, Expr::leaf(Expr::var(0)), right_first);

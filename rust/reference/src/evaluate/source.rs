@@ -1,15 +1,9 @@
 //! The evaluation itself, by recursion on the expression and the tree.
 
-use crate::program::{Expr, Function};
+use crate::program::{Expr, Function, PARAMETER_LIMIT};
 use crate::tree::Tree;
 
 use super::{Ended, Value};
-
-/// The numbers and trees named, by name.
-struct Names<'t> {
-    numbers: Vec<i32>,
-    trees: Vec<&'t Tree>,
-}
 
 /// Why an evaluation is given up.
 pub enum Halt {
@@ -17,8 +11,15 @@ pub enum Halt {
     TooLong,
 }
 
-pub struct Source<'p> {
-    functions: &'p [Function],
+/// Where the names of an open call begin.
+#[derive(Clone, Copy, Default)]
+struct Frame {
+    numbers: usize,
+    trees: usize,
+}
+
+pub struct Source<'a> {
+    functions: &'a [Function],
     most_open: usize,
     most_begun: u64,
     begun: u64,
@@ -26,10 +27,16 @@ pub struct Source<'p> {
     /// The calls open, and the greatest number of them so far.
     open: usize,
     greatest: usize,
+    /// The numbers and trees named in the open calls, call after call, by
+    /// name in each.
+    numbers: Vec<i32>,
+    trees: Vec<&'a Tree>,
+    /// Of the call opened last.
+    frame: Frame,
 }
 
-impl<'p> Source<'p> {
-    pub fn new(functions: &'p [Function], most_open: usize, most_begun: u64) -> Source<'p> {
+impl<'a> Source<'a> {
+    pub fn new(functions: &'a [Function], most_open: usize, most_begun: u64) -> Source<'a> {
         Source {
             functions,
             most_open,
@@ -38,13 +45,21 @@ impl<'p> Source<'p> {
             units: 0,
             open: 0,
             greatest: 0,
+            numbers: Vec::new(),
+            trees: Vec::new(),
+            frame: Frame::default(),
         }
     }
 
     /// "It starts in function 0's body, the tree being tree 0, with 0
-    /// expressions begun and 1 call open."
-    pub fn start(&mut self, tree: &Tree) -> Result<Value, Halt> {
-        self.call(0, vec![], tree)
+    /// expressions begun and 1 call open."; "the result is function 0's
+    /// value".
+    pub fn start(&mut self, tree: &'a Tree) -> Result<Value, Halt> {
+        if self.functions[0].tree_valued {
+            Ok(Value::Tree(self.call(0, &[], tree)?))
+        } else {
+            Ok(Value::Number(self.call(0, &[], tree)?))
+        }
     }
 
     pub fn begun(&self) -> u64 {
@@ -62,15 +77,23 @@ impl<'p> Source<'p> {
 
     /// "opens a call: b's body, with these numbers and the named tree alone;
     /// its value closes it and is the Call's."
-    fn call(&mut self, b: u16, numbers: Vec<i32>, tree: &Tree) -> Result<Value, Halt> {
+    fn call<T: Given>(&mut self, b: u16, numbers: &[i32], tree: &'a Tree) -> Result<T, Halt> {
         if self.open >= self.most_open {
             return Err(Halt::TooManyOpen);
         }
         self.open += 1;
         self.greatest = self.greatest.max(self.open);
-        let trees = vec![tree];
-        let body = &self.functions[usize::from(b)].body;
-        let value = self.take(body, &mut Names { numbers, trees })?;
+        let frame = Frame {
+            numbers: self.numbers.len(),
+            trees: self.trees.len(),
+        };
+        let caller = std::mem::replace(&mut self.frame, frame);
+        self.numbers.extend_from_slice(numbers);
+        self.trees.push(tree);
+        let value = self.take(&self.functions[usize::from(b)].body)?;
+        self.numbers.truncate(frame.numbers);
+        self.trees.truncate(frame.trees);
+        self.frame = caller;
         self.open -= 1;
         Ok(value)
     }
@@ -85,100 +108,113 @@ impl<'p> Source<'p> {
     }
 
     /// "to take a part is to begin it and find its value."
-    fn take(&mut self, expr: &Expr, names: &mut Names) -> Result<Value, Halt> {
+    fn take<T: Given>(&mut self, expr: &'a Expr) -> Result<T, Halt> {
         self.begin()?;
         match expr {
-            Expr::Const(i) => self.gives(1, Value::Number(*i)),
-            Expr::Var(a) => self.gives(1, Value::Number(names.numbers[usize::from(*a)])),
-            Expr::Add(p, q) => {
-                let left = self.number(p, names)?;
-                let right = self.number(q, names)?;
-                self.gives(1, Value::Number(left.wrapping_add(right)))
-            }
-            Expr::IfZero(test, zero, other) => match self.number(test, names)? {
-                0 => self.part_of(2, zero, names),
-                _ => self.part_of(1, other, names),
+            Expr::IfZero(test, zero, other) => match self.take::<i32>(test)? {
+                0 => self.part_of(2, zero),
+                _ => self.part_of(1, other),
             },
             Expr::Let(number, body) => {
-                let number = self.number(number, names)?;
-                self.with_number(1, number, body, names)
+                let number = self.take(number)?;
+                self.with_number(1, number, body)
             }
-            Expr::Leaf(number) => {
-                let number = self.number(number, names)?;
-                self.gives(2, Value::Tree(Tree::leaf(number)))
-            }
-            Expr::Node(p, q) => {
-                let left = self.tree(p, names)?;
-                let right = self.tree(q, names)?;
-                self.gives(1, Value::Tree(Tree::node(left, right)))
-            }
-            Expr::Case(a, leaf, node) => match names.trees[usize::from(*a)] {
-                Tree::Leaf(label) => self.with_number(4, *label, leaf, names),
-                Tree::Node(left, right) => self.with_trees(1, [left, right], node, names),
+            Expr::Case(a, leaf, node) => match self.tree_named(*a) {
+                Tree::Leaf(label) => self.with_number(4, *label, leaf),
+                Tree::Node(left, right) => self.with_trees(1, [left, right], node),
             },
             Expr::Call(a, b, arguments) => {
-                let mut numbers = Vec::new();
-                for argument in arguments {
-                    numbers.push(self.number(argument, names)?);
+                let mut numbers = [0; PARAMETER_LIMIT];
+                let numbers = &mut numbers[..arguments.len()];
+                for (number, argument) in numbers.iter_mut().zip(arguments) {
+                    *number = self.take(argument)?;
                 }
                 self.units += 2;
-                self.call(*b, numbers, names.trees[usize::from(*a)])
+                self.call(*b, numbers, self.tree_named(*a))
             }
+            _ => T::by_its_own_kinds(self, expr),
         }
     }
 
-    /// The value of an expression with so many units.
-    fn gives(&mut self, units: u64, value: Value) -> Result<Value, Halt> {
-        self.units += units;
-        Ok(value)
-    }
-
     /// "IfZero, Let and Case have the value of the part taken last."
-    fn part_of(&mut self, units: u64, part: &Expr, names: &mut Names) -> Result<Value, Halt> {
+    fn part_of<T: Given>(&mut self, units: u64, part: &'a Expr) -> Result<T, Halt> {
         self.units += units;
-        self.take(part, names)
+        self.take(part)
     }
 
     /// The part last taken, where this number has the next name.
-    fn with_number(
+    fn with_number<T: Given>(
         &mut self,
         units: u64,
         number: i32,
-        part: &Expr,
-        names: &mut Names,
-    ) -> Result<Value, Halt> {
-        names.numbers.push(number);
-        let value = self.part_of(units, part, names)?;
-        names.numbers.pop();
+        part: &'a Expr,
+    ) -> Result<T, Halt> {
+        self.numbers.push(number);
+        let value = self.part_of(units, part)?;
+        self.numbers.pop();
         Ok(value)
     }
 
     /// The part last taken, where these trees have the next names, "left
     /// first".
-    fn with_trees<'t>(
+    fn with_trees<T: Given>(
         &mut self,
         units: u64,
-        trees: [&'t Tree; 2],
-        part: &Expr,
-        names: &mut Names<'t>,
-    ) -> Result<Value, Halt> {
-        names.trees.extend(trees);
-        let value = self.part_of(units, part, names)?;
-        names.trees.truncate(names.trees.len() - 2);
+        trees: [&'a Tree; 2],
+        part: &'a Expr,
+    ) -> Result<T, Halt> {
+        self.trees.extend(trees);
+        let value = self.part_of(units, part)?;
+        self.trees.truncate(self.trees.len() - trees.len());
         Ok(value)
     }
 
-    fn number(&mut self, expr: &Expr, names: &mut Names) -> Result<i32, Halt> {
-        match self.take(expr, names)? {
-            Value::Number(number) => Ok(number),
-            Value::Tree(_) => panic!("pass one: a number is expected"),
-        }
+    fn number_named(&self, a: u8) -> i32 {
+        self.numbers[self.frame.numbers + usize::from(a)]
     }
 
-    fn tree(&mut self, expr: &Expr, names: &mut Names) -> Result<Tree, Halt> {
-        match self.take(expr, names)? {
-            Value::Tree(tree) => Ok(tree),
-            Value::Number(_) => panic!("pass one: a tree is expected"),
+    fn tree_named(&self, a: u8) -> &'a Tree {
+        self.trees[self.frame.trees + usize::from(a)]
+    }
+}
+
+/// What an expression may be expected to give: a number or a tree.
+trait Given: Sized {
+    /// The value of an expression, already begun, that isn't of one of the
+    /// kinds that give both.
+    fn by_its_own_kinds<'a>(source: &mut Source<'a>, expr: &'a Expr) -> Result<Self, Halt>;
+}
+
+impl Given for i32 {
+    fn by_its_own_kinds<'a>(source: &mut Source<'a>, expr: &'a Expr) -> Result<i32, Halt> {
+        source.units += 1;
+        match expr {
+            Expr::Const(i) => Ok(*i),
+            Expr::Var(a) => Ok(source.number_named(*a)),
+            Expr::Add(p, q) => {
+                let left: i32 = source.take(p)?;
+                let right = source.take(q)?;
+                Ok(left.wrapping_add(right))
+            }
+            _ => panic!("pass one: a number is expected"),
+        }
+    }
+}
+
+impl Given for Tree {
+    fn by_its_own_kinds<'a>(source: &mut Source<'a>, expr: &'a Expr) -> Result<Tree, Halt> {
+        match expr {
+            Expr::Leaf(number) => {
+                source.units += 2;
+                Ok(Tree::leaf(source.take(number)?))
+            }
+            Expr::Node(p, q) => {
+                source.units += 1;
+                let left = source.take(p)?;
+                let right = source.take(q)?;
+                Ok(Tree::node(left, right))
+            }
+            _ => panic!("pass one: a tree is expected"),
         }
     }
 }

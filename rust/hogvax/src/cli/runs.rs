@@ -1,52 +1,63 @@
-//! Verbs that make a stream run: `perform`, of code, and `run`, of a program.
+//! Verbs that run a file over token bytes: `perform`, of code, and `run` and
+//! `source`, of a program.
 
 use std::ffi::{OsStr, OsString};
 
-use hogvax::{Ran, WorkSpace};
+use hogvax::WorkSpace;
 
+use crate::answer::Answer;
 use crate::data::{self, OUT};
 use crate::outcome::{Outcome, Trouble};
 use crate::space::{Space, MOST_SPACE, SPACE};
 use crate::streams;
 use crate::words::{Takes, Words};
 
-/// The option that says how many instructions may be performed.
+/// The option that says how many instructions may be performed, or how many
+/// expressions begun.
 const FUEL: &str = "--fuel";
 
 /// The option that asks for what a run wrote before it was refused.
 const PARTIAL: &str = "--partial";
 
-const OPTIONS: &[(&str, Takes)] = &[
+/// The options that each of these verbs has.
+const OPTIONS: [(&str, Takes); 4] = [
     (FUEL, Takes::Number),
     (SPACE, Takes::Number),
     (MOST_SPACE, Takes::Number),
     (OUT, Takes::File),
-    (PARTIAL, Takes::Nothing),
 ];
 
 /// A call of the library: a work space, what is to be run, the input, the fuel
 /// and the output.
-type Call = fn(&mut WorkSpace, &[u8], &[u8], u64, &mut [u8]) -> Ran;
+type Call<A> = fn(&mut WorkSpace, &[u8], &[u8], u64, &mut [u8]) -> A;
 
-/// A verb that runs its first file over the bytes of its second.
-pub struct StreamRun {
+/// A verb that runs its first file over the bytes of its second, and whose run
+/// answers so.
+pub struct RunVerb<A> {
     /// How its first file is called.
     pub name: &'static str,
     /// So many bytes of the first file decide; those behind need not be read.
     pub longest: usize,
     /// The fuel, where this one or none is given.
     pub fuel: fn(Option<u64>) -> Result<u64, Trouble>,
-    pub call: Call,
+    pub call: Call<A>,
     /// The data that goes out after a run of the first file that ended and
     /// wrote these bytes.
-    pub data: fn(&[u8], &Ran, Vec<u8>) -> Vec<u8>,
+    pub data: fn(&[u8], &A, Vec<u8>) -> Vec<u8>,
+    /// Whether a run may write before it is refused, so that there is
+    /// `--partial`.
+    pub partial: bool,
 }
 
-impl StreamRun {
+impl<A: Answer> RunVerb<A> {
     /// Takes the words that follow the verb: two files, of which the second
     /// may be left out, and the options.
     pub fn run(&self, words: &[OsString]) -> Option<Outcome> {
-        let words = Words::sort(words, OPTIONS)?;
+        let mut options = OPTIONS.to_vec();
+        if self.partial {
+            options.push((PARTIAL, Takes::Nothing));
+        }
+        let words = Words::sort(words, &options)?;
         let (first, file) = words.two_files()?;
         Some(self.run_files(first, file, &words))
     }
@@ -63,14 +74,30 @@ impl StreamRun {
         let first = streams::read_at_most(first, self.longest)?;
         let input = streams::read(file)?;
         let mut work = WorkSpace::new();
-        let (ran, written) = space.run(input.len(), |output| {
+        let (answer, written) = space.run(input.len(), |output| {
             (self.call)(&mut work, &first, &input, fuel, output)
         })?;
-        let (out, line) = (data::destination(words), ran.to_string());
-        match ran.refused {
-            None => data::hand_out(&(self.data)(&first, &ran, written), out, &line),
+        let (out, line) = (data::destination(words), answer.to_string());
+        match answer.refused() {
+            None => data::hand_out(&(self.data)(&first, &answer, written), out, &line),
             Some(_) if words.has(PARTIAL) => data::refuse_after(&written, out, &line),
             Some(_) => data::refuse(&line),
         }
     }
+}
+
+/// What a program gives after a run that wrote these bytes: the tree's tokens,
+/// or the number on a line of its own.
+pub fn result(program: &[u8], answer: &impl Answer, written: Vec<u8>) -> Vec<u8> {
+    if gives_a_number(program) {
+        format!("{}\n", answer.number()).into_bytes()
+    } else {
+        written
+    }
+}
+
+/// What function 0 of a program file gives is in the first byte of its record,
+/// which is record 1.
+fn gives_a_number(program: &[u8]) -> bool {
+    program[8] == 0
 }

@@ -1,0 +1,158 @@
+//! Source runs with known answers: document 01's worked cases, worked
+//! evaluations, deep programs and trees, and buffers that are too short.
+
+use reference::source::known;
+
+use super::*;
+
+/// The refusals that a source run gives: all but those of pass two and 19.
+const REFUSALS: [u32; 17] = [1, 2, 3, 4, 5, 6, 7, 8, 9, 10, 13, 14, 15, 16, 17, 18, 20];
+
+#[test]
+fn known_source_runs_have_their_answers() {
+    let mut seen = [0; 21];
+    let mut lent = Lent::new();
+    for known in known::all() {
+        let expected = Gave::told(known.answer, known.output);
+        lent.assert_gives(&known.name, &known.case, &expected);
+        seen[expected.number as usize] += 1;
+    }
+    for number in [0].iter().chain(&REFUSALS) {
+        assert!(
+            seen[*number as usize] > 0,
+            "answer {number} was not seen: {seen:?}"
+        );
+    }
+    assert_eq!([seen[11], seen[12], seen[19]], [0; 3]);
+}
+
+/// With a work space of its own.
+#[test]
+fn known_source_runs_have_their_answers_in_a_new_work_space() {
+    for known in known::all() {
+        let expected = Gave::told(known.answer, known.output);
+        if expected.number != 13 {
+            let case = &known.case;
+            let mut output = vec![FILLER; case.output];
+            let sourced = hogvax::source(&case.file, &case.input, case.fuel, &mut output);
+            assert_eq!(sourced, expected.sourced(), "{}", known.name);
+            assert!(output == expected.output, "{}", known.name);
+        }
+    }
+}
+
+/// As text, an answer is the line that the reference writes.
+#[test]
+fn known_answers_have_their_lines() {
+    for known in known::all() {
+        let gave = Gave::told(known.answer, known.output);
+        assert_eq!(gave.sourced().to_string(), known.answer.to_string());
+    }
+}
+
+// Document 01's worked cases, written out
+
+/// Document 01: "Tree T: 02 01 05 00 00 00 01 07 00 00 00."
+const T: [u8; 11] = [2, 1, 5, 0, 0, 0, 1, 7, 0, 0, 0];
+
+/// A call of function 0.
+fn call(tree: u8) -> Expr {
+    Expr::call(tree, 0, vec![])
+}
+
+/// The file of a program with this function alone.
+fn alone(function: Function) -> Vec<u8> {
+    file(&Program::new(vec![function]))
+}
+
+/// "Grow: Case 0, Leaf, Add, Var 0, Const 1, Node, Call 0 on 1, Call 0 on 2."
+fn grow() -> Vec<u8> {
+    let leaf = Expr::leaf(Expr::plus(Expr::var(0), Expr::constant(1)));
+    let node = Expr::node(call(1), call(2));
+    alone(tree_valued(0, Expr::case(0, leaf, node)))
+}
+
+/// The line of the answer, and the output of so many bytes, each 9 before.
+fn source<const N: usize>(file: &[u8], input: &[u8], fuel: u64) -> (String, [u8; N]) {
+    let mut output = [9; N];
+    let sourced = hogvax::source(file, input, fuel, &mut output);
+    (sourced.to_string(), output)
+}
+
+/// "Source run: fuel 14 ends, 13 gives 14."
+#[test]
+fn grow_on_t() {
+    let grown = [2, 1, 6, 0, 0, 0, 1, 8, 0, 0, 0, 9];
+    let line = "ended begun 14 written 11 number 0".to_owned();
+    assert_eq!(source(&grow(), &T, 14), (line, grown));
+    for fuel in 0..14 {
+        let line = format!("refused 14 0 begun {fuel} written 0 number 0");
+        assert_eq!(source(&grow(), &T, fuel), (line, [9; 12]));
+    }
+    let line = "refused 17 0 begun 14 written 0 number 0".to_owned();
+    assert_eq!(source(&grow(), &T, 14), (line, [9; 10]));
+}
+
+/// "Case 0, Leaf, Var 0, Node, Call 0 on 2, Call 0 on 1: 11 at record 6. Its
+/// source run on T gives labels 7, 5."
+#[test]
+fn right_tree_first() {
+    let leaf = Expr::leaf(Expr::var(0));
+    let swap = alone(tree_valued(
+        0,
+        Expr::case(0, leaf, Expr::node(call(2), call(1))),
+    ));
+    let refused = hogvax::check(&swap).unwrap_err();
+    assert_eq!(refused.to_string(), "refused 11 6");
+    let swapped = [2, 1, 7, 0, 0, 0, 1, 5, 0, 0, 0];
+    let line = "ended begun 10 written 11 number 0".to_owned();
+    assert_eq!(source(&swap, &T, 10), (line, swapped));
+}
+
+/// "Case 0, Const 1, Call 0 on 1 (number): 11 at record 2."
+#[test]
+fn a_tree_left_unread() {
+    let body = Expr::case(0, Expr::constant(1), call(1));
+    let line = "ended begun 4 written 0 number 1".to_owned();
+    let unread = alone(number_valued(0, body));
+    assert_eq!(source(&unread, &T, 4), (line, [9; 1]));
+}
+
+/// "Call 0 on 0 passes; fuel 1,023 gives 14, 1,024 gives 18."
+#[test]
+fn call_0_on_0() {
+    for endless in [number_valued(0, call(0)), tree_valued(0, call(0))] {
+        let endless = alone(endless);
+        let line = "refused 14 0 begun 1023 written 0 number 0".to_owned();
+        assert_eq!(source(&endless, &T, 1_023), (line, [9; 1]));
+        let line = "refused 18 0 begun 1024 written 0 number 0".to_owned();
+        assert_eq!(source(&endless, &T, 1_024), (line.clone(), [9; 1]));
+        assert_eq!(source(&endless, &T, u64::MAX), (line, []));
+    }
+}
+
+/// "Sum (Case 0, Var 0, Add, Call 0 on 1, Call 0 on 2) of leaves 2147483647
+/// and 1: −2147483648."
+#[test]
+fn sum_is_modulo_2_to_the_32() {
+    let body = Expr::case(0, Expr::var(0), Expr::plus(call(1), call(2)));
+    let sum = alone(number_valued(0, body));
+    let input = [2, 1, 0xff, 0xff, 0xff, 0x7f, 1, 1, 0, 0, 0];
+    let line = "ended begun 8 written 0 number -2147483648".to_owned();
+    assert_eq!(source(&sum, &input, 8), (line, [9; 3]));
+}
+
+/// Place 3 is the number's sign extension.
+#[test]
+fn the_number_is_sign_extended() {
+    let mut lent = Lent::new();
+    let mut seen = [0; 2];
+    for known in known::all() {
+        let number = known.answer.number;
+        let word = lent.source_into(&known.case).places[3];
+        assert_eq!(word as i64, i64::from(number), "{}", known.name);
+        assert_eq!(word >> 63 == 1, number < 0, "{}", known.name);
+        seen[usize::from(number < 0)] += 1;
+    }
+    assert!(seen.iter().all(|&count| count > 0), "{seen:?}");
+}

@@ -31,7 +31,13 @@ use Rattle.translation.specs.Calls.{Called, prepared, refusedBefore, runFile}
 use Rattle.translation.proofs.Calls.{this-call}
 use Rattle.runner.proofs.Laws.{is-run, run-inside}
 use Rattle.runner.proofs.Laws.{not-run as runner-not-run}
+use Rattle.meaning.specs.SourceRun.{SourceRan}
+use Rattle.source.specs.declared.SourceAnswer.{SourceAnswer}
+use Rattle.source.specs.Answers.{answered as sourceAnswered, Sourced}
+use Rattle.source_answers.specs.SourcePlaces.{sourcePlaces, Answers as SourceAnswers}
+use Rattle.source_answers.proofs.Laws.{source-too-few}
 use Rattle.hogvax_c.specs.Runs.{Runs}
+use Rattle.hogvax_c.specs.RunsSource.{RunsSource}
 use Rattle.hogvax_c.specs.RunsFile.{RunsFile}
 
 -- ---- the tree reader
@@ -95,6 +101,40 @@ module _ (due : Ran) (output values returns before : List ℕ) (r : ℕ) (room :
       }
 
 pub ruleset run-ways = (not-run, run-told)
+
+-- ---- the source run
+
+module _ (due : SourceRan) (output values returns before : List ℕ) (r : ℕ) (room : Bool) (test : room ≡ leb sourcePlaces (length before)) where
+  -- too few places: nothing is run
+  pub source-not-run : not room ≡ true → r ≡ spaceTooShort → RunsSource due output output values values returns returns before before r
+  source-not-run u e =
+      let h = leb-false sourcePlaces (length before) (sym test ∙ not-true room u) in
+      record {
+        answers = source-too-few (due .answer) before r h e;
+        holds = rw (lt-ltb _ _ h) refl;
+        not-run = λ few. (refl, refl);
+        values-length = refl;
+        returns-length = refl;
+      }
+
+  -- what was run is told
+  pub source-told :
+      (output′ values′ returns′ after : List ℕ) (ran : SourceAnswer)
+      → not room ≡ false
+      → Sourced due output′ values values′ returns returns′ ran
+      → SourceAnswers (sourceAnswered ran) before after r
+      → RunsSource due output output′ values values′ returns returns′ before after r
+  source-told output′ values′ returns′ after ran u p a =
+      let h = leb-true sourcePlaces (length before) (sym test ∙ not-false room u) in
+      record {
+        answers = rw (← (p .answer)) a;
+        holds = rw (le-ltb _ _ h) (p .output);
+        not-run = λ few. absurd (omega arith);
+        values-length = p .values-length;
+        returns-length = p .places-length;
+      }
+
+pub ruleset source-ways = (source-not-run, source-told)
 
 -- ---- the run of a program file
 

@@ -2,3 +2,4 @@
 pub mod Fills
 pub mod Runs
 pub mod RunsFile
+pub mod RunsSource

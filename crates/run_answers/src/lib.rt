@@ -22,7 +22,7 @@ pub fn has_room(answer: &[u64]) -> bool
 }
 
 // The number that a 32-bit word stands for in two's complement, as a 64-bit word: sign-extended.
-fn sign_extended(word: u32) -> u64
+pub fn sign_extended(word: u32) -> u64
     ensures { λ r. ⌜ r ≡ signExtended word ⌝ }
 {
     if word < 2147483648 {

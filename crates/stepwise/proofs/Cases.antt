@@ -23,7 +23,7 @@ use Rattle.meaning.specs.Meaning.{PassesOne}
 use Rattle.meaning.proofs.MeaningCases.{two-leaves}
 use Rattle.stepwise.specs.Rows.{kindNumber, codeOf, roleOf, slotOf, namesIn, keepsIn, casesIn, operandOf, treeOf, moreOf, rowsOf, rowsOfArgs, behindArgs}
 use Rattle.stepwise.specs.Rows.{rowsOfAll, rowWords, rowsIn, tabled}
-use Rattle.stepwise.specs.Steps.{begin}
+use Rattle.stepwise.specs.Steps.{begin, State, deep, beginning, opening}
 use Rattle.stepwise.specs.Comes.{told, toldOf, Comes}
 use Rattle.stepwise.proofs.Whole.{comes}
 
@@ -107,10 +107,27 @@ grow-steps : (table words places : List ℕ)
     → rowWords * 1057 ≤ length table
     → valueWords ≤ length words
     → returnWords ≤ length places
-    → Comes (tabled table grow) five-seven [] (begin 2 (record { words = words; places = places; calls = 0; tree = 0 })) (after 14 (gives (told 0 six-eight)))
+    → Comes (tabled table grow) five-seven [] (begin 2 (record { words = words; places = places; calls = 0; tree = 0; known = 0; end = 0 }))
+    (after 14 (gives (told 0 six-eight)))
 unfolding grow five-seven
 grow-steps table words places room values returns =
     rw grow-told at
     (comes grow five-seven table words places two-leaves grow-one
     (each-byte five-seven (lit< tt, (lit< tt, (lit< tt, (lit< tt, (lit< tt, (lit< tt, (lit< tt, (lit< tt, (lit< tt, (lit< tt, (lit< tt, tt))))))))))))
     five-seven-read room values returns)
+
+-- ---- one step
+
+-- A Call of one argument at record 1, its frame the last that may be open.
+last-frame : State
+last-frame = record { words = []; places = []; calls = 1023; tree = 0; known = 0; end = 0 }
+
+-- its argument begins all the same
+deep-arguments : beginning (0 ∷ 0 ∷ 0 ∷ 0 ∷ 0 ∷ 0 ∷ 0 ∷ 0 ∷ 8 ∷ 5 ∷ 0 ∷ 1 ∷ []) [] 0 1 last-frame ≡ begin 2 last-frame
+unfolding beginning last-frame
+deep-arguments = refl
+
+-- and then the call is one too many
+deep-call : opening (0 ∷ 0 ∷ 0 ∷ 0 ∷ 0 ∷ 0 ∷ 0 ∷ 0 ∷ 8 ∷ 5 ∷ 0 ∷ 1 ∷ []) 0 1 last-frame ≡ deep 1
+unfolding opening last-frame
+deep-call = refl

@@ -7,12 +7,12 @@ use native.Mathlib.Omega.{arith}
 use lib.ListN.{length, getD}
 use Rattle.formats.specs.Numbers.{sum32, numberAt}
 use Rattle.formats.specs.Refusals.{tooManyCalls}
-use Rattle.formats.specs.Tokens.{leaf, leafTag, nodeTag, tokens}
+use Rattle.formats.specs.Tokens.{leaf, leafTag, nodeTag, leafBytes, tokens}
 use Rattle.meaning.specs.OpenCalls.{Outcome, gives, stops, begins, next}
 use Rattle.stepwise.specs.Rows.{whole, kept, added, tested, passed, labelled, followed, lastArgument}
 use Rattle.stepwise.specs.Steps.{State, Turn, begin, through, opens, ended, mostRecords, mostWaiting}
 use Rattle.stepwise.specs.Steps.{kindAt, treeAt, operandAt, moreAt, roleAt, parentAt, slotAt, behindAt}
-use Rattle.stepwise.specs.Steps.{Found, the-own, wordAt, withWord, framed, beginning, closing, rising, weight}
+use Rattle.stepwise.specs.Steps.{Found, the-own, wordAt, withWord, withEnd, framed, beginning, closing, rising, weight}
 use Rattle.stepwise.specs.Comes.{Told, told, Comes, at-begin, at-through, at-open, at-end, at-deep}
 use Rattle.stepwise.proofs.Steps.{begins-const, begins-var, begins-leaf, begins-node, begins-bare, begins-args, begins-first, said-node, said-nothing}
 use Rattle.stepwise.proofs.Steps.{rises-whole, rises-kept, rises-added, rises-zero, rises-other, rises-passed}
@@ -26,13 +26,13 @@ next-next (stops why r) f g = refl
 next-next (begins o) f g = ap begins (next-next o f g)
 
 -- where no tree is named, the frame's own is found
-own : (T input : List ℕ) (r : ℕ) (s : State) → treeAt T r ≡ 0 → Found T input (s .tree) (treeAt T r) (s .tree)
+own : (T input : List ℕ) (r : ℕ) (s : State) → treeAt T r ≡ 0 → Found T input s (treeAt T r) (s .tree)
 own T input r s none = rw none the-own
 
 module _ (T input : List ℕ) {out : List ℕ} {o : Outcome Told} where
   -- ---- a record begins
 
-  module _ (p r : ℕ) (s : State) (low : r < mostRecords) (found : Found T input (s .tree) (treeAt T r) p) where
+  module _ (p r : ℕ) (s : State) (low : r < mostRecords) (found : Found T input s (treeAt T r) p) where
     -- nothing is written, but by a Node
     begin-quiet : (t : Turn) → kindAt T r ≢ 6 → beginning T input p r s ≡ t → Comes T input out t o → Comes T input out (begin r s) (begins o)
     begin-quiet t kind is c = at-begin {out = out} {r = r} {s = s} {o = o} p low found (rw (said-nothing T r kind, append-nil, is) c)
@@ -45,7 +45,7 @@ module _ (T input : List ℕ) {out : List ℕ} {o : Outcome Told} where
         → p < length input
         → getD input p 0 ≡ leafTag
         → numberAt 4 input (suc p) ≡ x
-        → Comes T input out (begin (suc r) (withWord s slot x)) o
+        → Comes T input out (begin (suc r) (withEnd (withWord s slot x) p (p + leafBytes))) o
         → Comes T input out (begin r s) (begins o)
     begin-leaf slot x kind operand within tag label c =
         begin-quiet _ (λ e. absurd (omega arith)) (begins-leaf T input p r s kind within tag) (rw (operand, label) c)
@@ -116,7 +116,7 @@ module _ (T input : List ℕ) {out : List ℕ} {o : Outcome Told} where
 
   module _ (r x : ℕ) (s : State) where
     -- nothing is written, but by a Leaf
-    through-quiet : (t : Turn) → roleAt T r ≢ labelled → rising T r x s ≡ t → weight t < weight (through r x s) → Comes T input out t o
+    through-quiet : (t : Turn) → roleAt T r ≢ labelled → rising T input r x s ≡ t → weight t < weight (through r x s) → Comes T input out t o
         → Comes T input out (through r x s) o
     through-quiet t role is less c =
         at-through {out = out} {r = r} {x = x} {s = s} {o = o} (rw is less) (rw (said-none T r x role, append-nil, is) c)
@@ -127,7 +127,7 @@ module _ (T input : List ℕ) {out : List ℕ} {o : Outcome Told} where
         → Comes T input out (through r x s) o
     unfolding weight
     through-kept slot behind role is then c =
-        through-quiet _ (λ e. absurd (omega arith)) (rises-kept T r x s role) (omega arith) (rw (is, then) c)
+        through-quiet _ (λ e. absurd (omega arith)) (rises-kept T input r x s role) (omega arith) (rw (is, then) c)
 
     -- it is added to the one kept
     pub through-added : (slot parent y : ℕ) → roleAt T r ≡ added → slotAt T r ≡ slot → parentAt T r ≡ parent → parent < r → wordAt s slot ≡ y
@@ -135,29 +135,29 @@ module _ (T input : List ℕ) {out : List ℕ} {o : Outcome Told} where
         → Comes T input out (through r x s) o
     unfolding weight
     through-added slot parent y role is above earlier word c =
-        through-quiet (through parent (sum32 (wordAt s slot) x) s) (λ e. absurd (omega arith)) (rw (← is, ← above) (rises-added T r x s role)) (omega arith)
-        (rw word c)
+        through-quiet (through parent (sum32 (wordAt s slot) x) s) (λ e. absurd (omega arith)) (rw (← is, ← above) (rises-added T input r x s role))
+        (omega arith) (rw word c)
 
     -- a test that is zero, and another
     pub through-zero : (behind : ℕ) → roleAt T r ≡ tested → x ≡ 0 → behindAt T r ≡ behind → Comes T input out (begin behind s) o
         → Comes T input out (through r x s) o
     unfolding weight
     through-zero behind role z then c =
-        through-quiet _ (λ e. absurd (omega arith)) (rises-zero T r x s role z) (omega arith) (rw then c)
+        through-quiet _ (λ e. absurd (omega arith)) (rises-zero T input r x s role z) (omega arith) (rw then c)
 
     pub through-other : (middle behind : ℕ) → roleAt T r ≡ tested → x ≢ 0 → behindAt T r ≡ middle → behindAt T middle ≡ behind
         → Comes T input out (begin behind s) o
         → Comes T input out (through r x s) o
     unfolding weight
     through-other middle behind role some then last c =
-        through-quiet _ (λ e. absurd (omega arith)) (rises-other T r x s role some) (omega arith) (rw (then, last) c)
+        through-quiet _ (λ e. absurd (omega arith)) (rises-other T input r x s role some) (omega arith) (rw (then, last) c)
 
     -- the value is the whole's
     pub through-passed : (parent : ℕ) → roleAt T r ≡ passed → parentAt T r ≡ parent → parent < r → Comes T input out (through parent x s) o
         → Comes T input out (through r x s) o
     unfolding weight
     through-passed parent role above earlier c =
-        through-quiet (through parent x s) (λ e. absurd (omega arith)) (rw (← above) (rises-passed T r x s role)) (omega arith) c
+        through-quiet (through parent x s) (λ e. absurd (omega arith)) (rw (← above) (rises-passed T input r x s role)) (omega arith) c
 
     -- a leaf is written
     pub through-labelled : (parent : ℕ) → roleAt T r ≡ labelled → parentAt T r ≡ parent → parent < r
@@ -165,15 +165,15 @@ module _ (T input : List ℕ) {out : List ℕ} {o : Outcome Told} where
         → Comes T input out (through r x s) o
     unfolding weight
     through-labelled parent role above earlier c =
-        at-through {out = out} {r = r} {x = x} {s = s} {o = o} (rw (rises-labelled T r x s role, above) (omega arith))
-        (rw (said-leaf T r x role, rises-labelled T r x s role, above) c)
+        at-through {out = out} {r = r} {x = x} {s = s} {o = o} (rw (rises-labelled T input r x s role, above) (omega arith))
+        (rw (said-leaf T r x role, rises-labelled T input r x s role, above) c)
 
     -- the next part begins
     pub through-followed : (behind : ℕ) → roleAt T r ≡ followed → behindAt T r ≡ behind → Comes T input out (begin behind s) o
         → Comes T input out (through r x s) o
     unfolding weight
     through-followed behind role then c =
-        through-quiet _ (λ e. absurd (omega arith)) (rises-followed T r x s role) (omega arith) (rw then c)
+        through-quiet _ (λ e. absurd (omega arith)) (rises-followed T input r x s role) (omega arith) (rw then c)
 
     -- the number is put on a word, and the call opens
     pub through-last : (slot parent : ℕ) → roleAt T r ≡ lastArgument → slotAt T r ≡ slot → parentAt T r ≡ parent
@@ -181,17 +181,17 @@ module _ (T input : List ℕ) {out : List ℕ} {o : Outcome Told} where
         → Comes T input out (through r x s) o
     unfolding weight
     through-last slot parent role is above c =
-        through-quiet _ (λ e. absurd (omega arith)) (rises-last T r x s role) (omega arith) (rw (is, above) c)
+        through-quiet _ (λ e. absurd (omega arith)) (rises-last T input r x s role) (omega arith) (rw (is, above) c)
 
     -- a body in the first frame, and in another
     pub through-end : roleAt T r ≡ whole → s .calls ≡ 0 → o ≡ gives (told x out) → Comes T input out (through r x s) o
     unfolding weight
     through-end role first is =
-        through-quiet (ended x) (λ e. absurd (omega arith)) (rises-whole T r x s role ∙ closes-first x s first) (omega arith) (rw is at-end)
+        through-quiet (ended x) (λ e. absurd (omega arith)) (rises-whole T input r x s role ∙ closes-first T input x s first) (omega arith) (rw is at-end)
 
-    pub through-call : (parent : ℕ) (s′ : State) → roleAt T r ≡ whole → closing x s ≡ through parent x s′ → s .calls ≡ suc (s′ .calls) → parent < 65536
+    pub through-call : (parent : ℕ) (s′ : State) → roleAt T r ≡ whole → closing T input x s ≡ through parent x s′ → s .calls ≡ suc (s′ .calls) → parent < 65536
         → Comes T input out (through parent x s′) o
         → Comes T input out (through r x s) o
     unfolding weight
     through-call parent s′ role is fewer low c =
-        through-quiet (through parent x s′) (λ e. absurd (omega arith)) (rises-whole T r x s role ∙ is) (omega (arith, fewer)) c
+        through-quiet (through parent x s′) (λ e. absurd (omega arith)) (rises-whole T input r x s role ∙ is) (omega (arith, fewer)) c

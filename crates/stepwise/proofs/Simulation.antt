@@ -15,7 +15,7 @@ use borrow.Author.Tests.{eqb-true, eqb-false, eq-eqb, ne-eqb}
 use lib.Dec.{eqb}
 use lib.ListN.{length}
 use Rattle.formats.specs.Numbers.{sum32}
-use Rattle.formats.specs.Tokens.{Tree, leaf, node, nodeTag, tokens}
+use Rattle.formats.specs.Tokens.{Tree, leaf, node, nodeTag, leafBytes, tokens}
 use Rattle.formats.specs.Records.{nth, Case, Call}
 use Rattle.formats.specs.Programs.{Expr, const, var, add, ifZero, letIn, leafOf, nodeOf, caseOf, call, Args, noArgs, arg, size, countArgs}
 use Rattle.formats.specs.Programs.{Sort, numberValued, treeValued, Signature, arityOf, Function, signatureOf, Program, signatures}
@@ -33,17 +33,17 @@ use Rattle.meaning.proofs.Proper.{proper-node, proper-case, proper-call, Proper
 use Rattle.meaning.proofs.Sorts.{ValuesOf, valueOf}
 use Rattle.stepwise.specs.Rows.{Place, passed, lastWord, codeOf, partPlace}
 use Rattle.stepwise.specs.Rows.{kindNumber, roleOf, slotOf, namesIn, keepsIn, casesIn, operandOf, treeOf, moreOf}
-use Rattle.stepwise.specs.Steps.{State, Turn, begin, through, opens, frameWords, mostRecords, mostWaiting, wordAt, withWord}
+use Rattle.stepwise.specs.Steps.{State, Turn, begin, through, opens, frameWords, mostRecords, mostWaiting, wordAt, withWord, withEnd}
 use Rattle.stepwise.specs.Steps.{kindAt, operandAt, treeAt, moreAt, roleAt, parentAt, slotAt, Found}
 use Rattle.stepwise.specs.Comes.{Told, Comes}
-use Rattle.stepwise.proofs.Words.{Leaves, leaves-all, leaves-both, leaves-less, leaves-word, word-named, word-kept, word-set, word-other}
+use Rattle.stepwise.proofs.Words.{Leaves, leaves-all, leaves-both, leaves-less, leaves-word, leaves-end, word-named, word-kept, word-set, word-other}
 use Rattle.stepwise.proofs.Moves.{next-next, begin-leaf, begin-node, begin-bare, begin-args, begin-const, begin-var, begin-first, begin-pair}
 use Rattle.stepwise.proofs.Moves.{through-kept, through-added, through-zero, through-other, through-passed}
 use Rattle.stepwise.proofs.Moves.{through-labelled, through-followed, through-last}
 use Rattle.stepwise.proofs.Rows.{Stands, StandArgs, HasRow, own-row}
 use Rattle.stepwise.proofs.Rows.{add-parts, ifZero-parts, let-parts, leaf-part, node-parts, case-parts, call-args, args-first}
 use Rattle.stepwise.proofs.Rows.{size-const, size-var, size-add, size-ifZero, size-let, size-leaf, size-node, size-case, sizeArgs, size-call, size-arg}
-use Rattle.stepwise.proofs.Trees.{Lies, lies-leaf, lies-node, Named, named-later, named-deeper}
+use Rattle.stepwise.proofs.Trees.{Lies, lies-leaf, lies-node, Cached, cached-leaf, Named, named-later, named-deeper, named-own}
 
 -- ---- numbers on words
 
@@ -89,12 +89,14 @@ module _ (program : Program) (T input : List ℕ) (k : ℕ) where
     pub returns : returnWords ≤ length (s .places)
     pub allowed : s .calls + k ≡ mostWaiting
 
-  -- The state agrees with an environment of g numbers and n trees: the numbers are on the frame's first words, the trees are found from record r on.
+  -- The state agrees with an environment of g numbers and n trees: the numbers are on the frame's first words, the trees are found from record r on, and
+  -- what is known of an end is right.
   pub record Agrees (g n : ℕ) (cases : List ℕ) (r : ℕ) (E : Environment) (s : State) : Type 0 where
     pub numbers : length (E .numbers) ≡ g
     pub trees : length (E .trees) ≡ n
     pub held : Holding (wordAt s) (E .numbers)
     pub named : Named T input (s .tree) cases r (E .trees)
+    pub cached : Cached input (s .known) (s .end)
     pub roomy : Roomy s
 
   -- a word of the frame is there
@@ -102,7 +104,7 @@ module _ (program : Program) (T input : List ℕ) (k : ℕ) where
   word-there s slot room h = omega (arith, room .values, room .allowed)
 
   -- room stays
-  roomy-left : {names keeps : ℕ} {s s′ : State} → Leaves names keeps s s′ → Roomy s → Roomy s′
+  roomy-left : {names keeps : ℕ} {s s′ : State} → Leaves input names keeps s s′ → Roomy s → Roomy s′
   roomy-left left room = record {
     values = omega (arith, left .as-many-words, room .values);
     returns = omega (arith, left .as-many-places, room .returns);
@@ -111,12 +113,13 @@ module _ (program : Program) (T input : List ℕ) (k : ℕ) where
 
   module _ {g n : ℕ} {cases : List ℕ} {r : ℕ} {E : Environment} {s : State} (h : Agrees g n cases r E s) where
     -- what leaves the named numbers' words leaves the agreement
-    agrees-left : {keeps : ℕ} {s′ : State} (r′ : ℕ) → r ≤ r′ → Leaves g keeps s s′ → Agrees g n cases r′ E s′
+    agrees-left : {keeps : ℕ} {s′ : State} (r′ : ℕ) → r ≤ r′ → Leaves input g keeps s s′ → Agrees g n cases r′ E s′
     agrees-left {keeps} {s′} r′ later left = record {
       numbers = h .numbers;
       trees = h .trees;
       held = holding-same (wordAt s) (wordAt s′) (E .numbers) (λ a below. word-named g keeps s s′ left a (omega (arith, h .numbers))) (h .held);
       named = rw (left .tree) (named-later later (h .named));
+      cached = left .cached (h .cached);
       roomy = roomy-left left (h .roomy);
     }
 
@@ -129,6 +132,7 @@ module _ (program : Program) (T input : List ℕ) (k : ℕ) where
           trees = h .trees;
           held = holding-more (wordAt (withWord s g x)) x (E .numbers) (rw (h .numbers) (word-set s g x (word-there s g (h .roomy) few))) (less .held);
           named = less .named;
+          cached = less .cached;
           roomy = less .roomy;
         }
 
@@ -144,6 +148,7 @@ module _ (program : Program) (T input : List ℕ) (k : ℕ) where
       trees = ap (λ m. suc (suc m)) (h .trees);
       held = h .held;
       named = named-later later (named-deeper a left right code is (h .named));
+      cached = h .cached;
       roomy = h .roomy;
     }
 
@@ -153,7 +158,7 @@ module _ (program : Program) (T input : List ℕ) (k : ℕ) where
   pub record Follows (sort : Sort) (names keeps r : ℕ) (s : State) (out : List ℕ) (κ : Value → Outcome Told) : Type 0 where
     pub from :
         (v : ValuesOf sort) (s′ : State)
-        → Leaves names keeps s s′
+        → Leaves input names keeps s s′
         → Comes T input (out ++ resultBytes (valueOf sort v)) (through r (resultNumber (valueOf sort v)) s′) (κ (valueOf sort v))
 
   -- Of an expression of a sort under so many names.
@@ -185,7 +190,7 @@ module _ (program : Program) (T input : List ℕ) (k : ℕ) where
         (numbers : List ℕ) (s′ : State)
         → length numbers ≡ count
         → Holding (onWord s′ keeps) numbers
-        → Leaves names keeps s s′
+        → Leaves input names keeps s s′
         → Comes T input out (opens r s′) (κ numbers)
 
   -- Of so many arguments, from part i of the Call at record r on.
@@ -205,12 +210,16 @@ module _ (program : Program) (T input : List ℕ) (k : ℕ) where
       → FollowsArgs (arity b) g (p .keeps) r s out κ
       → Comes T input out (turnOf xs r j s) (next (evaluateArgs (called program k) E j xs before) κ)
 
-  -- A call of f is ready to open: its row names f's first record, its numbers are on their words, its tree lies at a place.
+  -- A call of f is ready to open: its row names f's first record, its numbers are on their words, its tree and its frame's
+  -- own tree lie at their places, and what is known of an end is right.
   pub record Ready (r b : ℕ) (f : Function) (numbers : List ℕ) (t : Tree) (s : State) : Type 0 where
     pub low : r < mostRecords
     pub place : ℕ
-    pub found : Found T input (s .tree) (treeAt T r) place
+    pub found : Found T input s (treeAt T r) place
+    pub own : Tree
+    pub own-lies : Lies input (s .tree) own
     pub lies : Lies input place t
+    pub cached : Cached input (s .known) (s .end)
     pub body : operandAt T r ≡ entry b
     pub count : moreAt T r ≡ f .parameters
     pub many : length numbers ≡ f .parameters
@@ -234,7 +243,7 @@ module _ (program : Program) (T input : List ℕ) (k : ℕ) where
   -- a number writes nothing
   follows-number :
       {names keeps r : ℕ} {s : State} {out : List ℕ} {κ : Value → Outcome Told}
-      → ((i : ℕ) (s′ : State) → Leaves names keeps s s′ → Comes T input out (through r i s′) (κ (number i)))
+      → ((i : ℕ) (s′ : State) → Leaves input names keeps s s′ → Comes T input out (through r i s′) (κ (number i)))
       → Follows numberValued names keeps r s out κ
   unfolding resultBytes resultNumber
   follows-number f = record { from = λ i s′ left. rw append-nil (f i s′ left) }
@@ -242,7 +251,7 @@ module _ (program : Program) (T input : List ℕ) (k : ℕ) where
   number-given :
       {names keeps r : ℕ} {s : State} {out : List ℕ} {κ : Value → Outcome Told}
       → Follows numberValued names keeps r s out κ
-      → (i : ℕ) (s′ : State) → Leaves names keeps s s′ → Comes T input out (through r i s′) (κ (number i))
+      → (i : ℕ) (s′ : State) → Leaves input names keeps s s′ → Comes T input out (through r i s′) (κ (number i))
   unfolding resultBytes resultNumber
   number-given follow i s′ left = rw append-nil at (follow .from i s′ left)
 
@@ -254,7 +263,7 @@ module _ (program : Program) (T input : List ℕ) (k : ℕ) where
       → r < q
       → names ≤ names′
       → keeps ≤ keeps′
-      → Leaves names keeps s s′
+      → Leaves input names keeps s s′
       → Follows sort names keeps r s out κ
       → Follows sort names′ keeps′ q s′ out κ
   follows-passed sort {names} {keeps} {r} {s} q names′ keeps′ s′ role parent earlier fewer less left follow = record {
@@ -313,7 +322,7 @@ module _ (program : Program) (T input : List ℕ) (k : ℕ) where
       (comes-next κ _ _
       (sim-x _ (suc r) w E s (parts .0) (omega arith) names words (omega arith) (agrees-left agrees (suc r) (omega arith) (leaves-all g 0 s)) out _
       (follows-number λ i s₁ left₁.
-      let left₂ : Leaves g (p .keeps) s₁ (withWord s₁ slot i) = leaves-word g (p .keeps) s₁ slot i (omega arith) (omega arith) in
+      let left₂ : Leaves input g (p .keeps) s₁ (withWord s₁ slot i) = leaves-word g (p .keeps) s₁ slot i (omega arith) (omega arith) in
       let both = leaves-both g (p .keeps) s s₁ (withWord s₁ slot i) left₁ left₂ in
       through-kept T input (suc r) i s₁ slot (suc r + size x) (row-x .role) (row-x .slot) (row-x .behind)
       (comes-next κ _ _
@@ -340,7 +349,7 @@ module _ (program : Program) (T input : List ℕ) (k : ℕ) where
       let long = size-ifZero t z o in
       let picks :
       (i : ℕ) (s₁ : State)
-      → Leaves g (p .keeps) s s₁
+      → Leaves input g (p .keeps) s s₁
       → Comes T input out (through (suc r) i s₁)
       (next
       (elim i [
@@ -380,7 +389,7 @@ module _ (program : Program) (T input : List ℕ) (k : ℕ) where
       (comes-next κ _ _
       (sim-x _ (suc r) w E s (parts .0) (omega arith) names words (omega arith) (agrees-left agrees (suc r) (omega arith) (leaves-all g 0 s)) out _
       (follows-number λ i s₁ left₁.
-      let left₂ : Leaves g (p .keeps) s₁ (withWord s₁ g i) = leaves-word g (p .keeps) s₁ g i (le-refl g) (omega arith) in
+      let left₂ : Leaves input g (p .keeps) s₁ (withWord s₁ g i) = leaves-word g (p .keeps) s₁ g i (le-refl g) (omega arith) in
       through-kept T input (suc r) i s₁ g (suc r + size x) (row-x .role) (row-x .slot ∙ names) (row-x .behind)
       (sim-body _ (suc r + size x) (suc w) (withNumber i E) (withWord s₁ g i) (parts .1) (omega arith) (ap suc names) (omega arith) (omega arith)
       (agrees-number (agrees-left agrees (suc r + size x) (omega arith) left₁) i (suc r + size x) (le-refl _) (omega arith)) out κ
@@ -457,22 +466,27 @@ module _ (program : Program) (T input : List ℕ) (k : ℕ) where
           let there = lies-leaf (looked .lies) in
           let long = size-case x y a in
           let least = words-least gs (suc w) x in
+          let s₁ : State = withWord s g i in
+          let s₂ : State = withEnd s₁ (looked .place) (looked .place + leafBytes) in
+          let end-known : Leaves input (suc g) (p .keeps) s₁ s₂ = leaves-end _ _ s₁ _ _ (λ before. cached-leaf (looked .lies)) in
+          let both : Leaves input g (p .keeps) s s₂ =
+          leaves-both g (p .keeps) s s₁ s₂ (leaves-word g (p .keeps) s g i (le-refl g) (omega arith))
+          (leaves-less g (p .keeps) (suc g) (p .keeps) s₁ s₂ (omega arith) (le-refl _) end-known) in
           rw is
           (comes-begun κ _
-          (begin-leaf T input (looked .place) r s (omega arith) (rw (row .tree) (looked .found)) g i (row .kind) (row .operand ∙ names)
+          (begin-leaf T input (looked .place) r s (omega arith) (rw (row .tree) (looked .found s refl (agrees .cached))) g i (row .kind) (row .operand ∙ names)
           (there .within) (there .tag) (there .label)
-          (sim-x _ (suc r) (suc w) (withNumber i E) (withWord s g i) (parts .0) (omega arith) (ap suc names) (omega arith) (omega arith)
-          (agrees-number agrees i (suc r) (omega arith) (omega arith)) out κ
-          (follows-passed sort (suc r) (suc g) (p .keeps) (withWord s g i) (row-x .role) (row-x .parent) (omega arith) (omega arith) (le-refl _)
-          (leaves-word g (p .keeps) s g i (le-refl g) (omega arith)) follow))))
+          (sim-x _ (suc r) (suc w) (withNumber i E) s₂ (parts .0) (omega arith) (ap suc names) (omega arith) (omega arith)
+          (agrees-left (agrees-number agrees i (suc r) (omega arith) (omega arith)) (suc r) (le-refl _) end-known) out κ
+          (follows-passed sort (suc r) (suc g) (p .keeps) s₂ (row-x .role) (row-x .parent) (omega arith) (omega arith) (le-refl _) both follow))))
       on-tree (node l u) is =
           let looked = agrees .named .each a (node l u) is in
           let there = lies-node (looked .lies) in
           let long = size-case x y a in
           rw is
           (comes-begun κ _
-          (begin-node T input (looked .place) r s (omega arith) (rw (row .tree) (looked .found)) (suc r + size x) (row .kind) (there .0) (there .1)
-          (row-x .behind)
+          (begin-node T input (looked .place) r s (omega arith) (rw (row .tree) (looked .found s refl (agrees .cached))) (suc r + size x) (row .kind)
+          (there .0) (there .1) (row-x .behind)
           (sim-y _ (suc r + size x) w (withTrees l u E) s (parts .1) (omega arith) names words (omega arith)
           (agrees-trees agrees a l u (suc r + size x) (omega arith) (row .tree) is) out κ
           (follows-passed sort (suc r + size x) g (p .keeps) s (row-y .role) (row-y .parent) (omega arith) (le-refl _) (le-refl _)
@@ -514,8 +528,8 @@ module _ (program : Program) (T input : List ℕ) (k : ℕ) where
       (sim-x _ j w E s (parts .0) (omega arith) names words (omega arith) agrees out _
       (follows-number λ v s₁ left₁.
       let s₂ : State = withWord s₁ slot v in
-      let left₂ : Leaves g (p .keeps) s₁ s₂ = leaves-word g (p .keeps) s₁ slot v (omega arith) (omega arith) in
-      let both : Leaves g (p .keeps) s s₂ =
+      let left₂ : Leaves input g (p .keeps) s₁ s₂ = leaves-word g (p .keeps) s₁ slot v (omega arith) (omega arith) in
+      let both : Leaves input g (p .keeps) s s₂ =
       leaves-both g (p .keeps) s s₁ s₂ (leaves-less g (p .keeps) g (p .keeps + i) s s₁ (le-refl g) (omega arith) left₁) left₂ in
       let earlier : (c : ℕ) → c < length before → onWord s₂ (p .keeps) c ≡ onWord s (p .keeps) c =
       λ c below.
@@ -540,7 +554,7 @@ module _ (program : Program) (T input : List ℕ) (k : ℕ) where
   call-begins :
       {out : List ℕ} {o : Outcome Told} (place r : ℕ) (xs : Args) (s : State)
       → r < mostRecords
-      → Found T input (s .tree) (treeAt T r) place
+      → Found T input s (treeAt T r) place
       → kindAt T r ≡ 8
       → moreAt T r ≡ countArgs xs
       → Comes T input out (turnOf xs r (suc r) s) o
@@ -575,11 +589,13 @@ module _ (program : Program) (T input : List ℕ) (k : ℕ) where
       let its : arity b ≡ f .parameters = arity-known b f known in
       let named = level-found (E .trees) a (omega (arith, agrees .trees)) in
       let looked = agrees .named .each a (named .entry) (named .is) in
-      let found : Found T input (s .tree) (treeAt T r) (looked .place) = rw (row .tree) (looked .found) in
+      let found : (s′ : State) → s′ .tree ≡ s .tree → Cached input (s′ .known) (s′ .end) → Found T input s′ (treeAt T r) (looked .place) =
+      λ s′ same cached. rw (row .tree) (looked .found s′ same cached) in
+      let its-own = level-found (E .trees) 0 (omega (arith, agrees .trees)) in
       let slots : 0 < f .parameters → slotAt T (suc r) ≡ lastWord - (p .keeps + 0) = λ some-there. first-slot p a b r xs (omega arith) args in
       rw (named .is)
       (comes-begun κ _
-      (call-begins (looked .place) r xs s (omega arith) found (row .kind) (row .more ∙ its ∙ sym counted)
+      (call-begins (looked .place) r xs s (omega arith) (found s refl (agrees .cached)) (row .kind) (row .more ∙ its ∙ sym counted)
       (comes-next κ _ _
       (sim-xs p a b r 0 (suc r) w E s [] args (omega arith) names (omega arith) (omega arith) (omega arith) refl (record { each = λ c i e. none-there c i e })
       (agrees-left agrees (suc r) (omega arith) (leaves-all g 0 s)) out _
@@ -589,8 +605,11 @@ module _ (program : Program) (T input : List ℕ) (k : ℕ) where
             (record {
               low = omega arith;
               place = looked .place;
-              found = rw (left .tree) found;
+              found = found s′ (left .tree) (left .cached (agrees .cached));
+              own = its-own .entry;
+              own-lies = rw (left .tree) (named-own s (agrees .cached) (agrees .named) (its-own .is));
               lies = looked .lies;
+              cached = left .cached (agrees .cached);
               body = row .operand;
               count = row .more ∙ its;
               many = many ∙ its;

@@ -8,10 +8,11 @@ use borrow.Author.Tests.{eq-eqb, ne-eqb, le-leb, lt-leb, lt-ltb, le-ltb}
 use lib.Dec.{eqb}
 use lib.ListN.{length, getD}
 use Rattle.formats.specs.Numbers.{sum32, numberAt}
-use Rattle.formats.specs.Tokens.{leaf, leafTag, nodeTag, tokens}
+use Rattle.formats.specs.Tokens.{leaf, leafTag, nodeTag, leafBytes, tokens}
 use Rattle.stepwise.specs.Rows.{whole, kept, added, tested, passed, labelled, followed, lastArgument}
 use Rattle.stepwise.specs.Steps.{State, begin, through, opens, ended, deep, stuck, kindAt, operandAt, moreAt, roleAt, parentAt, slotAt, behindAt}
-use Rattle.stepwise.specs.Steps.{wordAt, withWord, framed, mostWaiting, looking, beginning, saidFirst, closing, following, rising, saidLast, opening}
+use Rattle.stepwise.specs.Steps.{wordAt, withWord, withEnd, framed, mostWaiting, looking, beginning, saidFirst, knownAfter, closing, following, rising}
+use Rattle.stepwise.specs.Steps.{saidLast, opening}
 
 -- a number that is this one is no other
 pub off : (k m n : ℕ) → k ≡ m → eqb m n ≡ false → eqb k n ≡ false
@@ -34,7 +35,7 @@ module _ (T input : List ℕ) (p r : ℕ) (s : State) where
   begins-case k = simp (beginning, off _ 7 0 k refl, off _ 7 1 k refl, eq-eqb _ _ k)
 
   pub looks-leaf : p < length input → getD input p 0 ≡ leafTag
-      → looking T input p r s ≡ begin (suc r) (withWord s (operandAt T r) (numberAt 4 input (suc p)))
+      → looking T input p r s ≡ begin (suc r) (withEnd (withWord s (operandAt T r) (numberAt 4 input (suc p))) p (p + leafBytes))
   unfolding looking
   looks-leaf there tag = simp (looking, lt-ltb _ _ there, eq-eqb _ _ tag)
 
@@ -47,7 +48,7 @@ module _ (T input : List ℕ) (p r : ℕ) (s : State) where
   looks-past past = simp (looking, le-ltb _ _ past)
 
   pub begins-leaf : kindAt T r ≡ 7 → p < length input → getD input p 0 ≡ leafTag
-      → beginning T input p r s ≡ begin (suc r) (withWord s (operandAt T r) (numberAt 4 input (suc p)))
+      → beginning T input p r s ≡ begin (suc r) (withEnd (withWord s (operandAt T r) (numberAt 4 input (suc p))) p (p + leafBytes))
   begins-leaf k there tag = rw (begins-case k) (looks-leaf there tag)
 
   pub begins-node : kindAt T r ≡ 7 → p < length input → getD input p 0 ≢ leafTag → beginning T input p r s ≡ begin (behindAt T (suc r)) s
@@ -78,31 +79,6 @@ said-nothing T r k = simp (saidFirst, ne-eqb _ _ k)
 -- ---- a record is through
 
 module _ (T : List ℕ) (r x : ℕ) (s : State) where
-  pub rises-whole : roleAt T r ≡ whole → rising T r x s ≡ closing x s
-  unfolding rising
-  rises-whole k = simp (rising, eq-eqb _ _ k)
-
-  pub rises-kept : roleAt T r ≡ kept → rising T r x s ≡ begin (behindAt T r) (withWord s (slotAt T r) x)
-  unfolding rising
-  rises-kept k = simp (rising, off _ 1 0 k refl, eq-eqb _ _ k)
-
-  pub rises-added : roleAt T r ≡ added → rising T r x s ≡ through (parentAt T r) (sum32 (wordAt s (slotAt T r)) x) s
-  unfolding rising
-  rises-added k = simp (rising, off _ 2 0 k refl, off _ 2 1 k refl, eq-eqb _ _ k)
-
-  pub rises-zero : roleAt T r ≡ tested → x ≡ 0 → rising T r x s ≡ begin (behindAt T r) s
-  unfolding rising
-  rises-zero k z = simp (rising, off _ 3 0 k refl, off _ 3 1 k refl, off _ 3 2 k refl, eq-eqb _ _ k, eq-eqb _ _ z)
-
-  pub rises-other : roleAt T r ≡ tested → x ≢ 0 → rising T r x s ≡ begin (behindAt T (behindAt T r)) s
-  unfolding rising
-  rises-other k o = simp (rising, off _ 3 0 k refl, off _ 3 1 k refl, off _ 3 2 k refl, eq-eqb _ _ k, ne-eqb _ _ o)
-
-  -- what a part is that is none of these
-  pub rises-on : roleAt T r ≢ whole → roleAt T r ≢ kept → roleAt T r ≢ added → roleAt T r ≢ tested → rising T r x s ≡ following T r x s
-  unfolding rising
-  rises-on a b c d = simp (rising, ne-eqb _ _ a, ne-eqb _ _ b, ne-eqb _ _ c, ne-eqb _ _ d)
-
   pub follows-passed : roleAt T r ≡ passed → following T r x s ≡ through (parentAt T r) x s
   unfolding following
   follows-passed k = simp (following, eq-eqb _ _ k)
@@ -120,35 +96,68 @@ module _ (T : List ℕ) (r x : ℕ) (s : State) where
   unfolding following
   follows-last a b c = simp (following, ne-eqb _ _ a, ne-eqb _ _ b, ne-eqb _ _ c)
 
+module _ (T input : List ℕ) (r x : ℕ) (s : State) where
+  pub rises-whole : roleAt T r ≡ whole → rising T input r x s ≡ closing T input x s
+  unfolding rising
+  rises-whole k = simp (rising, eq-eqb _ _ k)
+
+  pub rises-kept : roleAt T r ≡ kept → rising T input r x s ≡ begin (behindAt T r) (withWord s (slotAt T r) x)
+  unfolding rising
+  rises-kept k = simp (rising, off _ 1 0 k refl, eq-eqb _ _ k)
+
+  pub rises-added : roleAt T r ≡ added → rising T input r x s ≡ through (parentAt T r) (sum32 (wordAt s (slotAt T r)) x) s
+  unfolding rising
+  rises-added k = simp (rising, off _ 2 0 k refl, off _ 2 1 k refl, eq-eqb _ _ k)
+
+  pub rises-zero : roleAt T r ≡ tested → x ≡ 0 → rising T input r x s ≡ begin (behindAt T r) s
+  unfolding rising
+  rises-zero k z = simp (rising, off _ 3 0 k refl, off _ 3 1 k refl, off _ 3 2 k refl, eq-eqb _ _ k, eq-eqb _ _ z)
+
+  pub rises-other : roleAt T r ≡ tested → x ≢ 0 → rising T input r x s ≡ begin (behindAt T (behindAt T r)) s
+  unfolding rising
+  rises-other k o = simp (rising, off _ 3 0 k refl, off _ 3 1 k refl, off _ 3 2 k refl, eq-eqb _ _ k, ne-eqb _ _ o)
+
+  -- what a part is that is none of these
+  pub rises-on : roleAt T r ≢ whole → roleAt T r ≢ kept → roleAt T r ≢ added → roleAt T r ≢ tested → rising T input r x s ≡ following T r x s
+  unfolding rising
+  rises-on a b c d = simp (rising, ne-eqb _ _ a, ne-eqb _ _ b, ne-eqb _ _ c, ne-eqb _ _ d)
+
   -- a role of four or more
-  late : (k : ℕ) → roleAt T r ≡ k → eqb k 0 ≡ false → eqb k 1 ≡ false → eqb k 2 ≡ false → eqb k 3 ≡ false → rising T r x s ≡ following T r x s
+  late : (k : ℕ) → roleAt T r ≡ k → eqb k 0 ≡ false → eqb k 1 ≡ false → eqb k 2 ≡ false → eqb k 3 ≡ false → rising T input r x s ≡ following T r x s
   unfolding rising
   late k e a b c d = simp (rising, off _ k 0 e a, off _ k 1 e b, off _ k 2 e c, off _ k 3 e d)
 
-  pub rises-passed : roleAt T r ≡ passed → rising T r x s ≡ through (parentAt T r) x s
-  rises-passed k = late 4 k refl refl refl refl ∙ follows-passed k
+  pub rises-passed : roleAt T r ≡ passed → rising T input r x s ≡ through (parentAt T r) x s
+  rises-passed k = late 4 k refl refl refl refl ∙ follows-passed T r x s k
 
-  pub rises-labelled : roleAt T r ≡ labelled → rising T r x s ≡ through (parentAt T r) 0 s
-  rises-labelled k = late 5 k refl refl refl refl ∙ follows-labelled k
+  pub rises-labelled : roleAt T r ≡ labelled → rising T input r x s ≡ through (parentAt T r) 0 s
+  rises-labelled k = late 5 k refl refl refl refl ∙ follows-labelled T r x s k
 
-  pub rises-followed : roleAt T r ≡ followed → rising T r x s ≡ begin (behindAt T r) s
-  rises-followed k = late 6 k refl refl refl refl ∙ follows-followed k
+  pub rises-followed : roleAt T r ≡ followed → rising T input r x s ≡ begin (behindAt T r) s
+  rises-followed k = late 6 k refl refl refl refl ∙ follows-followed T r x s k
 
-  pub rises-last : roleAt T r ≡ lastArgument → rising T r x s ≡ opens (parentAt T r) (withWord s (slotAt T r) x)
+  pub rises-last : roleAt T r ≡ lastArgument → rising T input r x s ≡ opens (parentAt T r) (withWord s (slotAt T r) x)
   unfolding following
   rises-last k = late 7 k refl refl refl refl ∙ simp (following, off _ 7 4 k refl, off _ 7 5 k refl, off _ 7 6 k refl)
 
 -- a call closes
-pub closes-first : (x : ℕ) (s : State) → s .calls ≡ 0 → closing x s ≡ ended x
+pub closes-first : (T input : List ℕ) (x : ℕ) (s : State) → s .calls ≡ 0 → closing T input x s ≡ ended x
 unfolding closing
-closes-first x s k = simp (closing, k)
+closes-first T input x s k = simp (closing, k)
 
-pub closes-waiting : (x n : ℕ) (s : State) → s .calls ≡ suc n
-    → closing x s
+pub closes-waiting : (T input : List ℕ) (x n : ℕ) (s : State) → s .calls ≡ suc n
+    → closing T input x s
     ≡ through (getD (s .places) (2 * n) 0 % 65536) x
-    (record { words = s .words; places = s .places; calls = n; tree = getD (s .places) (suc (2 * n)) 0 })
+    (record {
+      words = s .words;
+      places = s .places;
+      calls = n;
+      tree = getD (s .places) (suc (2 * n)) 0;
+      known = knownAfter T input (getD (s .places) (2 * n) 0 % 65536) (getD (s .places) (suc (2 * n)) 0) s;
+      end = s .end;
+    })
 unfolding closing
-closes-waiting x n s k = simp (closing, k)
+closes-waiting T input x n s k = simp (closing, k)
 
 -- what is written
 pub said-leaf : (T : List ℕ) (r x : ℕ) → roleAt T r ≡ labelled → saidLast T r x ≡ tokens (leaf x)

@@ -1,30 +1,31 @@
--- Trees that lie in the input, and those named at a record, each with its code and its place.
-use Prim.Native.Nat.{ℕ, zero, suc, _+_, _*_, _/_, _%_, _≤_, _<_, zero-le}
-use mathlib.Core.Bool.{Bool, true, false}
+-- Trees that lie in the input, one whose end is known, and those named at a record, each with its code and its place.
+use Prim.Native.Nat.{ℕ, zero, suc, _+_, _-_, _*_, _/_, _%_, _≤_, _<_, zero-le}
+use mathlib.Core.Bool.{Bool, true, false, _&&_}
 use mathlib.Core.List.{List, [], _∷_, _++_}
 use mathlib.Core.Logic.{_≢_}
 use mathlib.Core.Option.{some, Option·some-injective}
-use mathlib.Core.Path.{_≡_, refl, sym, ap, _∙_}
+use mathlib.Core.Path.{_≡_, refl, sym, ap, subst, _∙_}
 use native.Mathlib.Nat.{add-zero, zero-add}
 use native.Mathlib.Omega.{arith}
-use lib.Dec.{eqb}
-use borrow.Author.Tests.{eqb-true, eqb-false}
+use lib.Dec.{eqb, ltb}
+use borrow.Author.Tests.{eqb-true, eqb-false, ltb-true}
 use lib.ListN.{length, getD, take, drop, length-append, take-append-drop, List·getD-append}
 use lib.Seq.{getD-at}
 use Rattle.formats.specs.Numbers.{Bytes, bytesOf, numberOf, numberAt}
 use Rattle.formats.specs.Places.{one-more}
 use Rattle.formats.specs.Places.{Lies as BytesLie}
 use Rattle.formats.specs.Results.{done}
-use Rattle.formats.specs.Tokens.{Tree, leaf, node, Labelled, depth, leafTag, nodeTag, labelBytes, tokens, mostDepth, firstTree, firstEnd, endFrom}
+use Rattle.formats.specs.Tokens.{Tree, leaf, node, Labelled, depth, leafTag, nodeTag, labelBytes, leafBytes, tokens, mostDepth, firstTree, firstEnd, endFrom}
 use Rattle.formats.proofs.Numbers.{length-bytesOf, number-bytesOf, numberAt-whole}
 use Rattle.formats.proofs.Places.{lies-part, lies-within}
 use Rattle.formats.proofs.Places.{lies-left as bytes-left, lies-right as bytes-right}
 use Rattle.formats.proofs.Reader.{tree-reader}
+use Rattle.formats.proofs.Results.{done-injective, both-held}
 use Rattle.formats.proofs.Tokens.{stands}
 use Rattle.meaning.specs.Levels.{atLevel}
 use Rattle.meaning.proofs.Levels.{level-newest, level-older, level-below}
 use Rattle.stepwise.specs.Rows.{codeOf}
-use Rattle.stepwise.specs.Steps.{treeAt, Found, the-own, the-left, the-right}
+use Rattle.stepwise.specs.Steps.{State, treeAt, Found, the-own, the-left, the-right, the-known, onRight, knownAfter}
 
 -- ---- trees in the input
 
@@ -91,18 +92,9 @@ end-found {input} {p} {t} h =
     ap (endFrom 0) taken ∙ ap done (zero-add n)
 
 -- the right tree is behind the left one
-pub record RightThere (input : List ℕ) (p : ℕ) (r : Tree) : Type 0 where
-  pub behind : ℕ
-  pub end : firstEnd (drop (suc p) input) ≡ done behind
-  pub lies : Lies input (suc p + behind) r
-
-pub lies-right : {input : List ℕ} {p : ℕ} {l r : Tree} → Lies input p (node l r) → RightThere input p r
+lies-right : {input : List ℕ} {p : ℕ} {l r : Tree} → Lies input p (node l r) → Lies input (suc p + length (tokens l)) r
 lies-right {l = l} {r = r} h =
-    record {
-      behind = length (tokens l);
-      end = end-found (lies-left h);
-      lies = record { there = node-there (h .there) .right; labelled = h .labelled .1; shallow = node-shallow l r (h .shallow) .1 };
-    }
+    record { there = node-there (h .there) .right; labelled = h .labelled .1; shallow = node-shallow l r (h .shallow) .1 }
 
 -- the first tree of the input lies at its beginning
 pub lies-first : (input : List ℕ) (t : Tree) → Bytes input → firstTree input ≡ done t → Lies input 0 t
@@ -111,12 +103,48 @@ lies-first input t bytes e =
     let h = stands mostDepth input 0 t bytes e in
     record { there = h .lies; labelled = h .labelled; shallow = h .shallow }
 
+-- ---- a tree whose end is known
+
+-- a tree lies from place p up to `end`
+pub record Spans (input : List ℕ) (p end : ℕ) : Type 0 where
+  pub spanning : Tree
+  pub lies : Lies input p spanning
+  pub ends : end ≡ p + length (tokens spanning)
+
+-- what a state knows of an end is right: a tree lies from `known` up to `end`, if there is one
+pub record Cached (input : List ℕ) (known end : ℕ) : Type 0 where
+  pub spans : known ≢ 0 → Spans input known end
+
+-- at first there is none
+pub cached-none : (input : List ℕ) (end : ℕ) → Cached input 0 end
+cached-none input end = record { spans = λ some-there. absurd (some-there refl) }
+
+-- a tree's bytes
+length-leaf : (x : ℕ) → length (tokens (leaf x)) ≡ leafBytes
+unfolding tokens
+length-leaf x = ap suc (length-bytesOf labelBytes x)
+
+length-node : (l r : Tree) → length (tokens (node l r)) ≡ suc (length (tokens l) + length (tokens r))
+unfolding tokens
+length-node l r = ap suc (length-append (tokens l) (tokens r))
+
+-- at a leaf its end is known
+pub cached-leaf : {input : List ℕ} {p x : ℕ} → Lies input p (leaf x) → Cached input p (p + leafBytes)
+cached-leaf {p = p} {x = x} h =
+    record { spans = λ some-there. record { spanning = leaf x; lies = h; ends = ap (λ (n : ℕ). p + n) (sym (length-leaf x)) } }
+
+-- the end that is known of a tree that lies there is its end
+known-end : {input : List ℕ} {known end p : ℕ} {t : Tree} → Cached input known end → Lies input p t → p ≡ known → p ≢ 0 → end ≡ p + length (tokens t)
+known-end {input} {known} {end} {p} {t} cached h same some-there =
+    let s : Spans input p end = subst (λ (k : ℕ). Cached input k end) (sym same) cached .spans some-there in
+    s .ends ∙ ap (λ (n : ℕ). p + n) (done-injective (sym (end-found (s .lies)) ∙ end-found h))
+
 -- ---- named trees
 
--- the tree of a code, in a frame whose own tree is at `own`, named at record r
+-- the tree of a code, named at record r: found in every state whose frame's own tree is at `own`
 pub record At (T input : List ℕ) (own r code : ℕ) (t : Tree) : Type 0 where
   pub place : ℕ
-  pub found : Found T input own code place
+  pub found : (s : State) → s .tree ≡ own → Cached input (s .known) (s .end) → Found T input s code place
   pub lies : Lies input place t
   pub small : code ≤ 2 * r
 
@@ -156,7 +184,7 @@ named-first {T} {input} {own} {r} {t} h =
     record {
       many = refl;
       each = by-level (λ a u. At T input own r (codeOf [] a) u) t []
-          (rw (code-own []) (record { place = own; found = the-own; lies = h; small = zero-le }))
+          (rw (code-own []) (record { place = own; found = λ s same cached. rw (← same) the-own; lies = h; small = zero-le }))
           (λ a u e. absurd (none a u e));
     }
   where
@@ -187,6 +215,25 @@ module _ (cases : List ℕ) (r : ℕ) where
       let inside : j / 2 < length cases = omega arith in
       rw (List·getD-append cases (r ∷ []) 0 (j / 2) inside)
 
+-- the right tree of the node that the Case at record c looks at is found, whether or not the left tree's end is known
+found-right : {T input : List ℕ} {s : State} {p : ℕ} {l r : Tree} (c : ℕ)
+    → Lies input p (node l r)
+    → treeAt T c < suc (2 * c)
+    → Cached input (s .known) (s .end)
+    → Found T input s (treeAt T c) p
+    → Found T input s (suc (suc (2 * c))) (suc p + length (tokens l))
+found-right {T} {input} {s} {p} {l} c lies small cached found = by-test (eqb (suc p) (s .known)) refl
+  where
+    within : p < length input
+    within = lies-node lies .0
+
+    by-test : (b : Bool) → eqb (suc p) (s .known) ≡ b → Found T input s (suc (suc (2 * c))) (suc p + length (tokens l))
+    by-test true e =
+        let same : suc p ≡ s .known = eqb-true (suc p) (s .known) e in
+        subst (λ (q : ℕ). Found T input s (suc (suc (2 * c))) q) (known-end cached (lies-left lies) same (λ z. absurd (omega arith)))
+        (the-known c p small within found same)
+    by-test false e = the-right c p (length (tokens l)) small within found (eqb-false (suc p) (s .known) e) (end-found (lies-left lies))
+
 -- in the node part of the Case at record r, which looks at the tree of name a, its left and its right tree are named
 pub named-deeper : {T input : List ℕ} {own : ℕ} {cases : List ℕ} {r : ℕ} {trees : List Tree} (a : ℕ) (left right : Tree)
     → treeAt T r ≡ codeOf cases a → atLevel trees a ≡ some (node left right) → Named T input own cases r trees
@@ -208,8 +255,8 @@ named-deeper {T} {input} {own} {cases} {r} {trees} a left right code e n =
     looked : At T input own r (codeOf cases a) (node left right)
     looked = n .each a (node left right) e
 
-    found : Found T input own (treeAt T r) (looked .place)
-    found = rw code (looked .found)
+    found : (s : State) → s .tree ≡ own → Cached input (s .known) (s .end) → Found T input s (treeAt T r) (looked .place)
+    found s same cached = rw code (looked .found s same cached)
 
     small : treeAt T r < suc (2 * r)
     small = let s = looked .small in rw code (omega arith)
@@ -219,15 +266,19 @@ named-deeper {T} {input} {own} {cases} {r} {trees} a left right code e n =
 
     the-left-one : At T input own (suc r) (suc (2 * r)) left
     the-left-one =
-        record { place = suc (looked .place); found = the-left r (looked .place) small within found; lies = lies-left (looked .lies); small = omega arith }
+        record {
+          place = suc (looked .place);
+          found = λ s same cached. the-left r (looked .place) small within (found s same cached);
+          lies = lies-left (looked .lies);
+          small = omega arith;
+        }
 
     the-right-one : At T input own (suc r) (suc (suc (2 * r))) right
     the-right-one =
-        let behind = lies-right (looked .lies) in
         record {
-          place = suc (looked .place) + behind .behind;
-          found = the-right r (looked .place) (behind .behind) small within found (behind .end);
-          lies = behind .lies;
+          place = suc (looked .place) + length (tokens left);
+          found = λ s same cached. found-right r (looked .lies) small cached (found s same cached);
+          lies = lies-right (looked .lies);
           small = omega arith;
         }
 
@@ -235,3 +286,89 @@ named-deeper {T} {input} {own} {cases} {r} {trees} a left right code e n =
     older b u f =
         let below = level-below trees b f in
         rw (code-older cases r b (omega arith)) (at-later (omega arith) (n .each b u f))
+
+-- ---- when a call closes
+
+-- the place found for a frame's own tree
+own-place : {T input : List ℕ} {s : State} {code p : ℕ} → Found T input s code p → code ≡ 0 → p ≡ s .tree
+own-place {T} {input} {s} d = elim d as (λ code p d. code ≡ 0 → p ≡ s .tree) [
+  | the-own ↦ λ none. refl
+  | the-left c p small within (f → ih) ↦ λ none. absurd (omega arith)
+  | the-right c p n small within (f → ih) other end ↦ λ none. absurd (omega arith)
+  | the-known c p small within (f → ih) same ↦ λ none. absurd (omega arith)
+]
+
+-- the place found for the right tree of a frame's own tree
+right-place : {T input : List ℕ} {s : State} {l r : Tree} {code p : ℕ}
+    → Lies input (s .tree) (node l r)
+    → Cached input (s .known) (s .end)
+    → Found T input s code p
+    → (c : ℕ) → code ≡ suc (suc (2 * c)) → treeAt T c ≡ 0 → p ≡ suc (s .tree) + length (tokens l)
+right-place {T} {input} {s} {l} lies cached d =
+    elim d as (λ code p d. (c : ℕ) → code ≡ suc (suc (2 * c)) → treeAt T c ≡ 0 → p ≡ suc (s .tree) + length (tokens l)) [
+      | the-own ↦ λ c is none. absurd (omega arith)
+      | the-left c′ p small within (f → ih) ↦ λ c is none. absurd (omega arith)
+      | the-right c′ p n small within (f → ih) other end ↦ λ c is none.
+          let here : Lies input (suc p) l = rw (at-own c′ c p is none f) (lies-left lies) in
+          rw (← at-own c′ c p is none f) (ap (λ (m : ℕ). suc p + m) (done-injective (sym end ∙ end-found here)))
+      | the-known c′ p small within (f → ih) same ↦ λ c is none.
+          known-end cached (lies-left lies) (sym (ap suc (at-own c′ c p is none f)) ∙ same) (λ z. absurd (omega arith))
+    ]
+  where
+    at-own : (a c p : ℕ) → suc (suc (2 * a)) ≡ suc (suc (2 * c)) → treeAt T c ≡ 0 → Found T input s (treeAt T a) p → p ≡ s .tree
+    at-own a c p is none f = let same : a ≡ c = omega arith in own-place f (ap (treeAt T) same ∙ none)
+
+-- what `onRight` asks for: the Case at record `looking` looks at the frame's own tree, a node, and the Call is on its right tree
+record OnRight (T input : List ℕ) (r own : ℕ) : Type 0 where
+  looking : ℕ
+  code : treeAt T r ≡ suc (suc (2 * looking))
+  at-own : treeAt T looking ≡ 0
+  tag : getD input own 0 ≡ nodeTag
+
+on-right : (T input : List ℕ) (r own : ℕ) → onRight T input r own ≡ true → OnRight T input r own
+unfolding onRight
+on-right T input r own e =
+    let a = both-held (eqb (treeAt T r % 2) 0) _ e in
+    let b = both-held (ltb 0 (treeAt T r)) _ (a .1) in
+    let c = both-held (eqb (treeAt T ((treeAt T r - 1) / 2)) 0) _ (b .1) in
+    let d = both-held (ltb own (length input)) _ (c .1) in
+    let even = eqb-true (treeAt T r % 2) 0 (a .0) in
+    let above = ltb-true 0 (treeAt T r) (b .0) in
+    record {
+      looking = (treeAt T r - 1) / 2;
+      code = omega arith;
+      at-own = eqb-true _ 0 (c .0);
+      tag = eqb-true _ nodeTag (d .1);
+    }
+
+-- the Call at record r is on the tree found at place p
+module _ {T input : List ℕ} {p : ℕ} {s : State} (r : ℕ) (found : Found T input s (treeAt T r) p) (before : Cached input (s .known) (s .end)) where
+  -- where that is the right tree of the frame's own, both have the same end
+  node-known : (own : Tree) (known end : ℕ) → Lies input (s .tree) own → OnRight T input r (s .tree) → p ≡ known → Cached input known end
+      → Cached input (s .tree) end
+  node-known (leaf x) known end lies right same cached = let tag = lies-leaf lies .tag in let other = right .tag in absurd (omega arith)
+  node-known (node l u) known end lies right same cached =
+      let place : p ≡ suc (s .tree) + length (tokens l) = right-place lies before found (right .looking) (right .code) (right .at-own) in
+      let ends : end ≡ suc (s .tree) + length (tokens l) + length (tokens u) =
+      known-end cached (lies-right lies) (sym place ∙ same) (λ z. absurd (omega arith)) in
+      record { spans = λ some-there. record { spanning = node l u; lies = lies; ends = omega (arith, length-node l u) } }
+
+  -- so what is known once the call closes is right
+  pub cached-after : (own : Tree) (s′ : State) → Lies input (s .tree) own → s′ .tree ≡ p → Cached input (s′ .known) (s′ .end)
+      → Cached input (knownAfter T input r (s .tree) s′) (s′ .end)
+  unfolding knownAfter
+  cached-after own s′ lies same cached = by-test (eqb (s′ .known) (s′ .tree) && onRight T input r (s .tree)) refl
+    where
+      by-test : (b : Bool) → (eqb (s′ .known) (s′ .tree) && onRight T input r (s .tree)) ≡ b
+          → Cached input (elim b [ true ↦ s .tree | false ↦ s′ .known ]) (s′ .end)
+      by-test true e =
+          let h = both-held (eqb (s′ .known) (s′ .tree)) (onRight T input r (s .tree)) e in
+          node-known own (s′ .known) (s′ .end) lies (on-right T input r (s .tree) (h .1)) (sym same ∙ sym (eqb-true _ _ (h .0))) cached
+      by-test false e = cached
+
+-- the own tree of a frame, where trees are named, lies at its place
+pub named-own : {T input : List ℕ} {cases : List ℕ} {r : ℕ} {trees : List Tree} {t : Tree} (s : State)
+    → Cached input (s .known) (s .end) → Named T input (s .tree) cases r trees → atLevel trees 0 ≡ some t → Lies input (s .tree) t
+named-own {cases = cases} {t = t} s cached n e =
+    let at-first = n .each 0 t e in
+    rw (own-place (at-first .found s refl cached) (code-own cases)) at (at-first .lies)

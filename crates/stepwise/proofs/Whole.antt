@@ -31,7 +31,7 @@ use Rattle.stepwise.specs.Comes.{Told, toldOf, Comes}
 use Rattle.stepwise.proofs.Words.{copied-length, copied-there, backIn, closes-back, leaves-call}
 use Rattle.stepwise.proofs.Moves.{open-deep, open-frame, through-end, through-call}
 use Rattle.stepwise.proofs.Rows.{Stands, own-row, bodies-stand, bodies-fit}
-use Rattle.stepwise.proofs.Trees.{Lies, lies-first, named-first}
+use Rattle.stepwise.proofs.Trees.{Lies, lies-first, cached-none, named-first}
 use Rattle.stepwise.proofs.Simulation.{holding-same, Agrees, Follows, Ready, SimCalls, sim}
 
 -- ---- bodies
@@ -111,6 +111,7 @@ module _ (program : Program) (T input : List ℕ) (all : Standing program T) whe
             ∙ copied-there (s .words) base (slotAt T (suc r)) (moreAt T r) c (ready .first (omega arith)) (omega arith) (omega arith))
             (ready .given);
         named = named-first (ready .lies);
+        cached = ready .cached;
         roomy = record {
           values = omega (arith, copied-length (s .words) base (slotAt T (suc r)) (moreAt T r));
           returns =
@@ -153,9 +154,10 @@ module _ (program : Program) (T input : List ℕ) (all : Standing program T) whe
       (sim-body k b f numbers t (framed T (ready .place) r s) (sim-calls k) known (framed-agrees k r b f numbers t s known ready) out κ
       (record {
         from = λ v s′ left.
-            through-call T input (firstRecord program b) _ s′ r (backIn s s′) (row .role)
-            (closes-back T (ready .place) r s s′ (f .parameters) 0 left _ (omega arith) (omega arith)) (left .calls) (omega arith)
-            (follow .from v (backIn s s′) (leaves-call T (ready .place) r s s′ (f .parameters) 0 left names keeps fewer));
+            through-call T input (firstRecord program b) _ s′ r (backIn T input r s s′) (row .role)
+            (closes-back T input (ready .place) r s s′ (f .parameters) 0 left _ (omega arith) (omega arith)) (left .calls) (omega arith)
+            (follow .from v (backIn T input r s s′)
+            (leaves-call T input (ready .place) r s s′ (f .parameters) 0 left names keeps (ready .own) fewer (ready .found) (ready .own-lies)));
       })))
 
   -- the whole, its first frame and its tree at the beginning of the input
@@ -165,7 +167,7 @@ module _ (program : Program) (T input : List ℕ) (all : Standing program T) whe
       → Lies input 0 t
       → valueWords ≤ length words
       → returnWords ≤ length places
-      → Comes T input [] (begin (firstRecord program 0) (record { words = words; places = places; calls = 0; tree = 0 }))
+      → Comes T input [] (begin (firstRecord program 0) (record { words = words; places = places; calls = 0; tree = 0; known = 0; end = 0 }))
       (next (evaluation program (suc k) t) toldOf)
   unfolding evaluation called
   sim-whole k t words places allowed lies values returns =
@@ -173,12 +175,13 @@ module _ (program : Program) (T input : List ℕ) (all : Standing program T) whe
       let known = all .is-proper .is-first in
       let row = own-row (firstRecord program) (arityOf (signatures program)) T _ (firstRecord program 0) (first .body) (all .rows 0 first known) in
       rw (known, called)
-      (sim-body k 0 first [] t (record { words = words; places = places; calls = 0; tree = 0 }) (sim-calls k) known
+      (sim-body k 0 first [] t (record { words = words; places = places; calls = 0; tree = 0; known = 0; end = 0 }) (sim-calls k) known
       (record {
         numbers = sym (all .is-proper .bare);
         trees = refl;
         held = record { each = λ a i e. let below = level-below [] a e in absurd (omega arith) };
         named = named-first lies;
+        cached = cached-none input 0;
         roomy = record { values = values; returns = returns; allowed = omega arith };
       })
       [] toldOf
@@ -193,7 +196,8 @@ pub comes :
     → rowWords * 1057 ≤ length table
     → valueWords ≤ length words
     → returnWords ≤ length places
-    → Comes (tabled table program) input [] (begin (suc (length (program .functions))) (record { words = words; places = places; calls = 0; tree = 0 }))
+    → Comes (tabled table program) input []
+    (begin (suc (length (program .functions))) (record { words = words; places = places; calls = 0; tree = 0; known = 0; end = 0 }))
     (next (evaluation program mostCalls t) toldOf)
 unfolding firstRecord total
 comes program input table words places t passes bytes reads room values returns =

@@ -9,13 +9,17 @@ use borrow.Author.Tests.{eqb-true, eqb-false}
 use lib.Dec.{eqb}
 use lib.ListN.{length, getD, set, length-set}
 use lib.Seq.{getD-set-same, getD-set-other}
-use Rattle.stepwise.specs.Steps.{State, through, closing, frameWords, wordAt, withWord, copied, slotAt, moreAt, framed}
+use Rattle.formats.specs.Tokens.{Tree}
+use Rattle.stepwise.specs.Steps.{State, Found, through, knownAfter, closing, frameWords, wordAt, withWord, withEnd, copied}
+use Rattle.stepwise.specs.Steps.{treeAt, slotAt, moreAt, framed}
 use Rattle.stepwise.proofs.Steps.{closes-waiting}
+use Rattle.stepwise.proofs.Trees.{Lies, Cached, cached-after}
 
 -- ---- what taking a part leaves
 
--- Of the frame's words the first `names` and the last `keeps`, all words below the frame, and the return words of the calls that wait.
-pub record Leaves (names keeps : ℕ) (s s′ : State) : Type 0 where
+-- Of the frame's words the first `names` and the last `keeps`, all words below the frame, and the return words of the calls that wait; and what is known
+-- of an end stays right.
+pub record Leaves (input : List ℕ) (names keeps : ℕ) (s s′ : State) : Type 0 where
   pub calls : s′ .calls ≡ s .calls
   pub tree : s′ .tree ≡ s .tree
   pub as-many-words : length (s′ .words) ≡ length (s .words)
@@ -27,10 +31,12 @@ pub record Leaves (names keeps : ℕ) (s s′ : State) : Type 0 where
       → frameWords * s .calls + frameWords ≤ i + keeps
       → getD (s′ .words) i 0 ≡ getD (s .words) i 0
   pub waiting : (i : ℕ) → i < 2 * s .calls → getD (s′ .places) i 0 ≡ getD (s .places) i 0
+  pub cached : Cached input (s .known) (s .end) → Cached input (s′ .known) (s′ .end)
 
--- nothing done
-pub leaves-all : (names keeps : ℕ) (s : State) → Leaves names keeps s s
-leaves-all names keeps s = record {
+-- another end known
+pub leaves-end : {input : List ℕ} (names keeps : ℕ) (s : State) (known end : ℕ) → (Cached input (s .known) (s .end) → Cached input known end)
+    → Leaves input names keeps s (withEnd s known end)
+leaves-end names keeps s known end right = record {
   calls = refl;
   tree = refl;
   as-many-words = refl;
@@ -38,10 +44,16 @@ leaves-all names keeps s = record {
   below = λ i h. refl;
   above = λ i h h′. refl;
   waiting = λ i h. refl;
+  cached = right;
 }
 
+-- nothing done
+pub leaves-all : {input : List ℕ} (names keeps : ℕ) (s : State) → Leaves input names keeps s s
+leaves-all names keeps s = leaves-end names keeps s (s .known) (s .end) (λ h. h)
+
 -- one after the other
-pub leaves-both : (names keeps : ℕ) (s s′ s″ : State) → Leaves names keeps s s′ → Leaves names keeps s′ s″ → Leaves names keeps s s″
+pub leaves-both : {input : List ℕ} (names keeps : ℕ) (s s′ s″ : State) → Leaves input names keeps s s′ → Leaves input names keeps s′ s″
+    → Leaves input names keeps s s″
 leaves-both names keeps s s′ s″ a b = record {
   calls = b .calls ∙ a .calls;
   tree = b .tree ∙ a .tree;
@@ -50,11 +62,13 @@ leaves-both names keeps s s′ s″ a b = record {
   below = λ i h. b .below i (omega (arith, a .calls)) ∙ a .below i h;
   above = λ i h h′. b .above i (omega (arith, a .calls)) (omega (arith, a .calls)) ∙ a .above i h h′;
   waiting = λ i h. b .waiting i (omega (arith, a .calls)) ∙ a .waiting i h;
+  cached = λ h. b .cached (a .cached h);
 }
 
 -- with more names and more kept, more is left
 pub leaves-less :
-    (names keeps names′ keeps′ : ℕ) (s s′ : State) → names ≤ names′ → keeps ≤ keeps′ → Leaves names′ keeps′ s s′ → Leaves names keeps s s′
+    {input : List ℕ} (names keeps names′ keeps′ : ℕ) (s s′ : State) → names ≤ names′ → keeps ≤ keeps′ → Leaves input names′ keeps′ s s′
+    → Leaves input names keeps s s′
 leaves-less names keeps names′ keeps′ s s′ fewer less a = record {
   calls = a .calls;
   tree = a .tree;
@@ -63,10 +77,12 @@ leaves-less names keeps names′ keeps′ s s′ fewer less a = record {
   below = λ i h. a .below i (omega (arith, fewer));
   above = λ i h h′. a .above i h (omega (arith, less));
   waiting = a .waiting;
+  cached = a .cached;
 }
 
 -- a word set in between
-pub leaves-word : (names keeps : ℕ) (s : State) (slot x : ℕ) → names ≤ slot → slot + keeps < frameWords → Leaves names keeps s (withWord s slot x)
+pub leaves-word : {input : List ℕ} (names keeps : ℕ) (s : State) (slot x : ℕ) → names ≤ slot → slot + keeps < frameWords
+    → Leaves input names keeps s (withWord s slot x)
 leaves-word names keeps s slot x high low = record {
   calls = refl;
   tree = refl;
@@ -75,9 +91,10 @@ leaves-word names keeps s slot x high low = record {
   below = λ i h. getD-set-other (s .words) (frameWords * s .calls + slot) i x 0 (λ e. absurd (omega arith));
   above = λ i h h′. getD-set-other (s .words) (frameWords * s .calls + slot) i x 0 (λ e. absurd (omega arith));
   waiting = λ i h. refl;
+  cached = λ h. h;
 }
 
-module _ (names keeps : ℕ) (s s′ : State) (a : Leaves names keeps s s′) where
+module _ {input : List ℕ} (names keeps : ℕ) (s s′ : State) (a : Leaves input names keeps s s′) where
   -- a named number's word
   pub word-named : (slot : ℕ) → slot < names → wordAt s′ slot ≡ wordAt s slot
   word-named slot h = rw (a .calls) (a .below (frameWords * s .calls + slot) (omega arith))
@@ -140,13 +157,21 @@ module _ (words : List ℕ) (base slot : ℕ) where
 
 -- ---- a call opens and closes
 
--- The caller's frame again, with the words that the call leaves.
-abbrev pub backIn : State → State → State
-backIn s s′ = record { words = s′ .words; places = s′ .places; calls = s .calls; tree = s .tree }
+-- The frame of the Call at record r again, with the words that the call leaves.
+abbrev pub backIn : List ℕ → List ℕ → ℕ → State → State → State
+backIn T input r s s′ =
+    record {
+      words = s′ .words;
+      places = s′ .places;
+      calls = s .calls;
+      tree = s .tree;
+      known = knownAfter T input r (s .tree) s′;
+      end = s′ .end;
+    }
 
 -- what a call leaves of the frame opened by it brings back its record and its caller's frame
-module _ (T : List ℕ) (p r : ℕ) (s s′ : State) (names keeps : ℕ) (left : Leaves names keeps (framed T p r s) s′) where
-  pub closes-back : (x : ℕ) → r < 65536 → suc (2 * s .calls) < length (s .places) → closing x s′ ≡ through r x (backIn s s′)
+module _ (T input : List ℕ) (p r : ℕ) (s s′ : State) (names keeps : ℕ) (left : Leaves input names keeps (framed T p r s) s′) where
+  pub closes-back : (x : ℕ) → r < 65536 → suc (2 * s .calls) < length (s .places) → closing T input x s′ ≡ through r x (backIn T input r s s′)
   closes-back x low room =
       let saved : List ℕ = set (s .places) (2 * s .calls) r in
       let the-record : getD (s′ .places) (2 * s .calls) 0 ≡ r =
@@ -157,11 +182,12 @@ module _ (T : List ℕ) (p r : ℕ) (s s′ : State) (names keeps : ℕ) (left :
       left .waiting (suc (2 * s .calls)) (omega arith)
       ∙ getD-set-same saved (suc (2 * s .calls)) (s .tree) 0 (omega (arith, length-set (s .places) (2 * s .calls) r)) in
       let small : r % 65536 ≡ r = omega arith in
-      closes-waiting x (s .calls) s′ (left .calls) ∙ rw (the-record, the-tree, small) refl
+      closes-waiting T input x (s .calls) s′ (left .calls) ∙ rw (the-record, the-tree, small) refl
 
   -- and leaves all of it
-  pub leaves-call : (names′ keeps′ : ℕ) → names′ ≤ frameWords → Leaves names′ keeps′ s (backIn s s′)
-  leaves-call names′ keeps′ few = record {
+  pub leaves-call : (names′ keeps′ : ℕ) (own : Tree) → names′ ≤ frameWords → Found T input s (treeAt T r) p → Lies input (s .tree) own
+      → Leaves input names′ keeps′ s (backIn T input r s s′)
+  leaves-call names′ keeps′ own few found lies = record {
     calls = refl;
     tree = refl;
     as-many-words = left .as-many-words ∙ copied-length (s .words) (frameWords * s .calls) (slotAt T (suc r)) (moreAt T r);
@@ -172,6 +198,7 @@ module _ (T : List ℕ) (p r : ℕ) (s s′ : State) (names keeps : ℕ) (left :
         left .waiting i (omega arith)
         ∙ getD-set-other (set (s .places) (2 * s .calls) r) (suc (2 * s .calls)) i (s .tree) 0 (λ e. absurd (omega arith))
         ∙ getD-set-other (s .places) (2 * s .calls) i r 0 (λ e. absurd (omega arith));
+    cached = λ h. cached-after r found h own s′ lies (left .tree) (left .cached h);
   }
     where
       words-left : (i : ℕ) → i < frameWords * s .calls + frameWords → getD (s′ .words) i 0 ≡ getD (s .words) i 0

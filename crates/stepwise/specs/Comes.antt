@@ -22,18 +22,18 @@ pub data Comes (T input : List ℕ) : List ℕ → Turn → Outcome Told → Typ
   at-begin :
       {out : List ℕ} {r : ℕ} {s : State} {o : Outcome Told} (p : ℕ)
       → r < mostRecords
-      → Found T input (s .tree) (treeAt T r) p
+      → Found T input s (treeAt T r) p
       → Comes T input (out ++ saidFirst T r) (beginning T input p r s) o
       → Comes T input out (begin r s) (begins o)
   at-through :
       {out : List ℕ} {r x : ℕ} {s : State} {o : Outcome Told}
-      → weight (rising T r x s) < weight (through r x s)
-      → Comes T input (out ++ saidLast T r x) (rising T r x s) o
+      → weight (rising T input r x s) < weight (through r x s)
+      → Comes T input (out ++ saidLast T r x) (rising T input r x s) o
       → Comes T input out (through r x s) o
   at-open :
       {out : List ℕ} {r : ℕ} {s : State} {o : Outcome Told} (p : ℕ)
       → r < mostRecords
-      → Found T input (s .tree) (treeAt T r) p
+      → Found T input s (treeAt T r) p
       → Comes T input out (opening T p r s) o
       → Comes T input out (opens r s) o
   at-end : {out : List ℕ} {x : ℕ} → Comes T input out (ended x) (gives (told x out))

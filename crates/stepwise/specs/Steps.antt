@@ -2,15 +2,16 @@
 --
 -- A record begins; it is through, with its number (0 for a tree); or a call opens. A frame's tree is known by its place in the input, and every other tree
 -- that is named by the way from there. A frame's numbers stand on 16 words; a call that waits has two return words, its record and its frame's tree.
-use Prim.Native.Nat.{ℕ, zero, suc, _+_, _-_, _*_, _%_, _<_}
-use mathlib.Core.Bool.{true, false}
+use Prim.Native.Nat.{ℕ, zero, suc, _+_, _-_, _*_, _/_, _%_, _<_}
+use mathlib.Core.Bool.{Bool, true, false, _&&_}
 use mathlib.Core.List.{List, [], _∷_}
+use mathlib.Core.Logic.{_≢_}
 use mathlib.Core.Path.{_≡_}
 use lib.Dec.{eqb, leb, ltb}
 use lib.ListN.{length, getD, set, drop}
 use Rattle.formats.specs.Numbers.{sum32, numberAt}
 use Rattle.formats.specs.Results.{done}
-use Rattle.formats.specs.Tokens.{leaf, leafTag, nodeTag, tokens, firstEnd}
+use Rattle.formats.specs.Tokens.{leaf, leafTag, nodeTag, leafBytes, tokens, firstEnd}
 use Rattle.stepwise.specs.Rows.{rowWords, whole, kept, added, tested, passed, labelled, followed}
 
 -- Words of a frame.
@@ -25,12 +26,15 @@ mostWaiting = 1023
 abbrev pub mostRecords : ℕ
 mostRecords = 2048
 
--- The lent words, how many calls wait, and the place of the frame's tree.
+-- The lent words, how many calls wait, and the place of the frame's tree. Of one tree that was passed the end is known: it begins at `known` and ends at
+-- `end` (both 0 as long as there is none: no tree that is looked for begins at 0).
 pub record State : Type 0 where
   pub words : List ℕ
   pub places : List ℕ
   pub calls : ℕ
   pub tree : ℕ
+  pub known : ℕ
+  pub end : ℕ
 
 pub data Turn : Type 0 where
   -- the record is to begin
@@ -77,18 +81,26 @@ behindAt T r = field T r 7
 
 -- ---- the place of a named tree
 
--- `Found T input own code p`: in a frame whose own tree is at `own`, the tree of this code is at place p of the input. A left tree stands behind its node's
--- tag, a right tree behind the left one. The Case that looks at the node is an earlier record, so its own code is smaller.
-pub data Found (T input : List ℕ) (own : ℕ) : ℕ → ℕ → Type 0 where
-  the-own : Found T input own 0 own
-  the-left : (c p : ℕ) → treeAt T c < suc (2 * c) → p < length input → Found T input own (treeAt T c) p → Found T input own (suc (2 * c)) (suc p)
+-- `Found T input s code p`: in the frame of s, the tree of this code is at place p of the input. A left tree stands behind its node's tag, a right tree
+-- behind the left one, whose end is known or is to be found. The Case that looks at the node is an earlier record, so its own code is smaller.
+pub data Found (T input : List ℕ) (s : State) : ℕ → ℕ → Type 0 where
+  the-own : Found T input s 0 (s .tree)
+  the-left : (c p : ℕ) → treeAt T c < suc (2 * c) → p < length input → Found T input s (treeAt T c) p → Found T input s (suc (2 * c)) (suc p)
   the-right :
       (c p n : ℕ)
       → treeAt T c < suc (2 * c)
       → p < length input
-      → Found T input own (treeAt T c) p
+      → Found T input s (treeAt T c) p
+      → suc p ≢ s .known
       → firstEnd (drop (suc p) input) ≡ done n
-      → Found T input own (suc (suc (2 * c))) (suc p + n)
+      → Found T input s (suc (suc (2 * c))) (suc p + n)
+  the-known :
+      (c p : ℕ)
+      → treeAt T c < suc (2 * c)
+      → p < length input
+      → Found T input s (treeAt T c) p
+      → suc p ≡ s .known
+      → Found T input s (suc (suc (2 * c))) (s .end)
 
 -- ---- words
 
@@ -97,7 +109,18 @@ wordAt s slot = getD (s .words) (frameWords * s .calls + slot) 0
 
 abbrev pub withWord : State → ℕ → ℕ → State
 withWord s slot x =
-    record { words = set (s .words) (frameWords * s .calls + slot) x; places = s .places; calls = s .calls; tree = s .tree }
+    record {
+      words = set (s .words) (frameWords * s .calls + slot) x;
+      places = s .places;
+      calls = s .calls;
+      tree = s .tree;
+      known = s .known;
+      end = s .end;
+    }
+
+-- The tree at this place is known to end there.
+abbrev pub withEnd : State → ℕ → ℕ → State
+withEnd s known end = record { words = s .words; places = s .places; calls = s .calls; tree = s .tree; known = known; end = end }
 
 -- The first n arguments of a call, on words from `slot` down of the frame at word `base`, put on the first words of the next frame.
 unfoldable pub copied : List ℕ → ℕ → ℕ → ℕ → List ℕ
@@ -114,7 +137,7 @@ looking T input p r s =
     elim (ltb p (length input)) [
       | true ↦
           elim (eqb (getD input p 0) leafTag) [
-            | true ↦ begin (suc r) (withWord s (operandAt T r) (numberAt 4 input (suc p)))
+            | true ↦ begin (suc r) (withEnd (withWord s (operandAt T r) (numberAt 4 input (suc p))) p (p + leafBytes))
             | false ↦ begin (behindAt T (suc r)) s
           ]
       | false ↦ stuck
@@ -146,14 +169,30 @@ saidFirst T r = elim (eqb (kindAt T r) 6) [ true ↦ nodeTag ∷ [] | false ↦ 
 
 -- ---- a record is through
 
+-- Whether the Call at record r is on the right tree of a node that is its frame's own tree, at place own.
+unfoldable pub onRight : List ℕ → List ℕ → ℕ → ℕ → Bool
+onRight T input r own =
+    eqb (treeAt T r % 2) 0 && (ltb 0 (treeAt T r) && (eqb (treeAt T ((treeAt T r - 1) / 2)) 0 && (ltb own (length input) && eqb (getD input own 0) nodeTag)))
+
+-- Where that node begins, if the end of the right tree, at place `tree`, is known, and so the node's end is: else what is known stays.
+unfoldable pub knownAfter : List ℕ → List ℕ → ℕ → ℕ → State → ℕ
+knownAfter T input r own s = elim (eqb (s .known) (s .tree) && onRight T input r own) [ true ↦ own | false ↦ s .known ]
+
 -- The call that waits goes on; the first frame is the last.
-unfoldable pub closing : ℕ → State → Turn
-closing x s =
+unfoldable pub closing : List ℕ → List ℕ → ℕ → State → Turn
+closing T input x s =
     elim (s .calls) [
       | zero ↦ ended x
       | suc n ↦
           through (getD (s .places) (2 * n) 0 % 65536) x
-          (record { words = s .words; places = s .places; calls = n; tree = getD (s .places) (suc (2 * n)) 0 })
+          (record {
+            words = s .words;
+            places = s .places;
+            calls = n;
+            tree = getD (s .places) (suc (2 * n)) 0;
+            known = knownAfter T input (getD (s .places) (2 * n) 0 % 65536) (getD (s .places) (suc (2 * n)) 0) s;
+            end = s .end;
+          })
     ]
 
 -- What the value of a part is, or that the next part or the call follows it.
@@ -173,10 +212,10 @@ following T r x s =
     ]
 
 -- By what the record is to its parent.
-unfoldable pub rising : List ℕ → ℕ → ℕ → State → Turn
-rising T r x s =
+unfoldable pub rising : List ℕ → List ℕ → ℕ → ℕ → State → Turn
+rising T input r x s =
     elim (eqb (roleAt T r) whole) [
-      | true ↦ closing x s
+      | true ↦ closing T input x s
       | false ↦
           elim (eqb (roleAt T r) kept) [
             | true ↦ begin (behindAt T r) (withWord s (slotAt T r) x)
@@ -215,6 +254,8 @@ framed T p r s =
       places = set (set (s .places) (2 * s .calls) r) (suc (2 * s .calls)) (s .tree);
       calls = suc (s .calls);
       tree = p;
+      known = s .known;
+      end = s .end;
     }
 
 -- The function's body begins, or the call is one too many.

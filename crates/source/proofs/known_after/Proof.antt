@@ -1,0 +1,14 @@
+-- `source::known_after` meets its contract.
+use borrow.Author.Needs.{needs}
+use Rattle.source.proofs.Stages.{knowing}
+use Rattle.source.proofs.known_after.Statement.{statement}
+use Rattle.source.proofs.known_after.Tie as tie
+
+pub known-after-spec : {M : Type 1} → statement M
+known-after-spec =
+    tie.close
+    (tie.spec
+    (λ c. search knowing)
+    (λ c κs. search needs)
+    (λ c. search knowing)
+    (λ c. search knowing))

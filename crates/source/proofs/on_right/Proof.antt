@@ -1,0 +1,18 @@
+-- `source::on_right` meets its contract.
+use borrow.Author.Needs.{needs}
+use Rattle.source.proofs.Stages.{rights}
+use Rattle.source.proofs.on_right.Statement.{statement}
+use Rattle.source.proofs.on_right.Tie as tie
+
+pub on-right-spec : {M : Type 1} → statement M
+on-right-spec =
+    tie.close
+    (tie.spec
+    (λ c κs. search needs)
+    (λ c. search rights)
+    (λ c. search rights)
+    (λ c. search needs) (λ c κs. search needs)
+    (λ c. search rights)
+    (λ c. search rights)
+    (λ c. search needs)
+    (λ c. search rights))

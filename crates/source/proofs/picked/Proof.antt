@@ -1,0 +1,14 @@
+-- `source::picked` meets its contract.
+use borrow.Author.Needs.{needs}
+use Rattle.source.proofs.Stages.{picks}
+use Rattle.source.proofs.picked.Statement.{statement}
+use Rattle.source.proofs.picked.Tie as tie
+
+pub picked-spec : {M : Type 1} → statement M
+picked-spec =
+    tie.close
+    (tie.spec
+    (λ c κs. search needs)
+    (λ c. search picks)
+    (λ c κs. search needs)
+    (λ c. search picks))

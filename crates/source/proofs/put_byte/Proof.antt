@@ -1,0 +1,13 @@
+-- `source::put_byte` meets its contract.
+use borrow.Author.Needs.{needs}
+use Rattle.source.proofs.Words.{bytes}
+use Rattle.source.proofs.put_byte.Statement.{statement}
+use Rattle.source.proofs.put_byte.Tie as tie
+
+pub put-byte-spec : {M : Type 1} → statement M
+put-byte-spec =
+    tie.close
+    (tie.spec
+    (λ c. search needs) (λ c. search needs)
+    (λ c. search bytes)
+    (λ c. search bytes))

@@ -1,0 +1,13 @@
+-- `source::put_word` meets its contract.
+use borrow.Author.Needs.{needs}
+use Rattle.source.proofs.Words.{words}
+use Rattle.source.proofs.put_word.Statement.{statement}
+use Rattle.source.proofs.put_word.Tie as tie
+
+pub put-word-spec : {M : Type 1} → statement M
+put-word-spec =
+    tie.close
+    (tie.spec
+    (λ c. search needs) (λ c. search needs) (λ c. search needs)
+    (λ c. search words)
+    (λ c. search words))

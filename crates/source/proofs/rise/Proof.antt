@@ -1,0 +1,20 @@
+-- `source::rise` meets its contract.
+use borrow.Author.Needs.{needs}
+use Rattle.source.proofs.Stages.{risings}
+use Rattle.source.proofs.rise.Statement.{statement}
+use Rattle.source.proofs.rise.Tie as tie
+
+pub rise-spec : {M : Type 1} → statement M
+rise-spec =
+    tie.close
+    (tie.spec
+    (λ c κs. search needs) (λ c κs. search needs) (λ c κs. search needs) (λ c κs. search needs) (λ c κs. search needs) (λ c κs. search needs)
+    (λ c κs. search needs) (λ c κs. search needs) (λ c κs. search needs) (λ c κs. search needs) (λ c κs. search needs)
+    (λ c. search risings)
+    (λ c. search needs)
+    (λ c. search risings)
+    (λ c. search needs)
+    (λ c. search risings)
+    (λ c. search risings)
+    (λ c. search needs)
+    (λ c. search risings))

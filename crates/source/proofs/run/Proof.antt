@@ -1,0 +1,16 @@
+-- `source::run` meets its contract: what the blocks gave stands at the start of the space, and the run goes over it.
+use borrow.Author.Needs.{needs}
+use lib.Seq.{length-take-le}
+use Rattle.source.proofs.Calls.{file-ways}
+use Rattle.source.proofs.run.Statement.{statement}
+use Rattle.source.proofs.run.Tie as tie
+
+pub run-spec : {M : Type 1} → statement M
+run-spec =
+    tie.close
+    (tie.spec
+    (λ c. search needs) (λ c κs. search needs) (λ c. search needs) (λ c κs. search needs) (λ c. search needs) (λ c. search file-ways)
+    (λ c. search (needs, length-take-le, file-ways)) (λ c κs. search needs)
+    (λ c. search file-ways)
+    (λ c. search needs) (λ c. search needs) (λ c. search needs)
+    (λ c. search file-ways))

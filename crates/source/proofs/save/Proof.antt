@@ -1,0 +1,13 @@
+-- `source::save` meets its contract.
+use borrow.Author.Needs.{needs}
+use Rattle.source.proofs.Words.{passing}
+use Rattle.source.proofs.save.Statement.{statement}
+use Rattle.source.proofs.save.Tie as tie
+
+pub save-spec : {M : Type 1} → statement M
+save-spec =
+    tie.close
+    (tie.spec
+    (λ c. search needs) (λ c. search needs) (λ c. search needs) (λ c κs. search needs) (λ c. search needs) (λ c κs. search needs)
+    (λ c. search needs)
+    (λ c. search passing))

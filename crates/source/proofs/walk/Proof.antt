@@ -1,0 +1,25 @@
+-- `source::walk` meets its contract: so many expressions have begun in front of each turn, and the fuel left falls.
+use borrow.Author.Needs.{needs}
+use Prim.Native.Nat.{_-_}
+use native.Mathlib.Omega.{arith}
+use Rattle.source.proofs.Walks.{Walking, walk-first, walks, walk-lengths}
+use Rattle.source.proofs.walk.Statement.{statement}
+use Rattle.source.proofs.walk.Tie as tie
+
+abbrev Inv-loop : tie.InvT-loop
+Inv-loop table input first fuel output₀ values₀ places₀ s₀ begun₀ output values places s begun = Walking table input first fuel output₀ values₀ places₀ output values places s begun
+
+abbrev μ-loop : tie.MeasureT-loop
+μ-loop table input first fuel output₀ values₀ places₀ s₀ begun₀ output values places s begun = fuel - begun
+
+pub walk-spec : {M : Type 1} → statement M
+walk-spec =
+    tie.close
+    (tie.spec
+    Inv-loop
+    μ-loop
+    (λ c. walk-first _ _ _ _ _ _ _ (omega arith)) (λ c κs. search needs) (λ c. search needs) (λ c κs. search needs) (λ c. search (needs, walk-lengths)) (λ c. search (needs, walk-lengths))
+    (λ c. search (needs, walk-lengths))
+    (λ c. search walks)
+    (λ c. search needs) (λ c. search walks) (λ c. search needs) (λ c. search needs) (λ c. search needs)
+    (λ c. search walks))

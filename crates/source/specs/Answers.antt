@@ -1,0 +1,86 @@
+-- What a call of the source run answers.
+use Prim.Native.Nat.{ℕ, suc, _≤_, _<_}
+use mathlib.Core.Bool.{true, false}
+use mathlib.Core.List.{List, []}
+use mathlib.Core.Logic.{_⊎_}
+use mathlib.Core.Path.{_≡_}
+use lib.Dec.{leb}
+use lib.ListN.{length}
+use Rattle.formats.specs.Refusals.{fuelUsedUp, outputFull, tooManyCalls}
+use Rattle.formats.specs.Results.{done}
+use Rattle.formats.specs.Blocks.{flatIn}
+use Rattle.formats.specs.Written.{written}
+use Rattle.refusal.specs.Said.{said}
+use Rattle.refusal.specs.Number.{number as numberOf}
+use Rattle.refusal.specs.declared.Refusal.{Refusal}
+use Rattle.meaning.specs.Running.{valueWords, returnWords}
+use Rattle.meaning.specs.OpenCalls.{Outcome, gives, stops, begins, within}
+use Rattle.meaning.specs.SourceRun.{SourceRan, refusedAfter, sourceRun}
+use Rattle.meaning.specs.SourceRun.{SourceAnswer as Due}
+use Rattle.stepwise.specs.Steps.{begin}
+use Rattle.stepwise.specs.Comes.{Told, Comes}
+use Rattle.source.specs.Stages.{countLimit}
+use Rattle.source.specs.declared.SourceAnswer.{SourceAnswer}
+
+-- The answer, as document 01 has it.
+abbrev pub answered : SourceAnswer → Due
+answered a = record { outcome = said (a .verdict); begun = a .begun; bytesWritten = a .written; number = a .number }
+
+-- A call that should give this: its answer, and every byte of the output.
+pub record Gave (due : SourceRan) (output′ : List ℕ) (r : SourceAnswer) : Type 0 where
+  pub answer : answered r ≡ due .answer
+  pub output : output′ ≡ due .output
+
+-- The refusal of a walk that stops with this number.
+pub record Named (stop : ℕ) (why : Refusal) : Type 0 where
+  pub is : (stop ≡ fuelUsedUp) ⊎ (stop ≡ tooManyCalls) → numberOf why ≡ stop
+
+-- The length of a buffer: fewer bytes than 2^63.
+pub record Room (l : List ℕ) (r : ℕ) : Type 0 where
+  pub is : r ≡ length l
+  pub short : length l < countLimit
+
+-- ---- the outcome of the steps
+
+-- The result's bytes written from the output's start, its number told; 17 where they do not fit.
+unfoldable pub toldResult : ℕ → Told → List ℕ → SourceRan
+toldResult begun t output =
+    elim (leb (length (t .bytes)) (length output)) [
+      | true ↦
+          record {
+            answer = record { outcome = done tt; begun = begun; bytesWritten = length (t .bytes); number = t .number };
+            output = written output 0 (t .bytes);
+          }
+      | false ↦ refusedAfter begun outputFull 0 output
+    ]
+
+unfoldable pub tellSteps : ℕ → Outcome Told → List ℕ → SourceRan
+tellSteps begun (gives t) output = toldResult begun t output
+tellSteps begun (stops why r) output = refusedAfter begun why 0 output
+tellSteps begun (begins o) output = tellSteps (suc begun) o output
+
+-- Whatever enough words hold, the steps from this record on come to the outcome.
+pub record Always (T input : List ℕ) (first : ℕ) (o : Outcome Told) : Type 0 where
+  pub comes : (words places : List ℕ) → valueWords ≤ length words → returnWords ≤ length places
+      → Comes T input [] (begin first (record { words = words; places = places; calls = 0; tree = 0; known = 0; end = 0 })) o
+
+-- The evaluation over a table.
+pub record Evaluates (T input : List ℕ) (first fuel : ℕ) (output output′ values values′ places places′ : List ℕ) (r : SourceAnswer) : Type 0 where
+  pub gave : (o : Outcome Told) → Always T input first o → valueWords ≤ length values → returnWords ≤ length places
+      → Gave (tellSteps 0 (within fuel o) output) output′ r
+  pub long-values : length values′ ≡ length values
+  pub long-places : length places′ ≡ length places
+
+-- ---- the call
+
+-- A call: its answer, every byte of the output, and the lengths of the work words, which are otherwise free.
+pub record Sourced (due : SourceRan) (output′ values values′ places places′ : List ℕ) (r : SourceAnswer) : Type 0 where
+  pub answer : answered r ≡ due .answer
+  pub output : output′ ≡ due .output
+  pub values-length : length values′ ≡ length values
+  pub places-length : length places′ ≡ length places
+
+-- Of the flat records that a file has.
+pub record OfFile (flat input output output′ values values′ places places′ : List ℕ) (fuel : ℕ) (r : SourceAnswer) : Type 0 where
+  pub is : (file : List ℕ) → flatIn file ≡ done flat
+      → Sourced (sourceRun file input output fuel (length values) (length places)) output′ values values′ places places′ r

@@ -1,0 +1,2 @@
+-- What a source run answers from C or Rust.
+pub mod SourcePlaces

@@ -270,7 +270,8 @@ fn named_number(table: &[u16], values: &[u32], s: Stage) -> u32
     frame_word(values, s.calls, field(table, s.node, OPERAND))
 }
 
-// What comes of a record that begins: Const and Var are through; a Case looks at its tree; a Call without arguments opens; else the first part begins.
+// What comes of a record that begins, by its kind: Const (0) and Var (1) are through; a Case (7) looks at its tree; a Call (8) without arguments opens; else
+// the first part begins.
 fn begin(table: &[u16], input: &[u8], values: &mut [u32], s: Stage) -> Stage
     ensures { λ r. ⌜ Begins (now (table .entry)) (now (input .entry)) (now (values .entry)) (now (values .exit)) s r ⌝ }
 {
@@ -377,7 +378,8 @@ fn picked(table: &[u16], s: Stage) -> u16
     field(table, zero_part, BEHIND)
 }
 
-// What the value of a part is, or that the next part or the call follows it.
+// What comes of a part whose value is the whole's (4), a leaf's label (5) or Node's left tree, behind which the next part begins (6); the last argument else,
+// behind which the call opens.
 fn follow(table: &[u16], values: &mut [u32], s: Stage) -> Stage
     ensures { λ r. ⌜ Follows (now (table .entry)) (now (values .entry)) (now (values .exit)) s r ⌝ }
 {
@@ -393,7 +395,8 @@ fn follow(table: &[u16], values: &mut [u32], s: Stage) -> Stage
     }
 }
 
-// What comes of a record that is through, by what it is to its parent.
+// What comes of a record that is through, by what it is to its parent: a function's body (0), a number that is put on a word before the next part begins (1), Add's
+// second part (2), IfZero's test (3), or one of those that `follow` has.
 fn rise(table: &[u16], input: &[u8], values: &mut [u32], places: &[u64], s: Stage) -> Stage
     ensures { λ r. ⌜ Rises (now (table .entry)) (now (input .entry)) (now (values .entry)) (now (values .exit)) (now (places .entry)) s r ⌝ }
 {

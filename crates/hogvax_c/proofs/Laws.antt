@@ -2,7 +2,7 @@
 use Prim.Native.Nat.{ℕ, _≤_}
 use mathlib.Core.Bool.{Bool, true, false, not}
 use mathlib.Core.List.{List}
-use mathlib.Core.Path.{_≡_, refl, sym, ap, _∙_}
+use mathlib.Core.Path.{_≡_, refl, sym, ap, subst, _∙_}
 use native.Mathlib.Omega.{arith}
 use borrow.Author.Tests.{not-true, not-false, leb-true, leb-false, lt-ltb, le-ltb}
 use lib.Dec.{leb}
@@ -22,6 +22,7 @@ use Rattle.tree.specs.declared.TreeAnswer.{TreeAnswer}
 use Rattle.answers.specs.Answer.{answerPlaces, Answers}
 use Rattle.answers.proofs.Laws.{too-few}
 use Rattle.meaning.specs.Running.{Ran, streamRun}
+use Rattle.meaning.specs.Running.{Answer as Due}
 use Rattle.machine.specs.declared.Answer.{Answer}
 use Rattle.machine.specs.Told.{answered as runAnswered, Performed}
 use Rattle.run_answers.specs.RunAnswer.{runPlaces, Answers as RunAnswers}
@@ -187,7 +188,7 @@ module _ (file input output code values returns before : List ℕ) (fuel r : ℕ
         → RunsFile file input output output code code′ values values returns returns before after fuel r
     file-refused after ran why place is answer a =
         let n = runner-not-run file code (length values) (length returns) laid code′ put input output fuel why place is in
-        told-as output values returns after _ (n .gives) (rw answer at a) refl (n .still) refl refl
+        told-as output values returns after _ (n .gives) (subst (λ (q : Due). RunAnswers q before after r) answer a) refl (n .still) refl refl
 
     -- the run
     pub file-run : (output′ values′ returns′ after : List ℕ) (bytes : ℕ) → laid ≡ Written bytes

@@ -1,2 +1,3 @@
 -- What a stream run answers.
+pub mod Told
 pub mod RunAnswer

@@ -5,25 +5,13 @@ use mathlib.Core.List.{List, [], _∷_}
 use mathlib.Core.Path.{_≡_}
 use lib.Dec.{ltb}
 use lib.IntN.{ℤ, pos, negsuc}
-use lib.ListN.{length}
 use Rattle.formats.specs.Numbers.{signed32}
-use Rattle.formats.specs.Refusals.{spaceTooShort}
-use Rattle.formats.specs.Results.{Result, done, refusal}
-use Rattle.formats.specs.Written.{written}
 use Rattle.meaning.specs.Running.{Answer}
+use Rattle.run_answers.specs.Told.{Stored, Told}
 
 -- How many places the answer takes.
 abbrev pub runPlaces : ℕ
 runPlaces = 5
-
--- 0 where the run ended, else the refusal's number; and its place.
-unfoldable pub refusalOf : Result (Unit {0}) → ℕ
-refusalOf (done u) = 0
-refusalOf (refusal number place) = number
-
-unfoldable pub placeOf : Result (Unit {0}) → ℕ
-placeOf (done u) = 0
-placeOf (refusal number place) = place
 
 -- 01: "Labels, i and instruction numbers are two's complement." The number sign-extended: a 32-bit word as the 64-bit word that stands for the same
 -- number.
@@ -45,12 +33,8 @@ pub record Extends (w : ℕ) : Type 0 where
 abbrev pub placesWith : ℕ → Answer → List ℕ
 placesWith place a = place ∷ a .units ∷ a .bytesRead ∷ a .bytesWritten ∷ signExtended (a .number) ∷ []
 
--- A number given and the places stored: 13 where there are too few, which are then untouched.
-pub record Stores (a : Answer) (number place : ℕ) (before after : List ℕ) (r : ℕ) : Type 0 where
-  pub given : r ≡ elim (ltb (length before) runPlaces) [ true ↦ spaceTooShort | false ↦ number ]
-  pub places : after ≡ written before 0 (placesWith place a)
+abbrev pub Stores : Answer → ℕ → ℕ → List ℕ → List ℕ → ℕ → Type 0
+Stores a number place before after r = Stored runPlaces (placesWith place a) number before after r
 
--- A run's answer, and what the places then hold.
-pub record Answers (a : Answer) (before after : List ℕ) (r : ℕ) : Type 0 where
-  pub number : r ≡ elim (ltb (length before) runPlaces) [ true ↦ spaceTooShort | false ↦ refusalOf (a .outcome) ]
-  pub places : after ≡ written before 0 (placesWith (placeOf (a .outcome)) a)
+abbrev pub Answers : Answer → List ℕ → List ℕ → ℕ → Type 0
+Answers a before after r = Told runPlaces (λ place. placesWith place a) (a .outcome) before after r

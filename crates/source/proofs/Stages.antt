@@ -18,10 +18,10 @@ use Rattle.stepwise.specs.Steps.{begin, through, opens, ended, deep, stuck, kin
 use Rattle.stepwise.specs.Steps.{frameWords, mostRecords, mostWaiting, Found, copied, onRight, knownAfter, beginning}
 use Rattle.stepwise.proofs.Steps.{off, looks-leaf, looks-node, looks-past, begins-const, begins-var, begins-case, begins-bare, begins-args, begins-first, closes-first, closes-waiting}
 use Rattle.stepwise.proofs.Steps.{rises-whole, rises-kept, rises-added, rises-zero, rises-other, rises-on, follows-passed, follows-labelled, follows-followed, follows-last, opens-deep, opens-frame}
+use Rattle.stepwise.proofs.Words.{copied-length}
 use Rattle.source.specs.declared.Stage.{Stage}
 use Rattle.source.specs.Stages.{toBegin, isThrough, toOpen, hasEnded, tooDeep, isStuck, stateOf, turnOf, staged, weightOf, finished}
 use Rattle.source.specs.Walks.{FoundAt, Quiet, Looks, Begins, Knows, Closes, Picks, Follows, Rises, Opens}
-use Rattle.source.proofs.Words.{length-copied}
 
 -- ---- the turn of a stage
 
@@ -549,7 +549,7 @@ module _ (T input values places : List ℕ) (s : Stage) where
         is = λ p few at.
             turn-begin _ _ (record { mode = toBegin; node = operandAt T (s .node); number = 0; calls = suc (s .calls); tree = q; known = s .known; end = s .end; written = s .written }) refl
             ∙ sym (rw (← (found .is (stateOf values places s) refl refl refl p at)) (opens-frame T q (s .node) (stateOf values places s) room));
-        quiet = record { long = length-copied values _ _ (moreAt T (s .node)); written = refl };
+        quiet = record { long = copied-length values _ _ (moreAt T (s .node)); written = refl };
         long = length-set (set places (2 * s .calls) (s .node)) (suc (2 * s .calls)) (s .tree) ∙ length-set places (2 * s .calls) (s .node);
         settled = (eqb-false 0 1 refl, eqb-false 0 2 refl);
       })

@@ -9,7 +9,7 @@ use native.Mathlib.Numerals.{add-one}
 use native.Mathlib.Omega.{arith}
 use borrow.Author.Tests.{lt-ltb, le-ltb}
 use lib.Dec.{ltb}
-use lib.ListN.{length, getD, set, length-set, List·getD-eq-default}
+use lib.ListN.{length, getD, set}
 use Rattle.formats.specs.Numbers.{bytesOf, sum32}
 use Rattle.formats.specs.Tokens.{leaf, leafTag, nodeTag, leafBytes, tokens}
 use Rattle.formats.specs.Written.{written}
@@ -18,32 +18,22 @@ use Rattle.formats.proofs.Written.{written-one, written-append, written-none, w
 use Rattle.stepwise.specs.Rows.{labelled}
 use Rattle.stepwise.specs.Steps.{frameWords, kindAt, moreAt, roleAt, slotAt, copied, saidFirst, saidLast}
 use Rattle.stepwise.proofs.Steps.{said-node, said-nothing, said-leaf, said-none}
+use Rattle.stepwise.proofs.Words.{copied-length}
+use Rattle.words.proofs.Bytes.{byte-cut}
 use Rattle.source.specs.Stages.{counted, countLimit}
 use Rattle.source.specs.Walks.{Says}
 
 -- ---- `field`, `word_at`, `put_word`, `return_at`, `put_return`
 
--- there is no word past the end
-pub none-there : (l : List ℕ) (i : ℕ) → length l ≤ i → 0 ≡ getD l i 0
-none-there l i cut = sym (List·getD-eq-default l 0 cut)
-
--- and none is put there
+-- none is put past the end
 pub none-put : (l : List ℕ) (i x : ℕ) → length l ≤ i → l ≡ set l i x
 none-put [] i x cut = refl
 none-put (y ∷ l) zero x cut = absurd (omega arith)
 none-put (y ∷ l) (suc i) x cut = ap (λ (k : List ℕ). y ∷ k) (none-put l i x (omega arith))
 
-pub ruleset words = (none-there, none-put)
+pub ruleset words = (byte-cut, none-put)
 
 -- ---- `copy`
-
--- copying keeps the length
-pub length-copied : (values : List ℕ) (base slot n : ℕ) → length (copied values base slot n) ≡ length values
-unfolding copied
-length-copied values base slot zero = refl
-length-copied values base slot (suc n) =
-    let before : List ℕ = copied values base slot n in
-    length-set before (base + frameWords + n) (getD before (base + (slot - n)) 0) ∙ length-copied values base slot n
 
 -- So many arguments are copied.
 pub record Copying (values₀ : List ℕ) (base slot count : ℕ) (values : List ℕ) (n : ℕ) : Type 0 where
@@ -67,7 +57,7 @@ module _ (values₀ : List ℕ) (base slot count : ℕ) where
   copy-done values n over c = let all : n ≡ count = omega (arith, c .few) in rw (← all) (c .so-far)
 
   pub copy-long : (values : List ℕ) (n : ℕ) → Copying values₀ base slot count values n → length values ≡ length values₀
-  copy-long values n c = ap length (c .so-far) ∙ length-copied values₀ base slot n
+  copy-long values n c = ap length (c .so-far) ∙ copied-length values₀ base slot n
 
 pub ruleset copying = (copy-first, copy-more, copy-done, copy-long)
 

@@ -630,7 +630,7 @@ const FUEL_USED_UP: u32 = 14;
 
 const TOO_MANY_CALLS: u32 = 18;
 
-// What a walk that stops at this stage tells.
+// What a walk that stops at this stage tells. A program's rows lead to no stage that is stuck, so what has not ended is a call too many.
 fn finish(s: Stage, begun: u64) -> Walked
     ensures { λ r. ⌜ r ≡ finished s begun ⌝ }
 {
@@ -732,7 +732,7 @@ fn why_stopped(stop: u32) -> Refusal
     Refusal::TooManyCalls
 }
 
-// How many bytes the output has room for.
+// How many bytes the output has room for: fewer than 2^63, so that the count, which goes no further, can be held against them.
 fn room_of(output: &[u8]) -> usize
     ensures { λ r. ⌜ Room (now (output .entry)) r ⌝ }
 {
@@ -752,6 +752,7 @@ fn evaluate(
 ) -> SourceAnswer
     ensures { λ r. ⌜ Evaluates (now (table .entry)) (now (input .entry)) first fuel (now (output .entry)) (now (output .exit)) (now (values .entry)) (now (values .exit)) (now (places .entry)) (now (places .exit)) r ⌝ }
 {
+    // The first walk only counts, so what it writes is of no matter.
     let mut nothing = [0u8; 1];
     let counted = walk(table, input, first, fuel, &mut nothing, values, places);
     if counted.stop != NOT_REFUSED {

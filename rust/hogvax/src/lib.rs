@@ -1,25 +1,32 @@
-//! Safe calls of the proved static library.
+//! Safe calls of the proved static library, and programs and trees as text.
 //!
 //! What is said of the library's answers here is proved of the code that
-//! gives them. The Rust code on this side only passes slices and numbers on.
+//! gives them; the Rust code of these calls only passes slices and numbers on.
+//! The modules [`assembly`], [`newick`] and [`draw`] are Rust, and tested.
 
 #![deny(unsafe_code)]
 
 use std::error::Error;
 use std::fmt;
 
+pub mod assembly;
+pub mod draw;
 #[allow(unsafe_code)]
 mod ffi;
 mod machine;
+pub mod newick;
 mod order;
+mod place;
 mod program;
 mod run;
 mod source;
+mod token;
 mod translate;
 mod tree;
 
 pub use machine::{perform, perform_in, perform_into, Ran, WorkSpace, LONGEST_CODE};
 pub use order::{check, check_into, check_records, check_records_into};
+pub use place::{Fault, Place};
 pub use program::{pack, pack_into, unpack, unpack_into, LONGEST_FILE, LONGEST_RECORDS};
 pub use run::{run, run_in, run_into};
 pub use source::{source, source_in, source_into, Sourced};
@@ -81,3 +88,8 @@ fn length_or_refused(call: impl FnOnce(&mut [u64]) -> u32) -> Result<usize, Refu
         Some(refused) => Err(refused),
     }
 }
+
+/// The Rust programs of this page are doc tests.
+#[cfg(doctest)]
+#[doc = include_str!("../../../docs/CALLING.md")]
+struct Calling;

@@ -5,6 +5,7 @@ use std::ffi::{OsStr, OsString};
 
 use hogvax::Refused;
 
+use crate::input;
 use crate::outcome::{Ended, Outcome};
 use crate::streams;
 use crate::words::{Takes, Words};
@@ -55,7 +56,7 @@ impl Conversion {
     }
 
     fn convert_file(&self, file: &OsStr, out: &OsStr) -> Outcome {
-        let input = streams::read_at_most(file, self.longest_input + 1)?;
+        let input = input::read_at_most(file, self.longest_input + 1)?;
         match (self.convert)(&input) {
             Ok(data) => hand_out(&data, out, &format!("{} {}", self.name, data.len())),
             Err(refused) => refuse(&refused.to_string()),

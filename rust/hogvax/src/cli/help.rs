@@ -41,9 +41,10 @@ pub fn list() -> Outcome {
     }
     text += "
 FILE may be '-' or left out: then standard input is read. Verbs that write data,
-pack, unpack, perform, run and source, write it into the file of --out or, if
-that is '-' or left out, to standard output; their answer goes to standard
-error.
+assemble, pack, unpack, perform, run, source and tokens, write it into the file
+of --out or, if that is '-' or left out, to standard output; their answer goes
+to standard error. show, check, listing, run and source take a program file or a
+program's text, which 'hogvax help assemble' describes.
 'hogvax help VERB' shows a verb's options.
 Exit status: 0 done; 1 refused; 2 wrong usage, or a file that can't be read or
 written.

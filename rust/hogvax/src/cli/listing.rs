@@ -1,10 +1,11 @@
 //! `listing [FILE]`: the code of a program, line by line.
 
-use std::ffi::{OsStr, OsString};
+use std::ffi::OsString;
 use std::fmt::Write;
 
+use hogvax::Refused;
+
 use crate::outcome::Outcome;
-use crate::streams;
 use crate::text;
 use crate::verbs::Verb;
 use crate::words::Words;
@@ -15,12 +16,13 @@ pub const VERB: Verb = Verb {
     options: "",
     summary: "the stream code of a program, line by line",
     description: "\
-Reads a program file and prints the code of its program: 'code COUNT', then a
-line for each instruction, which has its address, opcode, byte 1, operand and
-number. All are decimal, and the number is signed.
+Reads a program file or the text of a program, as in 'hogvax help assemble', and
+prints the program's code: 'code COUNT', then a line for each instruction, which
+has its address, opcode, byte 1, operand and number. All are decimal, and the
+number is signed.
 
 If the program can't be translated, it prints 'refused NUMBER PLACE', with the
-same number and place as 'hogvax check'.
+same number and place as 'hogvax check'. A text is refused as there.
 
 Example:
   $ ./hogvax listing samples/programs/sum.program
@@ -39,13 +41,12 @@ Example:
 };
 
 fn run(words: &[OsString]) -> Option<Outcome> {
-    Words::sort(words, &[])?.one_file().map(listing)
+    let file = Words::sort(words, &[])?.one_file()?;
+    Some(text::print_of_program(file, listing))
 }
 
-/// A longer file than the longest is 1 at 0, so one byte more tells all.
-fn listing(file: &OsStr) -> Outcome {
-    let input = streams::read_at_most(file, hogvax::LONGEST_FILE + 1)?;
-    text::print(hogvax::translate(&input).map(|code| listed(&code)))
+fn listing(program: &[u8]) -> Result<String, Refused> {
+    hogvax::translate(program).map(|code| listed(&code))
 }
 
 /// The listing of code, 8 bytes an instruction.

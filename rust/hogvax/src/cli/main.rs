@@ -3,21 +3,30 @@
 #![forbid(unsafe_code)]
 
 mod answer;
+mod assemble;
 mod check;
 mod data;
+mod draw;
 mod help;
+mod input;
 mod listing;
+mod newick;
 mod outcome;
 mod pack;
 mod perform;
+mod programs;
+mod progress;
 mod refusals;
 mod run;
 mod runs;
+mod show;
 mod source;
 mod space;
 mod streams;
 mod text;
+mod tokens;
 mod tree;
+mod trees;
 mod unpack;
 mod verbs;
 mod why;

@@ -14,13 +14,13 @@ pub const VERB: Verb = Verb {
     options: "[--fuel N] [--space M] [--most-space M] [--out FILE] [--partial]",
     summary: "what a program gives on a token file",
     description: "\
-Checks the program of a program file, translates it and runs its code over the
-token bytes of FILE. A tree that the program gives goes to standard output or
-into the file of --out, as tokens; a number goes there as text, on a line of its
-own. On standard error it prints 'ended units U read R written W number X': the
-instructions performed, the bytes read and written, and the number, 0 if the
-program gives a tree. A run reads one tree, which begins FILE; bytes after that
-tree are not looked at.
+Checks a program, translates it and runs its code over the token bytes of FILE.
+PROGRAM is a program file or a text, as in 'hogvax help assemble'. A tree that
+the program gives goes to standard output or into the file of --out, as tokens;
+a number goes there as text, on a line of its own. On standard error it prints
+'ended units U read R written W number X': the instructions performed, the bytes
+read and written, and the number, 0 if the program gives a tree. A run reads one
+tree, which begins FILE; bytes after that tree are not looked at.
 
 If the program or the run is refused, it writes no data and prints 'refused
 NUMBER PLACE units U read R written W number 0' on standard error. The number is
@@ -28,6 +28,9 @@ NUMBER PLACE units U read R written W number 0' on standard error. The number is
 0. It is 14 to 18 if the run is, and the place is then the bytes read. 'hogvax
 why NUMBER' says more. With --partial it still writes what the run wrote before
 the refusal.
+
+What is wrong with a text is said on standard error, too, with line and column.
+A text that can't be read is 'refused FILE:LINE:COLUMN:' and what is wrong.
 
 N is how many instructions may be performed. Without --fuel it is the most that
 there can be, 18446744073709551615: a program that is checked always ends, or is
@@ -59,5 +62,5 @@ const RUN: RunVerb<Ran> = RunVerb {
 };
 
 fn run(words: &[OsString]) -> Option<Outcome> {
-    RUN.run(words)
+    RUN.run_program(words)
 }

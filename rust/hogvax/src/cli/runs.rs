@@ -7,9 +7,11 @@ use hogvax::WorkSpace;
 
 use crate::answer::Answer;
 use crate::data::{self, OUT};
+use crate::input;
 use crate::outcome::{Outcome, Trouble};
+use crate::programs::{self, Given, Program};
+use crate::progress::{size, Progress};
 use crate::space::{Space, MOST_SPACE, SPACE};
-use crate::streams;
 use crate::words::{Takes, Words};
 
 /// The option that says how many instructions may be performed, or how many
@@ -30,6 +32,9 @@ const OPTIONS: [(&str, Takes); 4] = [
 /// A call of the library: a work space, what is to be run, the input, the fuel
 /// and the output.
 type Call<A> = fn(&mut WorkSpace, &[u8], &[u8], u64, &mut [u8]) -> A;
+
+/// Reads a verb's first file, of which so many bytes decide.
+type Load = fn(&OsStr, usize) -> Result<Given, Trouble>;
 
 /// A verb that runs its first file over the bytes of its second, and whose run
 /// answers so.
@@ -53,16 +58,29 @@ impl<A: Answer> RunVerb<A> {
     /// Takes the words that follow the verb: two files, of which the second
     /// may be left out, and the options.
     pub fn run(&self, words: &[OsString]) -> Option<Outcome> {
+        self.run_given(words, |file, longest| {
+            let bytes = input::read_at_most(file, longest)?;
+            Ok(Given::Program(Program::from_file(bytes)))
+        })
+    }
+
+    /// The same, where the first file is a program, which may be a text.
+    pub fn run_program(&self, words: &[OsString]) -> Option<Outcome> {
+        self.run_given(words, programs::load)
+    }
+
+    fn run_given(&self, words: &[OsString], load: Load) -> Option<Outcome> {
         let mut options = OPTIONS.to_vec();
         if self.partial {
             options.push((PARTIAL, Takes::Nothing));
         }
         let words = Words::sort(words, &options)?;
-        let (first, file) = words.two_files()?;
-        Some(self.run_files(first, file, &words))
+        let files = words.two_files()?;
+        Some(self.run_files(files, load, &words))
     }
 
-    fn run_files(&self, first: &OsStr, file: &OsStr, words: &Words) -> Outcome {
+    fn run_files(&self, files: (&OsStr, &OsStr), load: Load, words: &Words) -> Outcome {
+        let (first, file) = files;
         if first == "-" && file == "-" {
             let name = self.name;
             return Err(Trouble(format!(
@@ -71,18 +89,50 @@ impl<A: Answer> RunVerb<A> {
         }
         let fuel = (self.fuel)(words.number(FUEL)?)?;
         let space = Space::asked(words)?;
-        let first = streams::read_at_most(first, self.longest)?;
-        let input = streams::read(file)?;
+        let first = load(first, self.longest)?;
+        let input = input::read(file)?;
+        let first = match first {
+            Given::Program(first) => first,
+            Given::Unread(line) => return data::refuse(&line),
+        };
+        let (answer, data) = match &first.file {
+            Ok(bytes) => self.make_run(bytes, &input, fuel, &space)?,
+            Err(refused) => (A::not_begun(*refused), Vec::new()),
+        };
+        let ended = hand_out(&answer, &data, words)?;
+        first.tell_of_text(answer.refused())?;
+        Ok(ended)
+    }
+
+    /// Runs the first file's bytes: the answer, and the data that goes out, or
+    /// what was written before a refusal.
+    fn make_run(
+        &self,
+        first: &[u8],
+        input: &[u8],
+        fuel: u64,
+        space: &Space,
+    ) -> Result<(A, Vec<u8>), Trouble> {
         let mut work = WorkSpace::new();
+        let running = Progress::of(&format!("running over {}", size(input.len())));
         let (answer, written) = space.run(input.len(), |output| {
-            (self.call)(&mut work, &first, &input, fuel, output)
+            (self.call)(&mut work, first, input, fuel, output)
         })?;
-        let (out, line) = (data::destination(words), answer.to_string());
-        match answer.refused() {
-            None => data::hand_out(&(self.data)(&first, &answer, written), out, &line),
-            Some(_) if words.has(PARTIAL) => data::refuse_after(&written, out, &line),
-            Some(_) => data::refuse(&line),
-        }
+        drop(running);
+        let data = match answer.refused() {
+            None => (self.data)(first, &answer, written),
+            Some(_) => written,
+        };
+        Ok((answer, data))
+    }
+}
+
+fn hand_out(answer: &impl Answer, data: &[u8], words: &Words) -> Outcome {
+    let (out, line) = (data::destination(words), answer.to_string());
+    match answer.refused() {
+        None => data::hand_out(data, out, &line),
+        Some(_) if words.has(PARTIAL) => data::refuse_after(data, out, &line),
+        Some(_) => data::refuse(&line),
     }
 }
 

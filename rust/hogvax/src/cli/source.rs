@@ -14,14 +14,14 @@ pub const VERB: Verb = Verb {
     options: "[--fuel N] [--space M] [--most-space M] [--out FILE]",
     summary: "what a program means, its trees in order or not",
     description: "\
-Evaluates the program of a program file on the tree that begins FILE, expression
-by expression, and translates nothing. The program need not take its trees in
-order, so it may be one that 'hogvax check' refuses with 11 or 12. A tree that
-it gives goes to standard output or into the file of --out, as tokens; a number
-goes there as text, on a line of its own. On standard error it prints 'ended
-begun B written W number X': the expressions begun, the bytes written, and the
-number, 0 if the program gives a tree. Bytes after the tree in FILE are not
-looked at.
+Evaluates a program on the tree that begins FILE, expression by expression, and
+translates nothing. PROGRAM is a program file or a text, as in 'hogvax help
+assemble'. The program need not take its trees in order, so it may be one that
+'hogvax check' refuses with 11 or 12. A tree that it gives goes to standard
+output or into the file of --out, as tokens; a number goes there as text, on a
+line of its own. On standard error it prints 'ended begun B written W number X':
+the expressions begun, the bytes written, and the number, 0 if the program gives
+a tree. Bytes after the tree in FILE are not looked at.
 
 If the program, the input or the run is refused, it writes no data and prints
 'refused NUMBER PLACE begun B written 0 number 0' on standard error. The number
@@ -29,6 +29,9 @@ is 1 to 10 if the program is refused, as in 'hogvax help check', and 15, 16 or
 20 if no tree begins FILE, as in 'hogvax help tree'; B is then 0. It is 14 if
 the fuel is used up, 18 if too many calls are open and 17 if the output is
 shorter than the result, and the place is then 0. 'hogvax why NUMBER' says more.
+
+What is wrong with a text is said on standard error, too, with line and column.
+A text that can't be read is 'refused FILE:LINE:COLUMN:' and what is wrong.
 
 N is how many expressions may be begun, 1000000000 if --fuel is left out: a
 program that takes a tree more than once may begin more than any time allows.
@@ -61,7 +64,7 @@ const SOURCE: RunVerb<Sourced> = RunVerb {
 };
 
 fn run(words: &[OsString]) -> Option<Outcome> {
-    SOURCE.run(words)
+    SOURCE.run_program(words)
 }
 
 #[cfg(test)]

@@ -1,39 +1,12 @@
-//! Input and output. `-` stands for standard input or output.
+//! Output. `-` stands for standard output.
 
 use std::ffi::OsStr;
 use std::fmt::Display;
-use std::fs::{self, File};
-use std::io::{self, Read, Write};
+use std::fs;
+use std::io::{self, BufWriter, Write};
 use std::path::Path;
 
 use crate::outcome::Trouble;
-
-/// All bytes of a file.
-pub fn read(file: &OsStr) -> Result<Vec<u8>, Trouble> {
-    read_by(file, |input, bytes| input.read_to_end(bytes))
-}
-
-/// The first bytes of a file, so many or as many as there are.
-pub fn read_at_most(file: &OsStr, most: usize) -> Result<Vec<u8>, Trouble> {
-    read_by(file, |input, bytes| {
-        input.take(most as u64).read_to_end(bytes)
-    })
-}
-
-fn read_by(
-    file: &OsStr,
-    read: impl FnOnce(&mut dyn Read, &mut Vec<u8>) -> io::Result<usize>,
-) -> Result<Vec<u8>, Trouble> {
-    let mut bytes = Vec::new();
-    if file == "-" {
-        read(&mut io::stdin().lock(), &mut bytes).map_err(trouble("standard input"))?;
-    } else {
-        File::open(file)
-            .and_then(|mut input| read(&mut input, &mut bytes))
-            .map_err(trouble(Path::new(file).display()))?;
-    }
-    Ok(bytes)
-}
 
 /// Writes data to a file, which is made or made anew.
 pub fn write(file: &OsStr, data: &[u8]) -> Result<(), Trouble> {
@@ -46,6 +19,13 @@ pub fn write(file: &OsStr, data: &[u8]) -> Result<(), Trouble> {
 /// Writes text to standard output. `print!` would panic where that fails.
 pub fn print(text: &str) -> Result<(), Trouble> {
     write(OsStr::new("-"), text.as_bytes())
+}
+
+/// Writes text to standard output as it comes: it may be too long to be held.
+pub fn print_long(text: &dyn Display) -> Result<(), Trouble> {
+    let mut output = BufWriter::with_capacity(1 << 16, io::stdout().lock());
+    let written = write!(output, "{text}").and_then(|()| output.flush());
+    written.map_err(trouble("standard output"))
 }
 
 /// Writes a line to standard error, where the answer stands beside data.

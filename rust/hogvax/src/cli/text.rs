@@ -1,8 +1,11 @@
 //! Verbs that print their answer on standard output.
 
+use std::ffi::OsStr;
+
 use hogvax::Refused;
 
 use crate::outcome::{Ended, Outcome};
+use crate::programs::{self, Given};
 use crate::streams;
 
 /// Prints a verb's answer, or the line that tells its refusal.
@@ -12,9 +15,31 @@ pub fn print(answer: Result<String, Refused>) -> Outcome {
             streams::print(&text)?;
             Ok(Ended::Done)
         }
-        Err(refused) => {
-            streams::print(&format!("{refused}\n"))?;
-            Ok(Ended::Refused)
-        }
+        Err(refused) => refuse(&refused.to_string()),
     }
+}
+
+fn refuse(line: &str) -> Outcome {
+    streams::print(&format!("{line}\n"))?;
+    Ok(Ended::Refused)
+}
+
+/// Prints what a verb answers of the program file or text in this file. A
+/// longer program file than the longest is 1 at 0, so one byte more tells all.
+pub fn print_of_program(
+    file: &OsStr,
+    answer: impl FnOnce(&[u8]) -> Result<String, Refused>,
+) -> Outcome {
+    let program = match programs::load(file, hogvax::LONGEST_FILE + 1)? {
+        Given::Program(program) => program,
+        Given::Unread(line) => return refuse(&line),
+    };
+    let answer = match &program.file {
+        Ok(file) => answer(file),
+        Err(refused) => Err(*refused),
+    };
+    let refused = answer.as_ref().err().copied();
+    let ended = print(answer)?;
+    program.tell_of_text(refused)?;
+    Ok(ended)
 }

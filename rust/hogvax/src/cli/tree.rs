@@ -2,8 +2,8 @@
 
 use std::ffi::{OsStr, OsString};
 
+use crate::input;
 use crate::outcome::Outcome;
-use crate::streams;
 use crate::text;
 use crate::verbs::Verb;
 use crate::words::Words;
@@ -31,6 +31,6 @@ fn run(words: &[OsString]) -> Option<Outcome> {
 }
 
 fn tree(file: &OsStr) -> Outcome {
-    let input = streams::read(file)?;
+    let input = input::read(file)?;
     text::print(hogvax::tree(&input).map(|bytes| format!("tree {bytes}\n")))
 }

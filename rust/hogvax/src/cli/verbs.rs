@@ -2,14 +2,19 @@
 
 use std::ffi::{OsStr, OsString};
 
+use crate::assemble;
 use crate::check;
+use crate::draw;
 use crate::help;
 use crate::listing;
+use crate::newick;
 use crate::outcome::{Outcome, Trouble};
 use crate::pack;
 use crate::perform;
 use crate::run;
+use crate::show;
 use crate::source;
+use crate::tokens;
 use crate::tree;
 use crate::unpack;
 use crate::why;
@@ -33,6 +38,8 @@ pub struct Verb {
 /// All verbs, in the order in which they are listed.
 pub const VERBS: &[Verb] = &[
     tree::VERB,
+    assemble::VERB,
+    show::VERB,
     pack::VERB,
     unpack::VERB,
     check::VERB,
@@ -40,6 +47,9 @@ pub const VERBS: &[Verb] = &[
     perform::VERB,
     run::VERB,
     source::VERB,
+    newick::VERB,
+    tokens::VERB,
+    draw::VERB,
     why::VERB,
     help::VERB,
 ];

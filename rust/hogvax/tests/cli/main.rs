@@ -1,13 +1,21 @@
 //! The command line: what each verb prints, and its exit status.
 
+mod assemble;
 mod check;
+mod draw;
+mod explanations;
 mod listing;
+mod newick;
 mod perform;
 mod programs;
+mod progress;
 mod run;
 mod runs;
+mod show;
 mod source;
 mod stream;
+mod texts;
+mod tokens;
 mod tree;
 mod why;
 
@@ -18,8 +26,9 @@ use std::process::{Child, Command, Output, Stdio};
 
 use reference::{lay_out, Expr, Function, Program};
 
-const VERBS: [&str; 10] = [
-    "tree", "pack", "unpack", "check", "listing", "perform", "run", "source", "why", "help",
+const VERBS: [&str; 15] = [
+    "tree", "assemble", "show", "pack", "unpack", "check", "listing", "perform", "run", "source",
+    "newick", "tokens", "draw", "why", "help",
 ];
 
 /// Document 01: "Tree T: 02 01 05 00 00 00 01 07 00 00 00."
@@ -195,9 +204,12 @@ fn example(verb: &str) -> (Vec<String>, String) {
         Some(name) => sample(name),
         None => word.to_owned(),
     };
+    // The lines of an example are indented by two blanks.
+    let lines = lines.split_inclusive('\n');
+    let line = |line| str::strip_prefix(line, "  ").unwrap_or(line);
     (
         words.split(' ').map(word).collect(),
-        lines.replace("  ", ""),
+        lines.map(line).collect(),
     )
 }
 

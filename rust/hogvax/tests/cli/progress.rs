@@ -1,0 +1,43 @@
+//! What a long call tells while it goes on.
+
+use std::thread;
+use std::time::Duration;
+
+use super::*;
+
+/// Longer than the second before which nothing is told.
+const LONG: Duration = Duration::from_millis(1_500);
+
+/// Standard error is no terminal here: it has the answer alone.
+#[test]
+fn progress_is_not_told_to_a_pipe() {
+    let mut child = piped(&["run", &sample("programs/sum.program")]);
+    thread::sleep(LONG);
+    child.stdin.take().unwrap().write_all(&T).unwrap();
+    let output = child.wait_with_output().unwrap();
+    let line = "ended units 17 read 11 written 0 number 12\n";
+    assert_gives(&output, 0, b"12\n", line);
+}
+
+/// `script` gives a command a terminal; where there is none, what a terminal is
+/// told is tested in the module alone.
+#[cfg(target_os = "linux")]
+#[test]
+fn progress_is_told_to_a_terminal_and_wiped() {
+    let quoted = |word: &str| format!("'{}'", word.replace('\'', "'\\''"));
+    let hogvax = quoted(env!("CARGO_BIN_EXE_hogvax"));
+    let program = quoted(&sample("programs/sum.program"));
+    let tokens = quoted(&sample("small.tokens"));
+    let line = format!("(sleep 3; cat {tokens}) | {hogvax} run {program}");
+    let mut command = Command::new("script");
+    command.args(["-qec", &line, "/dev/null"]);
+    let output = match command.stdin(Stdio::null()).output() {
+        Ok(output) => output,
+        Err(error) if error.kind() == ErrorKind::NotFound => return,
+        Err(error) => panic!("{error}"),
+    };
+    let told = String::from_utf8(output.stdout).unwrap();
+    assert!(told.starts_with("\rhogvax: reading, 1 s\x1b[K\r"), "{told}");
+    let answer = "12\r\nended units 17 read 11 written 0 number 12\r\n";
+    assert!(told.ends_with(&format!("\r\x1b[K{answer}")), "{told}");
+}

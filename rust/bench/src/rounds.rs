@@ -1,8 +1,9 @@
-//! What the benchmarks share: rounds of two ways in turn, what they took, and
-//! trees.
+//! What the benchmarks share: rounds of two ways in turn, what they took,
+//! programs, and trees.
 
 #![forbid(unsafe_code)]
 
+pub mod programs;
 pub mod trees;
 
 use std::time::Instant;

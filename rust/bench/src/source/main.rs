@@ -8,10 +8,11 @@ mod inputs;
 mod tests;
 mod ways;
 
+use bench::programs::{programs, Program};
 use bench::{in_turn, seconds, Spread};
 use reference::source::{prepared, Prepared};
 
-use inputs::{inputs, programs, Input, Program};
+use inputs::{inputs, Input};
 use ways::{pass, sourced, Way, WAYS};
 
 const ROUNDS: usize = 9;

@@ -2,10 +2,9 @@
 
 use std::hint::black_box;
 
+use bench::programs::Program;
 use hogvax::{Refused, Sourced, WorkSpace};
 use reference::source::Prepared;
-
-use crate::inputs::Program;
 
 #[derive(Clone, Copy)]
 pub enum Way {

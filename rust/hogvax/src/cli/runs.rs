@@ -7,11 +7,12 @@ use hogvax::WorkSpace;
 
 use crate::answer::Answer;
 use crate::data::{self, OUT};
-use crate::input;
+use crate::input::{self, Opening};
 use crate::outcome::{Outcome, Trouble};
 use crate::programs::{self, Given, Program};
 use crate::progress::{size, Progress};
 use crate::space::{Space, MOST_SPACE, SPACE};
+use crate::trees::is_too_short;
 use crate::words::{Takes, Words};
 
 /// The option that says how many instructions may be performed, or how many
@@ -28,6 +29,11 @@ const OPTIONS: [(&str, Takes); 4] = [
     (MOST_SPACE, Takes::Number),
     (OUT, Takes::File),
 ];
+
+/// So many bytes of the input are read at first: it may be endless, and what
+/// stands behind a tree is not looked at. Where a run needs more, it is made
+/// again over twice as many.
+const FIRST_INPUT: usize = 1 << 28;
 
 /// A call of the library: a work space, what is to be run, the input, the fuel
 /// and the output.
@@ -90,13 +96,16 @@ impl<A: Answer> RunVerb<A> {
         let fuel = (self.fuel)(words.number(FUEL)?)?;
         let space = Space::asked(words)?;
         let first = load(first, self.longest)?;
-        let input = input::read(file)?;
+        let mut input = Opening::read(file, FIRST_INPUT)?;
         let first = match first {
             Given::Program(first) => first,
             Given::Unread(line) => return data::refuse(&line),
         };
         let (answer, data) = match &first.file {
-            Ok(bytes) => self.make_run(bytes, &input, fuel, &space)?,
+            Ok(bytes) => input.answer(
+                |(answer, _): &(A, Vec<u8>)| answer.refused().as_ref().is_some_and(is_too_short),
+                |input| self.make_run(bytes, input, fuel, &space),
+            )?,
             Err(refused) => (A::not_begun(*refused), Vec::new()),
         };
         let ended = hand_out(&answer, &data, words)?;

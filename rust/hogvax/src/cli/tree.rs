@@ -2,9 +2,9 @@
 
 use std::ffi::{OsStr, OsString};
 
-use crate::input;
 use crate::outcome::Outcome;
 use crate::text;
+use crate::trees;
 use crate::verbs::Verb;
 use crate::words::Words;
 
@@ -31,6 +31,6 @@ fn run(words: &[OsString]) -> Option<Outcome> {
 }
 
 fn tree(file: &OsStr) -> Outcome {
-    let input = input::read(file)?;
-    text::print(hogvax::tree(&input).map(|bytes| format!("tree {bytes}\n")))
+    let answer = trees::first_tree(file)?;
+    text::print(answer.map(|bytes| format!("tree {bytes}\n")))
 }

@@ -5,15 +5,31 @@ use std::ops::Range;
 
 use hogvax::Refused;
 
-use crate::input::Input;
+use crate::input::Opening;
 use crate::outcome::Trouble;
-use crate::progress::Progress;
 
-/// The refusal of a tree whose bytes end too early.
+/// The refusal of a tree, or of a run, whose input ends too early.
 const INPUT_ENDED: u32 = 15;
 
-/// So many bytes are read at first.
+/// So many bytes are read at first, and then as many again where a tree is
+/// longer.
 const FIRST: usize = 1 << 20;
+
+/// Whether a refusal says that there is too little input.
+pub fn is_too_short(refused: &Refused) -> bool {
+    refused.number == INPUT_ENDED
+}
+
+/// What the tree reader says of the tree that begins a file.
+pub fn first_tree(file: &OsStr) -> Result<Result<usize, Refused>, Trouble> {
+    read_tree(&mut Opening::read(file, FIRST)?, 0)
+}
+
+/// What the tree reader says of the bytes from this place on.
+fn read_tree(opening: &mut Opening, start: usize) -> Result<Result<usize, Refused>, Trouble> {
+    let needs_more = |answer: &Result<usize, Refused>| answer.as_ref().is_err_and(is_too_short);
+    opening.answer(needs_more, |bytes| Ok(hogvax::tree(&bytes[start..])))
+}
 
 /// What follows the trees that are read.
 enum Next {
@@ -27,8 +43,7 @@ enum Next {
 
 /// Token bytes, trees back to back. No more are read than the answer needs.
 pub struct Trees {
-    input: Input,
-    bytes: Vec<u8>,
+    opening: Opening,
     /// Where the trees that are read end.
     end: usize,
 }
@@ -39,20 +54,16 @@ type Answer<'a> = Result<Result<&'a [u8], Refused>, Trouble>;
 
 impl Trees {
     pub fn open(file: &OsStr) -> Result<Trees, Trouble> {
-        Ok(Trees {
-            input: Input::open(file)?,
-            bytes: Vec::new(),
-            end: 0,
-        })
+        let opening = Opening::read(file, FIRST)?;
+        Ok(Trees { opening, end: 0 })
     }
 
     /// The bytes of all trees.
     pub fn all(&mut self) -> Answer<'_> {
-        let _reading = Progress::of("reading trees");
         loop {
             match self.next()? {
                 Next::Tree(_) => {}
-                Next::End => return Ok(Ok(&self.bytes)),
+                Next::End => return Ok(Ok(self.opening.bytes())),
                 Next::Refused(refused) => return Ok(Err(refused)),
             }
         }
@@ -60,18 +71,17 @@ impl Trees {
 
     /// The bytes of the tree with this number. The first one has 1.
     pub fn tree(&mut self, number: u64) -> Answer<'_> {
-        let _reading = Progress::of("reading trees");
         let mut count = 0;
         loop {
             match self.next()? {
                 Next::Tree(tree) => {
                     count += 1;
                     if count == number {
-                        return Ok(Ok(&self.bytes[tree]));
+                        return Ok(Ok(&self.opening.bytes()[tree]));
                     }
                 }
                 Next::End => {
-                    let name = self.input.name();
+                    let name = self.opening.name();
                     let message = format!("{name}: no tree {number}; trees in it: {count}");
                     return Err(Trouble(message));
                 }
@@ -81,32 +91,17 @@ impl Trees {
     }
 
     fn next(&mut self) -> Result<Next, Trouble> {
-        loop {
-            let start = self.end;
-            let refused = match hogvax::tree(&self.bytes[start..]) {
-                Ok(length) => {
-                    self.end += length;
-                    return Ok(Next::Tree(start..self.end));
-                }
-                Err(refused) => refused,
-            };
-            if refused.number == INPUT_ENDED && self.read_more()? {
-                continue;
+        let start = self.end;
+        Ok(match read_tree(&mut self.opening, start)? {
+            Ok(length) => {
+                self.end += length;
+                Next::Tree(start..self.end)
             }
-            if start == self.bytes.len() {
-                return Ok(Next::End);
-            }
-            return Ok(Next::Refused(Refused {
+            Err(_) if start == self.opening.bytes().len() => Next::End,
+            Err(refused) => Next::Refused(Refused {
                 place: start as u64 + refused.place,
                 ..refused
-            }));
-        }
-    }
-
-    /// Reads as much again as there is, so that a long tree is not begun too
-    /// often. Whether there was more.
-    fn read_more(&mut self) -> Result<bool, Trouble> {
-        let most = self.bytes.len().max(FIRST);
-        self.input.read_more(&mut self.bytes, most)
+            }),
+        })
     }
 }

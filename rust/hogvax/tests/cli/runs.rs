@@ -140,6 +140,22 @@ fn what_stands_behind_the_tree_does_not_matter() {
 }
 
 /// Every label of a long tree is 1 more.
+/// No more is read than some hundred megabytes, and a run needs less.
+#[cfg(target_os = "linux")]
+#[test]
+fn endless_inputs_are_refused() {
+    for verb in ALL {
+        let (grow, fuel) = (verb.grow(), verb.fuel());
+        let words = [&[verb.name, &grow, "/dev/zero"], &fuel[..]].concat();
+        let counts = match verb.name {
+            "source" => "begun 0",
+            _ => "units 0 read 0",
+        };
+        let line = format!("refused 16 0 {counts} written 0 number 0\n");
+        assert_gives(&run(&words), 1, &[], &line);
+    }
+}
+
 #[test]
 fn long_trees_go_through() {
     use reference::Token::{Leaf, Node};

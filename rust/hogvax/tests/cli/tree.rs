@@ -35,6 +35,30 @@ fn tree_reads_large_inputs() {
     assert_says(&run_on(&["tree"], &input), 0, "tree 11\n");
 }
 
+/// The tree is longer than what is read of it at first.
+#[test]
+fn tree_reads_long_trees() {
+    let tree = (0..19).fold(vec![1, 5, 0, 0, 0], |tree, _| {
+        [&[2], &tree[..], &tree[..]].concat()
+    });
+    let length = 6 * (1 << 19) - 1;
+    assert_eq!(tree.len(), length);
+    let answer = format!("tree {length}\n");
+    assert_says(&run_on(&["tree"], &tree), 0, &answer);
+    let behind = [&tree[..], &[3; 3]].concat();
+    assert_says(&run_on(&["tree"], &behind), 0, &answer);
+    let (short, place) = (&tree[..length - 1], length - 4);
+    let refused = format!("refused 15 {place}\n");
+    assert_says(&run_on(&["tree"], short), 1, &refused);
+}
+
+/// No more is read than the answer needs.
+#[cfg(target_os = "linux")]
+#[test]
+fn tree_refuses_endless_inputs() {
+    assert_says(&run(&["tree", "/dev/zero"]), 1, "refused 16 0\n");
+}
+
 #[test]
 fn tree_tells_of_files_that_cannot_be_read() {
     let message = trouble(run(&["tree", "no-such-file"]));

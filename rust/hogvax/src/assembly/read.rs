@@ -147,21 +147,18 @@ struct Reader {
 
 impl Reader {
     fn read(&mut self, line: &Line) -> Result<(), Fault> {
-        let Some((name, words)) = line.words.split_first() else {
-            return match line.number {
-                None => Ok(()),
-                Some(number) => Err(number.fault("a number without a record".to_owned())),
-            };
-        };
         let function = line.is_a_function();
-        if self.functions.is_empty() && !function {
-            return Err(name.fault(BEGINNING.to_owned()));
-        }
-        let (own, taken) = match function {
-            true => (1 + self.functions.len(), self.function(name, words)),
-            false => (self.first_node + self.nodes.len(), self.node(name, words)),
+        let own = match function {
+            true => 1 + self.functions.len(),
+            false => self.first_node + self.nodes.len(),
         };
-        taken.map_err(|fault| in_record(own, fault))?;
+        let read = match (line.words.split_first(), line.number) {
+            (Some((name, words)), _) if function => self.function(name, words),
+            (Some((name, words)), _) => self.node(name, words),
+            (None, Some(number)) => Err(number.fault("a number without a record".to_owned())),
+            (None, None) => Ok(()),
+        };
+        read.map_err(|fault| in_record(own, fault))?;
         self.compare(line.number, own);
         Ok(())
     }
@@ -178,16 +175,17 @@ impl Reader {
     }
 
     fn node(&mut self, name: &Word, words: &[Word]) -> Result<(), Fault> {
+        let Some((function, _)) = self.functions.last_mut() else {
+            return Err(name.fault(BEGINNING.to_owned()));
+        };
         if self.nodes.len() == MOST_NODES {
             let message = "a header counts up to 65535 nodes, and this is one more";
             return Err(name.fault(message.to_owned()));
         }
         let record = parse::node(name, words)?;
         self.nodes.push((record, name.place));
-        if let Some((function, _)) = self.functions.last_mut() {
-            // Its field b counts its nodes.
-            function.b += 1;
-        }
+        // Its field b counts its nodes.
+        function.b += 1;
         Ok(())
     }
 

@@ -63,14 +63,14 @@ fn words_are_shown_so_that_they_can_be_read() {
 #[test]
 fn a_text_begins_with_a_function_line() {
     let message = "a text begins with a function line: function 0 takes tree 0 gives tree";
-    for (text, place) in [
-        ("Case 0", "1:1"),
-        ("\n # x\n  hello world", "3:3"),
-        ("3 Case 0\nfunction 0 takes tree 0 gives tree", "1:3"),
-        ("((1,2),3);", "1:1"),
-        (",", "1:1"),
+    for (text, place, record) in [
+        ("Case 0", "1:1", 1),
+        ("\n # x\n  hello world", "3:3", 1),
+        ("3 Case 0\nfunction 0 takes tree 0 gives tree", "1:3", 2),
+        ("((1,2),3);", "1:1", 1),
+        (",", "1:1", 1),
     ] {
-        assert_told(text, &format!("{place}: {message}"));
+        assert_told(text, &format!("{place}: record {record}: {message}"));
     }
 }
 

@@ -109,6 +109,6 @@ fn a_line_that_cannot_be_read_is_told_before_a_wrong_number() {
 #[test]
 fn a_number_needs_a_record() {
     let text = "function 0 takes tree 0 gives tree\n  2  # Call 0 on 0";
-    assert_eq!(fault(text), "2:3: a number without a record");
-    assert_eq!(fault("1"), "1:1: a number without a record");
+    assert_eq!(fault(text), "2:3: record 2: a number without a record");
+    assert_eq!(fault("1"), "1:1: record 1: a number without a record");
 }

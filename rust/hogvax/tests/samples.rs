@@ -1,22 +1,15 @@
 //! The samples are what `samples/README.md` says.
 
+#[path = "shared/folder.rs"]
+mod folder;
+
 use std::fs;
 use std::path::{Path, PathBuf};
-use std::process::{Command, Output, Stdio};
+use std::process::{Command, Stdio};
 
+use folder::{bytes, files, hogvax_at_root, samples};
 use hogvax::Refused;
 use reference::{Expr, Function, Program, Tree};
-
-/// A folder or file of the samples.
-fn samples(name: &str) -> PathBuf {
-    Path::new(env!("CARGO_MANIFEST_DIR"))
-        .join("../../samples")
-        .join(name)
-}
-
-fn bytes(name: &str) -> Vec<u8> {
-    fs::read(samples(name)).unwrap_or_else(|error| panic!("{name}: {error}"))
-}
 
 // The programs
 
@@ -110,15 +103,6 @@ fn programs() -> [(&'static str, Program); 6] {
 }
 
 // Their files
-
-/// The names of all files in a folder of the samples.
-fn files(folder: &str) -> Vec<String> {
-    let entries = fs::read_dir(samples(folder)).unwrap();
-    let name = |entry: fs::DirEntry| entry.file_name().into_string().unwrap();
-    let mut names: Vec<String> = entries.map(|entry| name(entry.unwrap())).collect();
-    names.sort();
-    names
-}
 
 #[test]
 fn there_are_no_other_programs() {
@@ -227,13 +211,6 @@ fn tokens(text: &str) -> Vec<u8> {
     let (tree, rest) = tree(text);
     assert_eq!(rest, "");
     tree.tokens()
-}
-
-/// Runs the command line with these words at the root of the repository.
-fn hogvax_at_root(words: &[&str]) -> Output {
-    let mut command = Command::new(env!("CARGO_BIN_EXE_hogvax"));
-    command.current_dir(samples("..")).stdin(Stdio::null());
-    command.args(words).output().unwrap()
 }
 
 #[test]

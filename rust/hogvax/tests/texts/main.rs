@@ -2,6 +2,8 @@
 //! is said of them.
 
 mod files;
+#[path = "../shared/folder.rs"]
+mod folder;
 mod meanings;
 mod runs;
 mod trees;
@@ -21,32 +23,10 @@ mod readme;
 #[path = "../shared/trial.rs"]
 mod trial;
 
-use std::fs;
-use std::path::{Path, PathBuf};
-use std::process::{Command, Output, Stdio};
-
+use folder::{bytes, files, hogvax_at_root, samples};
 use hogvax::assembly;
 use meanings::MEANINGS;
 use reference::{read_tree, Tree};
-
-/// A file or folder of the samples.
-fn samples(name: &str) -> PathBuf {
-    let root = Path::new(env!("CARGO_MANIFEST_DIR")).join("../..");
-    root.join("samples").join(name)
-}
-
-fn bytes(name: &str) -> Vec<u8> {
-    fs::read(samples(name)).unwrap_or_else(|error| panic!("{name}: {error}"))
-}
-
-/// The names of all files in a folder of the samples.
-fn files(folder: &str) -> Vec<String> {
-    let entries = fs::read_dir(samples(folder)).unwrap();
-    let name = |entry: fs::DirEntry| entry.file_name().into_string().unwrap();
-    let mut names: Vec<String> = entries.map(|entry| name(entry.unwrap())).collect();
-    names.sort();
-    names
-}
 
 /// The programs' names: those of their files without the ending.
 fn names() -> impl Iterator<Item = &'static str> {
@@ -79,11 +59,4 @@ fn trees_in(bytes: &[u8]) -> Vec<(Tree, usize)> {
         place += length;
     }
     trees
-}
-
-/// Runs the command line with these words at the root of the repository.
-fn hogvax_at_root(words: &[&str]) -> Output {
-    let mut command = Command::new(env!("CARGO_BIN_EXE_hogvax"));
-    command.current_dir(samples("..")).stdin(Stdio::null());
-    command.args(words).output().unwrap()
 }

@@ -10,7 +10,6 @@ use hogvax::draw::{Drawing, Strokes};
 
 use crate::outcome::{Ended, Outcome, Trouble};
 use crate::streams;
-use crate::text;
 use crate::trees::Trees;
 use crate::verbs::Verb;
 use crate::words::{self, Takes, Words};
@@ -96,7 +95,7 @@ fn draw(file: &OsStr, words: &Words) -> Outcome {
             streams::print_long(&drawing)?;
             Ok(Ended::Done)
         }
-        Err(refused) => text::print(Err(refused)),
+        Err(refused) => trees.print(Err(refused)),
     }
 }
 

@@ -3,7 +3,6 @@
 use std::ffi::{OsStr, OsString};
 
 use crate::outcome::Outcome;
-use crate::text;
 use crate::trees::Trees;
 use crate::verbs::Verb;
 use crate::words::Words;
@@ -35,5 +34,6 @@ fn run(words: &[OsString]) -> Option<Outcome> {
 
 fn newick(file: &OsStr) -> Outcome {
     let mut trees = Trees::open(file)?;
-    text::print(trees.all()?.and_then(hogvax::newick::print))
+    let text = trees.all()?.and_then(hogvax::newick::print);
+    trees.print(text)
 }

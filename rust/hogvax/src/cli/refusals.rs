@@ -226,7 +226,7 @@ reader, in a stream run and in a source run:
         name: "byte not 1 or 2",
         meaning: "\
 A tag is to be read, 1 for a leaf or 2 for a node, and another byte stands
-there.",
+there. Newick text is refused so: 'hogvax tokens' turns it into tokens.",
         place: "\
 that byte, counted from 0; in the stream run this is the bytes read.",
         example: "\

@@ -12,7 +12,7 @@ use crate::outcome::{Outcome, Trouble};
 use crate::programs::{self, Given, Program};
 use crate::progress::{size, Progress};
 use crate::space::{Space, MOST_SPACE, SPACE};
-use crate::trees::is_too_short;
+use crate::trees::{is_too_short, tell_of_newick};
 use crate::words::{Takes, Words};
 
 /// The option that says how many instructions may be performed, or how many
@@ -110,6 +110,7 @@ impl<A: Answer> RunVerb<A> {
         };
         let ended = hand_out(&answer, &data, words)?;
         first.tell_of_text(answer.refused())?;
+        tell_of_newick(&input, answer.refused())?;
         Ok(ended)
     }
 

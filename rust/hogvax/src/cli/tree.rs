@@ -3,8 +3,7 @@
 use std::ffi::{OsStr, OsString};
 
 use crate::outcome::Outcome;
-use crate::text;
-use crate::trees;
+use crate::trees::Trees;
 use crate::verbs::Verb;
 use crate::words::Words;
 
@@ -31,6 +30,7 @@ fn run(words: &[OsString]) -> Option<Outcome> {
 }
 
 fn tree(file: &OsStr) -> Outcome {
-    let answer = trees::first_tree(file)?;
-    text::print(answer.map(|bytes| format!("tree {bytes}\n")))
+    let mut trees = Trees::open(file)?;
+    let answer = trees.first()?;
+    trees.print(answer.map(|bytes| format!("tree {bytes}\n")))
 }

@@ -6,10 +6,15 @@ use std::ops::Range;
 use hogvax::Refused;
 
 use crate::input::Opening;
-use crate::outcome::Trouble;
+use crate::outcome::{Outcome, Trouble};
+use crate::streams;
+use crate::text;
 
 /// The refusal of a tree, or of a run, whose input ends too early.
 const INPUT_ENDED: u32 = 15;
+
+/// The refusal of a byte that is no tag.
+const NOT_A_TAG: u32 = 16;
 
 /// So many bytes are read at first, and then as many again where a tree is
 /// longer.
@@ -20,9 +25,21 @@ pub fn is_too_short(refused: &Refused) -> bool {
     refused.number == INPUT_ENDED
 }
 
-/// What the tree reader says of the tree that begins a file.
-pub fn first_tree(file: &OsStr) -> Result<Result<usize, Refused>, Trouble> {
-    read_tree(&mut Opening::read(file, FIRST)?, 0)
+/// Tells on standard error that an input looks like Newick text, if it was
+/// refused at its first byte and does: that is how people have their trees.
+pub fn tell_of_newick(input: &Opening, refused: Option<Refused>) -> Result<(), Trouble> {
+    let first = Refused {
+        number: NOT_A_TAG,
+        place: 0,
+    };
+    let begins = |byte: &u8| b"([".contains(byte);
+    if refused != Some(first) || !input.bytes().first().is_some_and(begins) {
+        return Ok(());
+    }
+    let name = input.name();
+    streams::tell(&format!(
+        "notice: {name} looks like Newick text, which 'hogvax tokens' turns into tokens"
+    ))
 }
 
 /// What the tree reader says of the bytes from this place on.
@@ -56,6 +73,19 @@ impl Trees {
     pub fn open(file: &OsStr) -> Result<Trees, Trouble> {
         let opening = Opening::read(file, FIRST)?;
         Ok(Trees { opening, end: 0 })
+    }
+
+    /// What the tree reader says of the first tree, which must be there.
+    pub fn first(&mut self) -> Result<Result<usize, Refused>, Trouble> {
+        read_tree(&mut self.opening, 0)
+    }
+
+    /// Prints a verb's answer, or the line that tells its refusal.
+    pub fn print(&self, answer: Result<String, Refused>) -> Outcome {
+        let refused = answer.as_ref().err().copied();
+        let ended = text::print(answer)?;
+        tell_of_newick(&self.opening, refused)?;
+        Ok(ended)
     }
 
     /// The bytes of all trees.

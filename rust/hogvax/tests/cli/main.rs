@@ -5,6 +5,7 @@ mod check;
 mod draw;
 mod explanations;
 mod listing;
+mod mistaken;
 mod newick;
 mod perform;
 mod programs;

@@ -172,6 +172,21 @@ fn draw_fills_the_columns_of_the_environment() {
     }
 }
 
+#[cfg(target_os = "linux")]
+#[test]
+fn draw_fills_the_columns_of_the_terminal() {
+    let (file, tokens) = ladder("draw-terminal");
+    let (hogvax, file) = (quoted(HOGVAX), quoted(&file));
+    for columns in [40, 72, 100] {
+        let line = format!("unset COLUMNS; stty cols {columns}; {hogvax} draw {file}");
+        let Some(drawn) = in_terminal(&line) else {
+            return;
+        };
+        let lines = drawing(&tokens, columns, Strokes::Lines);
+        assert_eq!(drawn, lines.replace('\n', "\r\n"));
+    }
+}
+
 /// Standard output is no terminal here.
 #[test]
 fn draw_fills_80_columns_where_none_are_known() {

@@ -35,8 +35,11 @@ const VERBS: [&str; 15] = [
 /// Document 01: "Tree T: 02 01 05 00 00 00 01 07 00 00 00."
 const T: [u8; 11] = [2, 1, 5, 0, 0, 0, 1, 7, 0, 0, 0];
 
+/// The command line's own file.
+const HOGVAX: &str = env!("CARGO_BIN_EXE_hogvax");
+
 fn command(words: &[&str]) -> Command {
-    let mut command = Command::new(env!("CARGO_BIN_EXE_hogvax"));
+    let mut command = Command::new(HOGVAX);
     command.args(words).stdin(Stdio::null());
     command
 }
@@ -122,6 +125,26 @@ fn assert_full_device_is_told(words: &[&str]) {
     assert!(message.contains("/dev/full"), "{message}");
     let output = command(words).stderr(full()).output().unwrap();
     assert_eq!(output.status.code(), Some(2));
+}
+
+/// A word for the shell.
+#[cfg(target_os = "linux")]
+fn quoted(word: &str) -> String {
+    format!("'{}'", word.replace('\'', "'\\''"))
+}
+
+/// What a line of the shell prints in a terminal, which `script` gives it. Where
+/// that can't be had, what terminals do is tested in the modules alone.
+#[cfg(target_os = "linux")]
+fn in_terminal(line: &str) -> Option<String> {
+    let run = |line: &str| {
+        let mut command = Command::new("script");
+        command.args(["-qec", line, "/dev/null"]);
+        let output = command.stdin(Stdio::null()).output().ok()?;
+        Some(String::from_utf8(output.stdout).unwrap())
+    };
+    let is_there = run("test -t 1 && test -t 2 && echo yes")? == "yes\r\n";
+    is_there.then(|| run(line)).flatten()
 }
 
 /// Where a sample is.

@@ -19,24 +19,15 @@ fn progress_is_not_told_to_a_pipe() {
     assert_gives(&output, 0, b"12\n", line);
 }
 
-/// `script` gives a command a terminal; where there is none, what a terminal is
-/// told is tested in the module alone.
 #[cfg(target_os = "linux")]
 #[test]
 fn progress_is_told_to_a_terminal_and_wiped() {
-    let quoted = |word: &str| format!("'{}'", word.replace('\'', "'\\''"));
-    let hogvax = quoted(env!("CARGO_BIN_EXE_hogvax"));
+    let (hogvax, tokens) = (quoted(HOGVAX), quoted(&sample("small.tokens")));
     let program = quoted(&sample("programs/sum.program"));
-    let tokens = quoted(&sample("small.tokens"));
     let line = format!("(sleep 3; cat {tokens}) | {hogvax} run {program}");
-    let mut command = Command::new("script");
-    command.args(["-qec", &line, "/dev/null"]);
-    let output = match command.stdin(Stdio::null()).output() {
-        Ok(output) => output,
-        Err(error) if error.kind() == ErrorKind::NotFound => return,
-        Err(error) => panic!("{error}"),
+    let Some(told) = in_terminal(&line) else {
+        return;
     };
-    let told = String::from_utf8(output.stdout).unwrap();
     assert!(told.starts_with("\rhogvax: reading, 1 s\x1b[K\r"), "{told}");
     let answer = "12\r\nended units 17 read 11 written 0 number 12\r\n";
     assert!(told.ends_with(&format!("\r\x1b[K{answer}")), "{told}");

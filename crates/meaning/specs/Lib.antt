@@ -8,4 +8,5 @@ pub mod Evaluation
 pub mod OpenCalls
 pub mod Reductions
 pub mod SourceRun
+pub mod WorkWords
 pub mod Meaning

@@ -12,14 +12,14 @@ use Rattle.formats.specs.Places.{Opens}
 use Rattle.formats.specs.Records.{nth}
 use Rattle.formats.specs.Refusals.{cannotPerform}
 use Rattle.formats.specs.Results.{done, refusal}
-use Rattle.formats.specs.Tokens.{Tree, tokens}
+use Rattle.formats.specs.Tokens.{Tree, Labelled, tokens}
 use Rattle.formats.specs.Programs.{treeValued, Function, Program}
 use Rattle.meaning.specs.Instructions.{instructionBytes, mostInstructions}
 use Rattle.meaning.specs.Running.{Answer, Ran, valueWords, returnWords, mostCalls}
 use Rattle.meaning.specs.Evaluation.{Value, Ends, resultBytes}
 use Rattle.translation.specs.Demand3.{Checked, Whole}
 use Rattle.translation.specs.EveryRun.{Meant, OneForOne}
-use Rattle.translation.specs.Calls.{Called, Ready}
+use Rattle.translation.specs.Calls.{Called, runFile, Ready}
 
 -- Answer and output at exit, as what a run gives.
 abbrev pub ranWith : Answer → List ℕ → Ran
@@ -63,6 +63,20 @@ pub record AnyCall (program : Program) (input before : List ℕ) (answer : Answe
       → first .sort ≡ treeValued
       → answer .outcome ≡ done tt
       → OneForOne input (ranWith answer after)
+
+-- All that is promised of a run of a program file: what every call that checks, translates and runs carries, public or exported. The buffers are those at
+-- entry; `answer` is what the call answered, `after` the output at exit.
+pub record ProgramRun (file input output code : List ℕ) (fuel values returns : ℕ) (answer : Answer) (after : List ℕ) : Type 0 where
+  -- Demand 3: where the file's program is checked and the work space lent, for every tree that begins the input, whatever stands after it.
+  pub demand-3 :
+      (program : Program)
+      → Ready file code values returns program
+      → (t : Tree) (rest : List ℕ)
+      → Labelled t
+      → input ≡ tokens t ++ rest
+      → ThisCall program t rest output fuel (runFile file (tokens t) output code fuel values returns) answer after
+  -- and on any input, trees or not
+  pub any-input : (program : Program) → Ready file code values returns program → AnyCall program input output answer after
 
 -- Every checked program can be run so: it has a file, and with code buffer and work space of document 01's lengths the call comes to its run.
 pub record Runnable (program : Program) : Type 0 where

@@ -14,7 +14,7 @@
 /* More bytes than the result of a run here may have. */
 #define OUTPUT_BYTES 65536
 
-/* What is lent to every run. */
+/* What is lent to every run. Static buffers are initialised: they are 0. */
 static uint8_t output[OUTPUT_BYTES];
 static uint8_t code[HOGVAX_LONGEST_CODE];
 static uint32_t values[HOGVAX_VALUE_WORDS];
@@ -79,7 +79,7 @@ static void print_bytes(const uint8_t *bytes, uint64_t length) {
 /* Runs the program over the tree that begins the tokens, and gives the bytes
  * read; 0 if the run was refused. */
 static uint64_t run(struct bytes program, const uint8_t *tokens, size_t length) {
-    uint64_t answer[HOGVAX_RUN_PLACES];
+    uint64_t answer[HOGVAX_RUN_PLACES] = {0};
     uint32_t number = hogvax_run(
         program.start, program.length, tokens, length, UINT64_MAX,
         output, sizeof output, code, sizeof code,

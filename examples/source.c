@@ -9,6 +9,7 @@
 #include <inttypes.h>
 #include <stdio.h>
 #include <stdlib.h>
+#include <string.h>
 
 #include "hogvax.h"
 
@@ -20,7 +21,7 @@
 #define FIRST_BYTES 16
 #define MOST_BYTES 1073741824
 
-/* What is lent to every run. */
+/* What is lent to every run. Static buffers are initialised: they are 0. */
 static uint32_t values[HOGVAX_VALUE_WORDS];
 static uint64_t returns[HOGVAX_RETURN_WORDS];
 
@@ -35,12 +36,14 @@ static void fail(const char *name) {
     exit(2);
 }
 
-/* The bytes in a buffer of another length. */
-static void resize(struct bytes *bytes, size_t length) {
+/* The bytes in a longer buffer. The new ones are 0, so that what is lent is
+ * initialised. */
+static void lengthen(struct bytes *bytes, size_t length) {
     bytes->start = realloc(bytes->start, length);
     if (bytes->start == NULL) {
         fail("memory");
     }
+    memset(bytes->start + bytes->length, 0, length - bytes->length);
     bytes->length = length;
 }
 
@@ -53,7 +56,7 @@ static struct bytes read_file(const char *name) {
         fail(name);
     }
     do {
-        resize(&file, length + 4096);
+        lengthen(&file, length + 4096);
         count = fread(file.start + length, 1, 4096, stream);
         length += count;
     } while (count == 4096);
@@ -71,7 +74,7 @@ static uint32_t source(struct bytes program, struct bytes tokens,
     size_t room = FIRST_BYTES;
     for (;;) {
         uint32_t number;
-        resize(output, room);
+        lengthen(output, room);
         number = hogvax_source(
             program.start, program.length, tokens.start, tokens.length, FUEL,
             output->start, output->length,
@@ -104,7 +107,7 @@ static void print_bytes(const uint8_t *bytes, uint64_t length) {
 
 int main(int count, char **words) {
     struct bytes program, tokens, output = {NULL, 0};
-    uint64_t answer[HOGVAX_SOURCE_PLACES];
+    uint64_t answer[HOGVAX_SOURCE_PLACES] = {0};
     uint32_t number;
     if (count != 3) {
         fprintf(stderr, "usage: source PROGRAM TOKENS\n");

@@ -1,28 +1,47 @@
 /* Hogvax: small tree programs over token streams. The calls of libhogvax_c.a.
  *
- * Each call is proved: it answers what is said here, for any contents of the
- * buffers lent to it, reads and writes inside them and nowhere else, keeps no
- * pointer, has no state of its own, and returns. Document 01 and docs/ say what
+ * docs/CALLING.md shows C programs that use them. Document 01 and docs/ say what
  * trees, programs, code and refusals are.
  *
- * What the caller must see to:
+ * What is proved: every function of the library meets its contract, which is in
+ * crates/hogvax_c/src/lib.rt. Whatever the buffers lent to it hold, a call gives
+ * the answer that the contract states, reads and writes inside these buffers and
+ * nowhere else, keeps no pointer, has no state of its own, and returns.
  *
- * - A buffer passes as a pointer and a length, which counts elements of its
- *   type. The pointer is valid for so many of them, for writing where it is not
- *   const, and aligned for its type.
- * - That holds for a buffer of length 0, too: its pointer may be any that is
- *   aligned and not NULL.
+ * What is not proved: this header. Its declarations and constants are tested
+ * against the library; its comments say in words what the contracts state.
+ *
+ * What the caller must ensure:
+ *
+ * - A buffer is passed as a pointer and a length, which counts elements of the
+ *   pointer's type. The pointer is aligned for its type and valid for that many
+ *   elements, for writing where it is not const.
+ * - The pointer is not NULL, also where the length is 0: any other aligned
+ *   pointer will do there.
+ * - A buffer has fewer than 2^63 bytes, all in one object.
+ * - A buffer is initialised, also one that the call only writes to: the
+ *   contracts speak of what it holds before the call. calloc or = {0} will do.
  * - A buffer that is not const overlaps no other buffer of the same call.
+ * - During the call no other thread writes to its buffers, or reads those that
+ *   are not const.
+ * - A call may use up to 1 MiB of the thread's stack, as it nearly does for the
+ *   deepest programs. Where threads have less, ask for more when you create one,
+ *   for example with pthread_attr_setstacksize. (Tested, not proved.)
  *
  * What each call answers, hogvax_tree_bytes aside:
  *
  * - It returns 0, or the number of the refusal, one of enum hogvax_refusal.
- * - The rest of the answer goes to the first places of `answer`. Their layout
- *   is fixed: later fields are appended. Places behind them are untouched.
+ * - The rest of the answer goes to the first places of `answer`: as many as
+ *   HOGVAX_ANSWER_PLACES, HOGVAX_RUN_PLACES or HOGVAX_SOURCE_PLACES says, which
+ *   the comment on the call names. Places after them are untouched.
  * - With fewer places the call returns HOGVAX_SPACE_TOO_SHORT, whatever else is
  *   wrong, and touches no buffer.
+ * - Later versions may append places, and these constants then grow; no place
+ *   gets another meaning. So use the constants, and compile again for another
+ *   version of the library: one that needs more places than it is lent returns
+ *   HOGVAX_SPACE_TOO_SHORT, as above.
  *
- * Numbers of several bytes stand low byte first in every buffer of bytes.
+ * Numbers of several bytes have their low byte first in every buffer of bytes.
  */
 #ifndef HOGVAX_H
 #define HOGVAX_H
@@ -54,12 +73,15 @@ extern "C" {
 #define HOGVAX_LONGEST_CODE 33024
 
 /* The work words of a run, stream or source: `values`, and `returns`. A run
- * needs them all, however few would do; more change nothing. */
+ * needs them all, however few would do; more change nothing.
+ *
+ * A call refused with 1 to 13 (the source run also with 15, 16 or 20) leaves
+ * `values` and `returns` as they were; after a run they are unspecified. */
 #define HOGVAX_VALUE_WORDS 16384
 #define HOGVAX_RETURN_WORDS 2048
 
-/* The places of an answer: of a stream run's, of a source run's, and of any
- * other. */
+/* The places of an answer: of a stream run (hogvax_perform, hogvax_run), of a
+ * source run (hogvax_source), and of every other call. */
 #define HOGVAX_RUN_PLACES 5
 #define HOGVAX_SOURCE_PLACES 4
 #define HOGVAX_ANSWER_PLACES 2
@@ -70,8 +92,8 @@ extern "C" {
  * number; see enum hogvax_refusal. */
 #define HOGVAX_PLACE 0
 
-/* Not of a run: the bytes of the tree, or the bytes written; 0 on a refusal,
- * and for a check. */
+/* Of a call that is no run: the length in bytes of the tree, or of what was
+ * written; 0 on a refusal, and for a check. */
 #define HOGVAX_BYTES 1
 
 /* Of a stream run: the instructions performed, the bytes read from the start of
@@ -81,22 +103,23 @@ extern "C" {
 #define HOGVAX_WRITTEN 3
 
 /* Of a stream run: the number given, in two's complement, sign-extended from 32
- * bits to 64: -3 is UINT64_MAX - 2. 0 for a tree and on a refusal. */
+ * bits to 64: -3 is UINT64_MAX - 2, which a cast to int64_t makes -3. 0 for a
+ * tree and on a refusal. */
 #define HOGVAX_NUMBER 4
 
 /* Of a source run: the expressions begun; the bytes written from the start of
- * the output on, 0 on a refusal; and the number, as a stream run gives it. */
+ * the output on, 0 on a refusal; and the number, as for a stream run. */
 #define HOGVAX_SOURCE_BEGUN 1
 #define HOGVAX_SOURCE_WRITTEN 2
 #define HOGVAX_SOURCE_NUMBER 3
 
 /* ---- Refusals */
 
-/* Document 01's numbers. Where several apply, the first in the order of the
- * call is told. */
+/* Document 01's numbers. Where several apply, the call reports the first in the
+ * order that its comment gives. */
 enum hogvax_refusal {
-    /* The program file. Its length is told at 0, a block at its place in the
-     * file, a record at its place among all records, the header being 0. */
+    /* The program file. For 2 and 3 the place is the block, counted from 0; for
+     * 5 to 7 it is the record, counted from 0, which is the header. */
     HOGVAX_FILE_LENGTH = 1,       /* not 1 to 17 whole blocks; at 0 */
     HOGVAX_BLOCK_CHECK = 2,       /* a block's check does not hold */
     HOGVAX_BLOCK_FIELD = 3,       /* another field of it, or an unused record */
@@ -105,15 +128,15 @@ enum hogvax_refusal {
     HOGVAX_NODE_FIELD = 6,        /* the kind, an unused field, or b */
     HOGVAX_PREFIX_FORM = 7,       /* a function is not one expression */
     /* The two passes. The place is a record. */
-    HOGVAX_WRONG_TYPE = 8,        /* a number for a tree, or a tree for it */
+    HOGVAX_WRONG_TYPE = 8,        /* a number for a tree, or a tree for a number */
     HOGVAX_NOT_BOUND = 9,         /* a name is not bound */
-    HOGVAX_TOO_MANY_WORDS = 10,   /* a word on top of 16 */
-    HOGVAX_OUT_OF_ORDER = 11,     /* trees are not taken in order */
+    HOGVAX_TOO_MANY_WORDS = 10,   /* more than 16 words in a function */
+    HOGVAX_OUT_OF_ORDER = 11,     /* trees not taken in order, or left over */
     HOGVAX_TOO_MANY_PENDING = 12, /* a Case with 16 trees pending */
     /* A lent buffer. The place is 0. */
     HOGVAX_SPACE_TOO_SHORT = 13,  /* code, file, records, work or answer */
-    /* A run. The place is the bytes read; of a source run's 14, 17 and 18 it is
-     * 0. The tree reader has 15, 16 and 20, at a byte of the input. */
+    /* A stream run: the place is the bytes read. A source run: for 14, 17 and 18
+     * the place is 0. The tree reader: 15, 16 and 20, at a byte of the input. */
     HOGVAX_FUEL_USED_UP = 14,     /* units, or expressions begun, are the fuel */
     HOGVAX_INPUT_ENDED = 15,      /* a tag or a whole label is not there */
     HOGVAX_NOT_A_TAG = 16,        /* a byte is not 1 or 2 */
@@ -125,13 +148,14 @@ enum hogvax_refusal {
 
 /* ---- The tree reader */
 
-/* The length of the first tree's own bytes, which begin `input`; 0 if no tree
- * begins it, and hogvax_tree then says why. Bytes after the tree are not looked
- * at. */
+/* Returns the length in bytes of the tree that begins `input`; 0 if no tree
+ * begins it, and hogvax_tree then says why. Bytes after the tree do not matter. */
 size_t hogvax_tree_bytes(const uint8_t *input, size_t input_len);
 
-/* Why no tree begins `input`: 15, 16 or 20, at a byte. Or 0, and HOGVAX_BYTES
- * is the length of the tree.
+/* Finds the end of the tree that begins `input`; HOGVAX_BYTES is its length.
+ *
+ * Refused with 15 at the start of the tag or label that is not whole, or with 16
+ * or 20 at the tag. Bytes after the tree do not matter.
  *
  * The answer has HOGVAX_ANSWER_PLACES places. */
 uint32_t hogvax_tree(const uint8_t *input, size_t input_len,
@@ -140,7 +164,7 @@ uint32_t hogvax_tree(const uint8_t *input, size_t input_len,
 /* ---- Program files */
 
 /* Writes the program file of `records`, 8 bytes each, to the start of `file`;
- * HOGVAX_BYTES is its length. Bytes of `file` behind it are untouched.
+ * HOGVAX_BYTES is its length. Bytes of `file` after it are untouched.
  *
  * Refused with 4 to 7, then with 13 where `file` is shorter than the program's
  * blocks; `file` is then untouched. HOGVAX_LONGEST_FILE bytes are always
@@ -152,7 +176,7 @@ uint32_t hogvax_pack(const uint8_t *records, size_t records_len,
                      uint64_t *answer, size_t answer_len);
 
 /* Writes the records of the program in `file`, 8 bytes each, to the start of
- * `records`; HOGVAX_BYTES is their length. Bytes of `records` behind them are
+ * `records`; HOGVAX_BYTES is their length. Bytes of `records` after them are
  * untouched.
  *
  * Refused with 1 to 7, then with 13 where `records` is shorter than the
@@ -166,22 +190,25 @@ uint32_t hogvax_unpack(const uint8_t *file, size_t file_len,
 
 /* ---- The order checker */
 
-/* Whether the program in `file` names, types and orders its trees rightly: 0.
- * Or the refusal: 1 to 7; then 9, 8, 10; then 11, 12. HOGVAX_BYTES is 0.
+/* Checks names, types and the order of trees of the program in `file`.
+ * HOGVAX_BYTES is 0.
+ *
+ * Refused with 1 to 7; then, record by record, with 9, 8 or 10; then with 11 or
+ * 12.
  *
  * The answer has HOGVAX_ANSWER_PLACES places. */
 uint32_t hogvax_check(const uint8_t *file, size_t file_len,
                       uint64_t *answer, size_t answer_len);
 
-/* As hogvax_check, of the program with these records, 8 bytes each; 4 is the
- * first refusal. */
+/* As hogvax_check, for the program with these records, 8 bytes each; the
+ * refusals begin with 4. */
 uint32_t hogvax_check_records(const uint8_t *records, size_t records_len,
                               uint64_t *answer, size_t answer_len);
 
 /* ---- The translator */
 
 /* Writes the stream code of the program in `file`, 8 bytes an instruction, to
- * the start of `code`; HOGVAX_BYTES is its length. Bytes of `code` behind it are
+ * the start of `code`; HOGVAX_BYTES is its length. Bytes of `code` after it are
  * untouched.
  *
  * Refused as by hogvax_check, then with 13 where `code` is shorter than this
@@ -195,18 +222,17 @@ uint32_t hogvax_translate(const uint8_t *file, size_t file_len,
 
 /* ---- The stream run */
 
-/* Runs `code`, which may be any bytes, from address 0 over `input`, with so much
- * fuel: a unit for each instruction performed. Returns 0 where the run ended, at
- * the return of its first frame.
+/* Runs `code`, which may be any bytes, from address 0 over `input`. `fuel` is the
+ * most instructions to be performed, a unit each. Returns 0 where the run ended,
+ * at the return of its first frame.
  *
  * Refused with 13 where `values` or `returns` are too few, HOGVAX_VALUE_WORDS
- * and HOGVAX_RETURN_WORDS; all other places of the answer are then 0, and
- * `output` is untouched. Else refused with 14 to 19 at an instruction, 14 before
- * 19 before the others; that instruction counts nothing and changes nothing.
+ * and HOGVAX_RETURN_WORDS; all places of the answer are then 0, and `output` is
+ * untouched. Otherwise refused with 14 to 19 at an instruction: with 14 first,
+ * then 19, then the others. That instruction is not counted and changes nothing.
  *
  * What the run wrote stays at the start of `output`, also if it was refused; the
- * rest of `output` is untouched. What `values` and `returns` hold afterwards is
- * not said.
+ * rest of `output` is untouched.
  *
  * The answer has HOGVAX_RUN_PLACES places. */
 uint32_t hogvax_perform(const uint8_t *code, size_t code_len,
@@ -217,25 +243,27 @@ uint32_t hogvax_perform(const uint8_t *code, size_t code_len,
                         uint64_t *returns, size_t returns_len,
                         uint64_t *answer, size_t answer_len);
 
-/* Checks the program in `file`, translates it and runs its code over `input`,
- * with so much fuel. Returns 0 where the run ended.
+/* Checks the program in `file`, translates it and runs its code over `input`.
+ * `fuel` is the most instructions to be performed, a unit each; UINT64_MAX will
+ * do, since every checked program ends or is refused. Returns 0 where the run
+ * ended.
  *
  * Refused as by hogvax_check; then with 13 where `code` is shorter than this
- * program's code, or `values` or `returns` are too few. All other places of the
- * answer are then 0, and `output` and `code` are untouched.
+ * program's code, or `values` or `returns` are too few, HOGVAX_VALUE_WORDS and
+ * HOGVAX_RETURN_WORDS. All places of the answer after HOGVAX_PLACE are then 0,
+ * and `output` and `code` are untouched.
  *
- * Else the code goes to the start of `code` and stays there, whatever the run
- * answers; the rest of `code` is untouched. The run ends or is refused with 14
- * to 18, never with 19. What it wrote stays at the start of `output`, also if it
- * was refused; the rest of `output` is untouched. What `values` and `returns`
- * hold afterwards is not said.
+ * Otherwise the code goes to the start of `code` and stays there, whatever the
+ * run answers; the rest of `code` is untouched. The run ends or is refused with
+ * 14 to 18, never with 19. What it wrote stays at the start of `output`, also if
+ * it was refused; the rest of `output` is untouched.
  *
- * On a tree's tokens, with anything behind them, every fuel from 4n + 1 up
+ * On a tree's tokens, with anything after them, every fuel from 4n + 1 up
  * suffices where the program's evaluation ends after n expressions with at most
  * 1,024 calls open at once and `output` has room for the result: the run ends,
  * HOGVAX_READ is the length of the tree, and the whole result has been written,
- * or HOGVAX_NUMBER is the number. To go through trees that stand one behind the
- * other, begin the next call's input HOGVAX_READ bytes further on.
+ * or HOGVAX_NUMBER is the number. For several trees, one after another, begin the
+ * next call's input HOGVAX_READ bytes further on.
  *
  * The answer has HOGVAX_RUN_PLACES places. */
 uint32_t hogvax_run(const uint8_t *file, size_t file_len,
@@ -249,23 +277,25 @@ uint32_t hogvax_run(const uint8_t *file, size_t file_len,
 
 /* ---- The source run */
 
-/* Evaluates the program in `file` on the tree that begins `input`, with so much
- * fuel: a unit for each expression begun. Returns 0 where the evaluation ended.
- * The program need not take its trees in order: what hogvax_check refuses with
- * 11 or 12 is evaluated, too. Bytes after the tree are not looked at.
+/* Evaluates the program in `file` on the tree that begins `input`. `fuel` is the
+ * most expressions to be begun, a unit each: a program that takes a tree more
+ * than once may begin very many. Returns 0 where the evaluation ended. The
+ * program need not take its trees in order: what hogvax_check refuses with 11 or
+ * 12 is evaluated, too. Bytes after the tree do not matter.
  *
- * Refused with 1 to 7, then with 9, 8, 10, as by hogvax_check; then with 13
+ * Refused with 1 to 7, then with 9, 8 or 10, as by hogvax_check; then with 13
  * where `values` or `returns` are too few, HOGVAX_VALUE_WORDS and
  * HOGVAX_RETURN_WORDS; then with 15, 16 or 20 where no tree begins `input`, as
- * by hogvax_tree. All other places of the answer are then 0. Else with 14 before
- * an expression, or with 18 at a call, after its arguments; last with 17 where
- * the evaluation ended and `output` is shorter than the result. These are at 0,
- * and HOGVAX_SOURCE_BEGUN is what was begun.
+ * by hogvax_tree. All places of the answer after HOGVAX_PLACE are then 0.
+ * Otherwise refused with 14 before an expression, or with 18 at a call, after its
+ * arguments; last with 17 where the evaluation ended and `output` is shorter than
+ * the result. For these three HOGVAX_PLACE is 0, and HOGVAX_SOURCE_BEGUN counts
+ * the expressions begun.
  *
  * A tree goes to the start of `output`, as tokens; the rest of `output` is
  * untouched. All of it is untouched where the result is a number, and on every
- * refusal. 17 does not tell how long the result is; a call with a longer output
- * may have room for it. What `values` and `returns` hold afterwards is not said.
+ * refusal. 17 does not say how long the result is: call again with a longer
+ * output.
  *
  * The answer has HOGVAX_SOURCE_PLACES places. */
 uint32_t hogvax_source(const uint8_t *file, size_t file_len,

@@ -2,7 +2,9 @@
 //!
 //! A slice passes as pointer and length. The functions behind these calls are
 //! proved to read and write inside the slices lent to them and nowhere else,
-//! and to keep no pointer, so every slice may be passed.
+//! and to keep no pointer, so every slice may be passed. A slice's pointer is
+//! not null and aligned, and it has fewer than 2^63 bytes, all initialised, as
+//! `include/hogvax.h` asks.
 
 extern "C" {
     fn hogvax_tree_bytes(input: *const u8, input_len: usize) -> usize;

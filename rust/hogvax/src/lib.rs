@@ -3,6 +3,10 @@
 //! What is said of the library's answers here is proved of the code that
 //! gives them; the Rust code of these calls only passes slices and numbers on.
 //! The modules [`assembly`], [`newick`] and [`draw`] are Rust, and tested.
+//!
+//! A call of the library may use up to 1 MiB of its thread's stack. Rust's
+//! threads have 2 MiB; one made with less needs
+//! [`stack_size`](std::thread::Builder::stack_size). This is tested, not proved.
 
 #![deny(unsafe_code)]
 

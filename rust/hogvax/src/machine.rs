@@ -184,7 +184,8 @@ pub fn perform_in(
 ///
 /// Before all refusals of [`perform`] comes 13 at 0, with 0 in every count:
 /// there are fewer than 16,384 `values` or fewer than 2,048 `returns`, however
-/// few would do. What these two hold after a run is not said.
+/// few would do. Both are then left as they are; after a run they are
+/// unspecified.
 ///
 /// Places of `answer` from 5 on are left as they are. With fewer than 5 places
 /// the number is 13, and all lent slices are left as they are.

@@ -114,10 +114,10 @@ pub fn run_in(
 /// every count: `code` is shorter than this program's code, or there are fewer
 /// than 16,384 `values` or fewer than 2,048 `returns`, however few would do.
 ///
-/// Refused with 1 to 13, the call leaves `output` and `code` as they are. Else
-/// the program's code goes to the start of `code` and stays there, whatever
-/// the run answers; the rest of `code` is left as it is. What `values` and
-/// `returns` hold after a run is not said.
+/// Refused with 1 to 13, the call leaves `output`, `code`, `values` and
+/// `returns` as they are. Otherwise the program's code goes to the start of
+/// `code` and stays there, whatever the run answers; the rest of `code` is left
+/// as it is. After a run `values` and `returns` are unspecified.
 ///
 /// Places of `answer` from 5 on are left as they are. With fewer than 5 places
 /// the number is 13, and all lent slices are left as they are.

@@ -157,8 +157,9 @@ pub fn source_in(
 ///
 /// After 1 to 10 and before all other refusals of [`source`] comes 13 at 0,
 /// with 0 in every count: there are fewer than 16,384 `values` or fewer than
-/// 2,048 `returns`, however few would do. What these two hold after a run is
-/// not said.
+/// 2,048 `returns`, however few would do. Refused with 1 to 13, or with 15, 16
+/// or 20, the call leaves these two as they are; after a run they are
+/// unspecified.
 ///
 /// Places of `answer` from 4 on are left as they are. With fewer than 4 places
 /// the number is 13, and all lent slices are left as they are.

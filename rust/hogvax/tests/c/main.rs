@@ -1,12 +1,14 @@
 //! The C header and the C examples, with the system's C compiler and the static
 //! library.
 
+mod answers;
 #[path = "../shared/compiler.rs"]
 mod compiler;
 mod constants;
 mod declarations;
 mod example;
 mod places;
+mod stack;
 
 use std::fs;
 use std::path::{Path, PathBuf};
@@ -27,6 +29,8 @@ fn made(name: &str) -> PathBuf {
 fn build(source: &Path, name: &str) -> PathBuf {
     let program = made(name);
     let mut command = compiler("cc", "c99");
+    // Some make threads.
+    command.arg("-pthread");
     command.arg(source).arg(env!("HOGVAX_ARCHIVE"));
     succeed(command.arg("-o").arg(&program));
     program

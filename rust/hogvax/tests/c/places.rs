@@ -24,8 +24,8 @@ static const uint8_t small[] = {2, 1, 5, 0, 0, 0, 1, 7, 0, 0, 0};
 static const uint8_t large[] = {2, 1, 255, 255, 255, 127, 1, 1, 0, 0, 0};
 
 static void source(const uint8_t *file, size_t length, const uint8_t *input, uint64_t fuel) {
-    uint8_t output[11];
-    uint64_t answer[HOGVAX_SOURCE_PLACES];
+    uint8_t output[11] = {0};
+    uint64_t answer[HOGVAX_SOURCE_PLACES] = {0};
     uint32_t number = hogvax_source(file, length, input, 11, fuel, output, sizeof output,
                                     values, HOGVAX_VALUE_WORDS, returns, HOGVAX_RETURN_WORDS,
                                     answer, HOGVAX_SOURCE_PLACES);
@@ -36,7 +36,7 @@ static void source(const uint8_t *file, size_t length, const uint8_t *input, uin
 
 int main(void) {
     static uint8_t file[HOGVAX_LONGEST_FILE];
-    uint64_t answer[HOGVAX_ANSWER_PLACES];
+    uint64_t answer[HOGVAX_ANSWER_PLACES] = {0};
     hogvax_pack(grow, sizeof grow, file, sizeof file, answer, HOGVAX_ANSWER_PLACES);
     source(file, (size_t)answer[HOGVAX_BYTES], small, 14);
     source(file, (size_t)answer[HOGVAX_BYTES], small, 13);

@@ -46,7 +46,9 @@ fn inputs() -> Vec<Vec<u8>> {
 fn a_stack_of_1_mib_is_enough() {
     let page = text("docs/CALLING.md");
     let words: Vec<&str> = page.split_whitespace().collect();
-    assert!(words.join(" ").contains("a stack of 1 MiB or more"));
+    assert!(words
+        .join(" ")
+        .contains("up to 1 MiB of its thread's stack"));
     let programs = known::all().into_iter().map(|known| known.program);
     let files: Vec<Vec<u8>> = programs.map(|one| lay_out(&one.records())).collect();
     let inputs = inputs();

@@ -7,8 +7,8 @@ use Rattle.formats.specs.Numbers.{Bytes}
 use Rattle.formats.specs.Results.{done}
 use Rattle.formats.specs.Tokens.{firstEnd, firstTree, ownBytes}
 use Rattle.formats.proofs.Endings.{own-ends, own-stops}
-use Rattle.tree_end.specs.Told.{refusalAt, allOnes, toldBy}
-use Rattle.tree_end.proofs.Laws.{refused-past, refused-label, refused-node, refused-other, refusal-stops, told-end, told-stop}
+use Rattle.tree.specs.Told.{refusalAt, allOnes, toldBy}
+use Rattle.tree.proofs.Told.{refused-past, refused-label, refused-node, refused-other, refusal-stops, told-end, told-stop}
 use Rattle.tree.specs.Answer.{answered}
 use Rattle.tree.specs.declared.TreeAnswer.{TreeAnswer}
 

@@ -1,2 +1,3 @@
 -- What the tree reader's functions answer.
 pub mod Answer
+pub mod Told

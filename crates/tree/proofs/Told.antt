@@ -9,11 +9,11 @@ use native.Mathlib.Omega.{arith}
 use borrow.Author.Tests.{le-leb, lt-leb}
 use lib.ListN.{length, getD}
 use Rattle.formats.specs.Refusals.{inputEnded, notATag, tooDeep}
-use Rattle.formats.specs.Tokens.{leafTag, nodeTag, leafBytes, mostDepth, Tag, ended, aLeaf, aNode, other, tagAt, endAt, firstEnd}
+use Rattle.formats.specs.Tokens.{leafTag, nodeTag, leafBytes, Tag, ended, aLeaf, aNode, other, tagAt, endAt}
 use Rattle.formats.specs.Results.{Result, done, refusal}
 use Rattle.formats.proofs.Tokens.{Look, past, at-leaf, at-node, at-other, tag-is}
-use Rattle.formats.proofs.Endings.{end-past, end-cut, end-leaf, end-other, end-deep, end-left, end-right, end-behind, end-first}
-use Rattle.tree_end.specs.Told.{refusalAt, allOnes, toldBy}
+use Rattle.formats.proofs.Endings.{end-past, end-cut, end-leaf, end-other, end-deep, end-left, end-right, end-behind}
+use Rattle.tree.specs.Told.{refusalAt, allOnes, toldBy}
 
 -- ---- the refusal, by what stands where a tag is due
 
@@ -106,8 +106,3 @@ pub told-behind : (room : ℕ) (s : List ℕ) (p l : ℕ) → toldBy s l ≡ end
 told-behind room s p l told h = end-behind room s p l (sym (told-end s l h) ∙ told)
 
 pub ruleset ends-told = (told-past, told-cut, told-leaf, told-other, told-deep, told-left, told-right)
-
--- ---- the first tree
-
-pub first-told : (s : List ℕ) (r : ℕ) → toldBy s r ≡ endAt mostDepth s 0 → toldBy s r ≡ firstEnd s
-first-told s r told = end-first s (toldBy s r) told

@@ -5,14 +5,14 @@ use Prim.Native.Nat.{ℕ, _<_, _+_, _-_}
 use native.Mathlib.Omega.{arith}
 use denote.Ref.{now}
 use lib.ListN.{length}
-use Rattle.tree_end.proofs.Laws.{ends-told, told-behind}
+use Rattle.tree.proofs.Told.{ends-told, told-behind}
 use borrow.Fn.Kinds.{In}
 use borrow.Fn.PlainCycle.{Measures, is, falls, and}
-use Rattle.tree_end.proofs.tree_end.Reads as tree-end
-use Rattle.tree_end.proofs.tree_end.Kinds as tree-end-kinds
-use Rattle.tree_end.proofs.+tree_end.Lts-tree_end as tree-end-lts
-use Rattle.tree_end.proofs.+tree_end.{statement}
-use Rattle.tree_end.proofs.+tree_end.Tie.{close}
+use Rattle.tree.proofs.tree_end.Reads as tree-end
+use Rattle.tree.proofs.tree_end.Kinds as tree-end-kinds
+use Rattle.tree.proofs.+tree_end.Lts-tree_end as tree-end-lts
+use Rattle.tree.proofs.+tree_end.{statement}
+use Rattle.tree.proofs.+tree_end.Tie.{close}
 
 abbrev μ-tree-end : Measures 2 tree-end-kinds.ps ℕ
 μ-tree-end κs a = length (now (now (a .0))) - a .1 .0
@@ -84,10 +84,10 @@ tree-end-returns-5 :
     tree-end-lts.Need-returns-5 (tree-end-below t, tree-end.Post) (tree-end-at t) tree-end.Post
 tree-end-returns-5 t c = search ends-told
 
-tree-end-add-tree-end :
+tree-end-add-left :
     (t : ℕ) →
-    tree-end-lts.Need-add-tree-end (tree-end-below t, tree-end.Post) (tree-end-at t) tree-end.Post
-tree-end-add-tree-end t c = search needs
+    tree-end-lts.Need-add-left (tree-end-below t, tree-end.Post) (tree-end-at t) tree-end.Post
+tree-end-add-left t c = search needs
 
 tree-end-sub-tree-end :
     (t : ℕ) →
@@ -146,7 +146,7 @@ pub +tree-end-spec : {M : Type 1} → statement M
     (tree-end-returns-4 t)
     (tree-end-sub-result-4 t)
     (tree-end-returns-5 t)
-    (tree-end-add-tree-end t)
+    (tree-end-add-left t)
     (tree-end-sub-tree-end t)
     (tree-end-tree-end-requires t)
     (tree-end-returns-6 t)

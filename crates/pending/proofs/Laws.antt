@@ -8,7 +8,7 @@ use native.Mathlib.Omega.{arith}
 use native.Mathlib.Numerals.{towards-suc}
 use borrow.Author.Tests.{not-true, not-false, eq-eqb, ne-eqb, eqb-true, eqb-false, le-leb, lt-leb}
 use lib.Dec.{leb, eqb}
-use lib.ListN.{length, getD, set, length-set}
+use lib.ListN.{length, getD, replicate, set, length-set}
 use Rattle.formats.specs.Places.{fromLast}
 use Rattle.formats.specs.Refusals.{outOfOrder}
 use Rattle.formats.specs.Results.{done, refusal, check}
@@ -18,7 +18,7 @@ use Rattle.rules.specs.Leftover.{mostPending}
 use Rattle.rules.specs.PassTwo.{takeHead, sameNames}
 use Rattle.pending.specs.declared.Pending.{Pending}
 use Rattle.pending.specs.declared.Taken.{Taken}
-use Rattle.pending.specs.List.{lengthOf, listOf, Took, putTwo}
+use Rattle.pending.specs.List.{lengthOf, listOf, parameterAlone, Alone, isHead, headTaken, Took, putTwo, twoAfter, twoPut, InFront}
 
 -- ---- the list
 
@@ -41,28 +41,43 @@ by-head p l counted some = let next : l ≡ suc (l - 1) = omega arith in counted
 
 -- ---- `parameter_alone`
 
-pub alone-first : (names : List ℕ) → getD names 0 0 ≡ 0 → listOf (record { names = names; len = 1 }) ≡ 0 ∷ []
+pub alone-first : Alone parameterAlone
 unfolding fromLast
-alone-first names first = short-list names 1 (omega arith) ∙ ap (λ x. x ∷ []) first
+alone-first = record { whole = refl; list = short-list (replicate mostPending 0) 1 (omega arith) }
 
 -- ---- `take_head`
 
 module _ (p : Pending) (a l : ℕ) (counted : l ≡ lengthOf p) where
+  not-head : isHead a (listOf p) ≡ false → record { head = false; pending = p } ≡ headTaken p a
+  unfolding headTaken
+  not-head other = sym (rw (other, headTaken))
+
   pub took-none : l ≡ 0 → Took p a (record { head = false; pending = p })
   unfolding fromLast takeHead
-  took-none none = record { tells = λ k. ap (takeHead a k) (counted-list p l counted ∙ ap (fromLast (p .names)) none); kept = λ h. refl }
+  took-none none =
+      let empty : listOf p ≡ [] = counted-list p l counted ∙ ap (fromLast (p .names)) none in
+      record { whole = not-head (ap (isHead a) empty); tells = λ k. ap (takeHead a k) empty; kept = λ h. refl }
 
   module _ (some : l ≢ 0) where
+    head-test : isHead a (listOf p) ≡ eqb (getD (p .names) (l - 1) 0) a
+    head-test = ap (isHead a) (by-head p l counted some)
+
     -- taking is a test of the head
     tested : (k : ℕ) → takeHead a k (listOf p) ≡ check (eqb (getD (p .names) (l - 1) 0) a) outOfOrder k (fromLast (p .names) (l - 1))
     unfolding takeHead
     tested k = ap (takeHead a k) (by-head p l counted some)
 
     pub took-other : getD (p .names) (l - 1) 0 ≢ a → Took p a (record { head = false; pending = p })
-    took-other other = record { tells = λ k. tested k ∙ rw (ne-eqb _ _ other); kept = λ h. refl }
+    took-other other = record {
+      whole = not-head (head-test ∙ ne-eqb _ _ other);
+      tells = λ k. tested k ∙ rw (ne-eqb _ _ other);
+      kept = λ h. refl;
+    }
 
     pub took-head : getD (p .names) (l - 1) 0 ≡ a → Took p a (record { head = true; pending = record { names = p .names; len = l - 1 } })
+    unfolding headTaken
     took-head is = record {
+      whole = let test : isHead a (listOf p) ≡ true = head-test ∙ eq-eqb _ _ is in sym (rw (test, headTaken, counted));
       tells = λ k. tested k ∙ rw (eq-eqb _ _ is, short-list (p .names) (l - 1) (omega arith));
       kept = λ h. cc;
     }
@@ -77,20 +92,25 @@ full-counted p l counted = ap (leb mostPending) (counted ∙ sym (length-list p)
 -- ---- `put_two`
 
 module _ (p : Pending) (left right l : ℕ) (counted : l ≡ lengthOf p) where
-  pub put-full : mostPending < l + 2 → listOf p ≡ putTwo left right (listOf p)
-  unfolding putTwo
-  put-full full = sym (rw (lt-leb (length (listOf p) + 2) mostPending (omega (arith, length-list p)), putTwo))
+  pub put-full : mostPending < l + 2 → InFront p left right p
+  unfolding putTwo twoPut
+  put-full full = record {
+    whole = sym (rw (lt-leb (lengthOf p + 2) mostPending (omega arith), twoPut));
+    list = sym (rw (lt-leb (length (listOf p) + 2) mostPending (omega (arith, length-list p)), putTwo));
+  }
 
-  pub put-names : l + 2 ≤ mostPending → length (p .names) ≡ mostPending
-      → listOf (record { names = set (set (p .names) l right) (l + 1) left; len = l + 2 }) ≡ putTwo left right (listOf p)
-  unfolding putTwo
+  pub put-names : l + 2 ≤ mostPending → length (p .names) ≡ mostPending → InFront p left right (twoAfter p left right l)
+  unfolding putTwo twoPut
   put-names room long =
       let one = set (p .names) l right in
       let inside : suc l < length one = rw (length-set (p .names) l right) (omega arith) in
       let new : fromLast (set one (l + 1) left) (l + 2) ≡ left ∷ (right ∷ fromLast (p .names) l) =
       simp towards-suc (from-top one (suc l) left inside ∙ ap (λ k. left ∷ k) (from-top (p .names) l right (omega arith))) in
-      short-list _ (l + 2) room ∙ new
-      ∙ sym (rw (le-leb (length (listOf p) + 2) mostPending (omega (arith, length-list p)), putTwo, counted-list p l counted))
+      record {
+        whole = ap (twoAfter p left right) counted ∙ sym (rw (le-leb (lengthOf p + 2) mostPending (omega arith), twoPut));
+        list = short-list _ (l + 2) room ∙ new
+            ∙ sym (rw (le-leb (length (listOf p) + 2) mostPending (omega (arith, length-list p)), putTwo, counted-list p l counted));
+      }
 
 pub ruleset puts = (put-full, put-names)
 

@@ -1,11 +1,10 @@
 // Document 01's pending trees, by value: their head is taken, two names are put in front, and two lists are compared.
-ghost use mathlib.Core.List.{[], _∷_};
 ghost use mathlib.Core.Path.{_≡_};
 ghost use lib.Dec.{leb};
 ghost use lib.ListN.{length};
 ghost use Rattle.rules.specs.Leftover.{mostPending};
 ghost use Rattle.rules.specs.PassTwo.{sameNames};
-ghost use Rattle.pending.specs.List.{lengthOf, listOf, Took, putTwo};
+ghost use Rattle.pending.specs.List.{lengthOf, listOf, Alone, Took, InFront};
 
 // The most trees pending.
 const MOST_PENDING: usize = 16;
@@ -34,7 +33,7 @@ fn count(pending: Pending) -> usize
 
 // The pending trees at first: a function's parameter alone, tree 0.
 pub fn parameter_alone() -> Pending
-    ensures { λ r. ⌜ listOf r ≡ 0 ∷ [] ⌝ }
+    ensures { λ r. ⌜ Alone r ⌝ }
 {
     Pending {
         names: [0u16; MOST_PENDING],
@@ -78,7 +77,7 @@ pub fn is_full(pending: Pending) -> bool
 
 // The pending trees with two more in front, where they fit: the left tree's name, then the right one's.
 pub fn put_two(pending: Pending, left: u16, right: u16) -> Pending
-    ensures { λ r. ⌜ listOf r ≡ putTwo left right (listOf pending) ⌝ }
+    ensures { λ r. ⌜ InFront pending left right r ⌝ }
 {
     let len = count(pending);
     if MOST_PENDING < len + 2 {

@@ -1,6 +1,7 @@
 -- Closed cases of pass one and pass two, proved by computation. Each row of a table is a program and what becomes of it.
 use Prim.Native.Nat.{ℕ, zero, suc}
 use mathlib.Core.List.{List, [], _∷_, _++_, map}
+use mathlib.Core.Logic.{inl, inr}
 use mathlib.Core.Path.{_≡_, refl}
 use lib.Dec.{lit<, lit≤}
 use Rattle.formats.specs.Results.{Result, done, refusal}
@@ -14,7 +15,7 @@ use Rattle.rules.specs.Scopes.{startOf, inside, entered, enteredArgs, en
 use Rattle.rules.specs.PassOne.{named, typed, bareNumber, wordsTested, roomy, atEntry, passOver, passOne, valueWords, wordsOf, wordsOfArgs}
 use Rattle.rules.specs.PassTwo.{takeHead, sameNames, joined, walk, walkArgs, noneLeft, walkAll, passTwo, order}
 use Rattle.rules.specs.FirstFault.{FirstFault}
-use Rattle.rules.specs.OrderChecker.{Admitted, firstNode}
+use Rattle.rules.specs.OrderChecker.{Admitted, firstNode, Untyped}
 use Rattle.rules.proofs.OrderChecker.{order-checker}
 
 -- ---- programs
@@ -155,6 +156,12 @@ left-typed zero g n a = call-typed g n a
 left-typed (suc k) g n a =
     Types.T-Case {Δ₂ = []} TypesName.T-Var1 Types.T-Int (Types.T-Plus {Δ₁ = n ∷ []} (left-typed k g (suc (suc n)) n) (call-typed g (suc (suc n)) (suc n)))
 
+-- however many words its body takes, so is a function of Lets, though `pass-one` has the Call in sixteen Lets refused
+lets-typed : (k g n a : ℕ) → Types one-number g n (a ∷ []) (lets k (on 0 a)) Int
+unfolding lets
+lets-typed zero g n a = call-typed g n a
+lets-typed (suc k) g n a = Types.Let-01 {Δ₁ = []} Types.T-Int (lets-typed k (suc g) n a)
+
 -- ---- witnesses
 
 -- Grow is within the limits and passes: what is proved of such programs is not empty.
@@ -192,6 +199,23 @@ swap-verdicts = (refl, refl)
 
 swap-fault : FirstFault (signatures swap) (firstNode swap) (swap .functions) 11 6
 swap-fault = order-checker .pass-two swap 11 6 swap-lawful (swap-verdicts .0) .0 (swap-verdicts .1)
+
+-- A number name that is not bound, and a number where a tree is expected: 9 and 8, and the function has no derivation.
+unfoldable pub unbound : Program
+unbound = programOf (numbered (var 0) ∷ [])
+
+unfoldable pub mistyped : Program
+mistyped = programOf (treed (const 1) ∷ [])
+
+one-verdicts : (passOne unbound ≡ refusal 9 2) × (passOne mistyped ≡ refusal 8 2)
+unfolding passOne passOver atEntry typed named enteredAll entered startOf resultType isInt isTree signatureOf unbound mistyped programOf numbered treed
+one-verdicts = (refl, refl)
+
+unbound-untyped : Untyped (signatures unbound) 2 (firstNode unbound) (unbound .functions)
+unbound-untyped = order-checker .pass-one-untyped-there unbound 9 2 (one-verdicts .0) (inl refl)
+
+mistyped-untyped : Untyped (signatures mistyped) 2 (firstNode mistyped) (mistyped .functions)
+mistyped-untyped = order-checker .pass-one-untyped-there mistyped 8 2 (one-verdicts .1) (inr refl)
 
 -- ---- words
 

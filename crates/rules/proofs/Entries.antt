@@ -17,7 +17,7 @@ use Rattle.rules.specs.OrderChecker.{firstNode, Numbered, kindIn}
 mutual
   unfolding entered prefix kindIn
 
-  kinds-entered : (e : Expr) (sc : Scope) (r : ℕ) → map kindIn (entered sc r e) ≡ prefix e
+  pub kinds-entered : (e : Expr) (sc : Scope) (r : ℕ) → map kindIn (entered sc r e) ≡ prefix e
   kinds-entered (const i) sc r = refl
   kinds-entered (var a) sc r = refl
   kinds-entered (add p q) sc r = simp (map-append, kinds-entered p, kinds-entered q)
@@ -58,7 +58,7 @@ numbered-behind sc r e ys h k = numbered-join r (entered sc r e) ys h (rw (← (
 mutual
   unfolding entered
 
-  numbered : (e : Expr) (sc : Scope) (r : ℕ) → Numbered r (entered sc r e)
+  pub numbered : (e : Expr) (sc : Scope) (r : ℕ) → Numbered r (entered sc r e)
   numbered (const i) sc r = (refl, tt)
   numbered (var a) sc r = (refl, tt)
   numbered (add p q) sc r = (refl, numbered-behind _ (suc r) p _ (numbered p _ _) (numbered q _ _))

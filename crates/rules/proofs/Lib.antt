@@ -7,6 +7,7 @@ pub mod Typed
 pub mod PassTwo
 pub mod FirstFault
 pub mod Places
+pub mod Untyped
 pub mod Printed
 pub mod OrderChecker
 pub mod Parts

@@ -26,6 +26,7 @@ use Rattle.rules.proofs.Typed.{passes-one}
 use Rattle.rules.proofs.PassTwo.{walks, second, no-typing, only-full}
 use Rattle.rules.proofs.FirstFault.{pass-two, only-one}
 use Rattle.rules.proofs.Places.{untyped-there}
+use Rattle.rules.proofs.Untyped.{pass-one-no-typing, pass-one-untyped-there, only-words}
 use Rattle.rules.proofs.Printed.{printed, fixed}
 
 -- ---- one function
@@ -55,7 +56,7 @@ module _ (gs : List Signature) (r : ℕ) (f : Function) where
         typed = unused-all (checks-types (o .derivation));
         few-words = few-words gs (f .parameters) 1 (f .parameters) r (resultType (f .sort)) (f .body) (l .applied) (few-parameters gs j f l) one;
         derivation = o .derivation;
-        few-pending = o .few;
+        few-pending = λ d. rw (one-listing gs (f .parameters) 1 r (0 ∷ []) (f .body) (resultType (f .sort)) [] [] d (o .derivation) .1) (o .few);
       }
 
   passes-first : AdmittedFunction gs r f → Passes gs (startOf f) r (f .body)
@@ -64,7 +65,7 @@ module _ (gs : List Signature) (r : ℕ) (f : Function) where
       passes-one gs (f .parameters) 1 (f .parameters) r (0 ∷ []) (resultType (f .sort)) (f .body) (a .typed) (lit< tt, tt) (a .few-words)
 
   walks-through : AdmittedFunction gs r f → walk 1 r (0 ∷ []) (f .body) ≡ done []
-  walks-through a = walks (record { derivation = a .derivation; few = a .few-pending })
+  walks-through a = walks (record { derivation = a .derivation; few = a .few-pending (a .derivation) })
 
 -- ---- all functions
 
@@ -147,6 +148,9 @@ order-checker = record {
   in-prefix-order = in-prefix-order;
   one-by-one = one-by-one;
   pass-one = pass-one;
+  pass-one-no-typing = pass-one-no-typing;
+  pass-one-untyped-there = pass-one-untyped-there;
+  only-words = only-words;
   pass-two = pass-two;
   only-one = only-one;
   no-typing = no-typing;

@@ -18,15 +18,15 @@ use Rattle.rules.proofs.Splits.{types-checks}
 use Rattle.rules.proofs.PassTwo.{Said, good, bad, said-done, said-refused, said-then, said-worse, said-check, checked-walk}
 
 -- record q is one of so many from r on
-record Among (r many q : ℕ) : Type 0 where
-  from : r ≤ q
-  before : q < r + many
+pub record Among (r many q : ℕ) : Type 0 where
+  pub from : r ≤ q
+  pub before : q < r + many
 
 -- so it is of more records, from an earlier one on
-widen : {first a r many q : ℕ} → r ≤ first → first + a ≤ r + many → Among first a q → Among r many q
+pub widen : {first a r many q : ℕ} → r ≤ first → first + a ≤ r + many → Among first a q → Among r many q
 widen h g among = record { from = omega (arith, among .from); before = omega (arith, among .before) }
 
-own : (r many : ℕ) → Among r (suc many) r
+pub own : (r many : ℕ) → Among r (suc many) r
 own r many = record { from = omega arith; before = omega arith }
 
 -- a walk is refused at one of these records, if it is

@@ -51,15 +51,15 @@ no-fewer gs w (call a b xs) = of-call (nth gs b)
     of-call (some s) = let h = value (s .sort) in omega arith
 
 -- the names of a list are bound
-abbrev Bound : ℕ → List ℕ → Type 0
+abbrev pub Bound : ℕ → List ℕ → Type 0
 Bound n Δ = Every (λ a. a < n) Δ
 
-bound-more : (n : ℕ) (Δ : List ℕ) → Bound n Δ → Bound (suc (suc n)) Δ
+pub bound-more : (n : ℕ) (Δ : List ℕ) → Bound n Δ → Bound (suc (suc n)) Δ
 bound-more n [] h = tt
 bound-more n (a ∷ Δ) h = (omega (arith, h .0), bound-more n Δ (h .1))
 
 -- the name that a Case or a Call has is bound
-name-bound : {n a : ℕ} {Δ : List ℕ} {σ : Ty} → TypesName Δ a σ → Bound n Δ → a < n
+pub name-bound : {n a : ℕ} {Δ : List ℕ} {σ : Ty} → TypesName Δ a σ → Bound n Δ → a < n
 name-bound T-Var1 h = h .0
 
 -- the value of a number-valued function with no arguments is a number
@@ -71,6 +71,12 @@ bare-value s e = of-sort (s .sort) refl
     of-sort numberValued f = f
     of-sort treeValued f = absurd (false≢true (rw (f, bareNumber) at e))
 
+-- a function's value has its type
+pub value-fits : (sort : Sort) → fits sort (resultType sort) ≡ true
+unfolding fits resultType isInt isTree
+value-fits numberValued = refl
+value-fits treeValued = refl
+
 -- a Call of a known function passes where its value's type is expected
 call-passes : (gs : List Signature) (g n w r a b : ℕ) (xs : Args) (s : Signature)
     → nth gs b ≡ some s
@@ -78,7 +84,7 @@ call-passes : (gs : List Signature) (g n w r a b : ℕ) (xs : Args) (s : Signatu
     → valueWords (s .sort) w ≤ mostWords
     → PassesArgs gs (Call a b) 0 (scope g n w (resultType (s .sort))) (suc r) xs
     → Passes gs (scope g n w (resultType (s .sort))) r (call a b xs)
-unfolding entered named typed wordsTested roomy fits resultType isInt isTree valueWords
+unfolding entered named typed wordsTested roomy valueWords
 call-passes gs g n w r a b xs s known bound few args =
     pass-more gs (scope g n w (resultType (s .sort))) r (Call a b) _
     (lt-ltb a n bound)
@@ -86,10 +92,6 @@ call-passes gs g n w r a b xs s known bound few args =
     (rw (known, wordsTested, roomy) (room (bareNumber s) refl))
     args
   where
-    value-fits : (sort : Sort) → fits sort (resultType sort) ≡ true
-    value-fits numberValued = refl
-    value-fits treeValued = refl
-
     room : (t : Bool) → bareNumber s ≡ t → elim t [ true ↦ ltb w mostWords | false ↦ true ] ≡ true
     room true e = lt-ltb w mostWords (rw (bare-value s e) at few)
     room false e = refl

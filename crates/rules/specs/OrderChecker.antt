@@ -3,11 +3,11 @@
 -- Demand 2: "within the limits, the order checker passes precisely what document 000's typing rules admit, with document 01's for Let and IfZero".
 use Prim.Native.Nat.{ℕ, suc, _+_, _≤_, _<_}
 use mathlib.Core.List.{List, [], _∷_, _++_, map}
-use mathlib.Core.Logic.{_↔_}
+use mathlib.Core.Logic.{_↔_, _⊎_}
 use mathlib.Core.Path.{_≡_}
 use lib.ListN.{length}
 use Rattle.formats.specs.Numbers.{Bytes}
-use Rattle.formats.specs.Refusals.{outOfOrder, tooManyPending}
+use Rattle.formats.specs.Refusals.{notBound, wrongType, tooManyWords, outOfOrder, tooManyPending}
 use Rattle.formats.specs.Results.{done, refusal}
 use Rattle.formats.specs.Records.{Kind, partsOf}
 use Rattle.formats.specs.Programs.{Expr, size, Every, Signature, signatureOf, Function, Program, signatures, nodes, Lawful}
@@ -32,13 +32,13 @@ firstNode program = suc (length (program .functions))
 abbrev pub CheckedFunction : List Signature → ℕ → Function → Type 0
 CheckedFunction gs r f = Checks gs (f .parameters) 1 r (0 ∷ []) (f .body) (resultType (f .sort)) []
 
--- A function within the limits that has a derivation by Figure 6. The limit of 16 pending is of the whole list, so it is said of the derivation by
--- Figure 19, whose lists those are: fewer than 16 at each Case.
+-- A function within the limits that has a derivation by Figure 6. The limit of 16 pending is of the whole list, so it is said of derivations by
+-- Figure 19, whose lists those are: there is one, and each has fewer than 16 at each Case.
 pub record AdmittedFunction (gs : List Signature) (r : ℕ) (f : Function) : Type 0 where
   pub typed : TypedFunction gs f
   pub few-words : wordsOf gs (f .parameters) (f .body) ≤ mostWords
   pub derivation : CheckedFunction gs r f
-  pub few-pending : Every FewAtCase (lines derivation)
+  pub few-pending : (d : CheckedFunction gs r f) → Every FewAtCase (lines d)
 
 -- Functions, the first node of the first at record r.
 abbrev pub AdmittedFrom : List Signature → ℕ → List Function → Type 0
@@ -113,6 +113,25 @@ pub record OrderChecker : Type 0 where
   pub pass-one :
       (program : Program) (number r : ℕ)
       → (passOne program ≡ refusal number r) ↔ FirstFails (signatures program) (enteredAll (firstNode program) (program .functions)) number r
+  -- Where pass one refuses with 9 or 8, some function body has no derivation. (No limit is asked for here.)
+  pub pass-one-no-typing :
+      (program : Program) (number r : ℕ)
+      → passOne program ≡ refusal number r
+      → (number ≡ notBound) ⊎ (number ≡ wrongType)
+      → Every (TypedFunction (signatures program)) (program .functions)
+      → ⊥
+  -- It is the function that has the record of the refusal.
+  pub pass-one-untyped-there :
+      (program : Program) (number r : ℕ)
+      → passOne program ≡ refusal number r
+      → (number ≡ notBound) ⊎ (number ≡ wrongType)
+      → Untyped (signatures program) r (firstNode program) (program .functions)
+  -- Where every body has one, it refuses nothing but 10: the limit of 16 words is all that pass one asks besides.
+  pub only-words :
+      (program : Program) (number r : ℕ)
+      → Every (TypedFunction (signatures program)) (program .functions)
+      → passOne program ≡ refusal number r
+      → number ≡ tooManyWords
   -- Pass two refuses at a record exactly where the first fault stands ..
   pub pass-two :
       (program : Program) (number r : ℕ)

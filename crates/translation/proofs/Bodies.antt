@@ -35,7 +35,7 @@ admitted-body : {gs : List Signature} {r : ℕ} {f : Function} → AdmittedFunct
 admitted-body {r = r} a = record {
   few-words = a .few-words;
   at = r;
-  in-order = walks (record { derivation = a .derivation; few = a .few-pending });
+  in-order = walks (record { derivation = a .derivation; few = a .few-pending (a .derivation) });
 }
 
 -- so has each of admitted functions

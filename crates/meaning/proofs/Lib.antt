@@ -1,5 +1,6 @@
 -- Proofs about stream runs and about what a program means.
 pub mod Levels
+pub mod CannotPerform
 pub mod Steps
 pub mod Runs
 pub mod Inputs

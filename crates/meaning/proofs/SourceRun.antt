@@ -25,7 +25,7 @@ use Rattle.meaning.specs.Running.{mostCalls}
 use Rattle.meaning.specs.Evaluation.{Value, Ends, resultBytes, resultNumber}
 use Rattle.meaning.specs.OpenCalls.{Outcome, gives, stops, begins, begun, after, evaluation, within}
 use Rattle.meaning.specs.SourceRun.{SourceRan, refusedAfter, endedAfter, told, tellFrom, sourceRun}
-use Rattle.meaning.specs.Meaning.{OfSort, TooMany, Cut, Passed, EndedWith, RefusedWith, ByReductions, Refuses18, SourceRuns}
+use Rattle.meaning.specs.Meaning.{OfSort, TooMany, Cut, Passed, EndedWith, RefusedWith, ByReductions, EndedFrom, Refuses18, SourceRuns}
 use Rattle.meaning.proofs.Outcomes.{begun-after}
 use Rattle.meaning.proofs.Proper.{ProperProgram, proper}
 use Rattle.meaning.proofs.OpenCalls.{of-sort, held}
@@ -230,6 +230,21 @@ module _ (file input output : List ℕ) (values returns : ℕ) (bs : Bytes file)
   answers-untouched number place fuel (is-refused n why q h r) e =
       record { outcome = e; expressions = refl; no-bytes = r .no-bytes; no-number = r .no-number; untouched = r .untouched }
 
+  -- a call that ended passed all, and its evaluation ended
+  answers-from : (fuel : ℕ) → Answers fuel → ran fuel .answer .outcome ≡ done tt → EndedFrom file input output values returns fuel (ran fuel)
+  answers-from fuel (has-ended program t n v p ends h space r) e = record {
+    program = program;
+    input-tree = t;
+    passed = p;
+    expressions = n;
+    value = v;
+    ends = ends;
+    enough-fuel = h;
+    enough-space = space;
+    gives = r;
+  }
+  answers-from fuel (is-refused n why q h r) e = done-not e (r .outcome)
+
   -- the reductions lead to the value of a call that ended
   answers-reached :
       (program : Program) (t : Tree) (fuel : ℕ)
@@ -288,6 +303,7 @@ module _ (file input output : List ℕ) (values returns : ℕ) (bs : Bytes file)
           | inl e ↦ absurd (none (e .expressions) (e .value) (e .ends))
           | inr s ↦ call-stops program t p s
         ];
+        ended-from = λ fuel. answers-from fuel (answers fuel);
         untouched = λ number place fuel. answers-untouched number place fuel (answers fuel);
         by-reductions = λ program t fuel p. answers-reached program t fuel p (answers fuel);
         within-fuel = λ fuel. answers-within fuel (answers fuel);

@@ -18,6 +18,7 @@ use Rattle.meaning.specs.Levels.{atLevel}
 use Rattle.meaning.specs.Performing.{Setting, Caller, State, wordsBelow, standing, opened, Step, goes, ends, refuses, to, holding, reading, writing}
 use Rattle.meaning.specs.Performing.{one, two, room, push, write, byTag, readNumber, call, kept, leave, operate, perform, step}
 use Rattle.meaning.specs.StreamRun.{StepRefusal, ended-there, no-tag, full, too-many, cannot, Within, Grows, OneStep}
+use Rattle.meaning.proofs.CannotPerform.{cannot-first}
 
 -- what becomes of a state's instruction, with the equation kept
 pub data Stepped (m : Setting) (s : State) : Type 0 where
@@ -234,6 +235,7 @@ module _ (m : Setting) (s : State) where
   pub one-step : OneStep m s
   one-step = record {
     refusals = λ number e. subst (Sound m s) e sound;
+    cannot-first = cannot-first m s;
     grows = λ t e. follows-step e .grows;
     within = λ t w e. follows-step e .within w;
   }

@@ -3,6 +3,7 @@ pub mod Levels
 pub mod Instructions
 pub mod Performing
 pub mod Running
+pub mod CannotPerform
 pub mod StreamRun
 pub mod Evaluation
 pub mod OpenCalls

@@ -207,6 +207,18 @@ pub record ByReductions (program : Program) (t : Tree) (output : List ℕ) (ran 
   pub is-first : nth (program .functions) 0 ≡ some first
   pub leads : Reaches program (applied first t) (valueTerm value)
 
+-- What a call that ended came from: all that comes before the evaluation passed, the evaluation ended, and fuel and output were enough.
+pub record EndedFrom (file input output : List ℕ) (values returns fuel : ℕ) (ran : SourceRan) : Type 0 where
+  pub program : Program
+  pub input-tree : Tree
+  pub passed : Passed file input values returns program input-tree
+  pub expressions : ℕ
+  pub value : Value
+  pub ends : Ends program input-tree mostCalls expressions value
+  pub enough-fuel : expressions ≤ fuel
+  pub enough-space : length (resultBytes value) ≤ length output
+  pub gives : EndedWith expressions value output ran
+
 -- 18 once so many expressions have begun, 14 before.
 pub record Refuses18 (output : List ℕ) (call : ℕ → SourceRan) : Type 0 where
   pub expressions : ℕ
@@ -263,6 +275,8 @@ pub record SourceRuns (file input output : List ℕ) (values returns : ℕ) (cal
       → Passed file input values returns program t
       → ((n : ℕ) (v : Value) → Ends program t mostCalls n v → ⊥)
       → Refuses18 output call
+  -- a call ends in no other case than that of `ends`: its program passed pass one, and so did all else before the evaluation, which ended
+  pub ended-from : (fuel : ℕ) → call fuel .answer .outcome ≡ done tt → EndedFrom file input output values returns fuel (call fuel)
   -- every refusal leaves the output, and tells neither bytes nor a number
   pub untouched :
       (number place fuel : ℕ)

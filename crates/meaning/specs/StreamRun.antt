@@ -1,7 +1,7 @@
 -- What holds of every stream run, of any code: the statements. They are proved in proofs/StreamRun.antt.
 use Prim.Native.Nat.{ℕ, _+_, _≤_, _<_}
 use mathlib.Core.List.{List, [], _∷_, _++_}
-use mathlib.Core.Logic.{_≢_}
+use mathlib.Core.Logic.{_↔_, _≢_}
 use mathlib.Core.Option.{some}
 use mathlib.Core.Path.{_≡_}
 use mathlib.Core.Bool.{true, false}
@@ -13,6 +13,7 @@ use Rattle.formats.specs.Results.{Result, done, refusal}
 use Rattle.formats.specs.Tokens.{labelBytes}
 use Rattle.meaning.specs.Instructions.{Operation, operationOf, instructionOf}
 use Rattle.meaning.specs.Performing.{Setting, State, standing, opened, goes, ends, refuses, step}
+use Rattle.meaning.specs.CannotPerform.{CannotPerform}
 use Rattle.meaning.specs.Running.{Run, ended, refused, run, unitsOf, Answer, Ran, streamRun}
 
 -- ---- one step
@@ -39,6 +40,9 @@ pub record Grows (s t : State) : Type 0 where
 
 pub record OneStep (m : Setting) (s : State) : Type 0 where
   pub refusals : (number : ℕ) → step m s ≡ refuses number → StepRefusal number
+  -- 01: "At one instruction 19 comes before 15 to 18". It is 19 exactly where the instruction can't be performed, whatever the input, the output and the
+  -- open calls are.
+  pub cannot-first : (step m s ≡ refuses cannotPerform) ↔ CannotPerform m s
   pub grows : (t : State) → step m s ≡ goes t → Grows s t
   pub within : (t : State) → Within m s → step m s ≡ goes t → Within m t
 

@@ -1,0 +1,348 @@
+-- An instruction is refused with 19 exactly where it can't be performed, and closed cases in which another refusal applies as well.
+use Prim.Native.Nat.{ℕ, zero, suc, _+_, _≤_, _<_}
+use mathlib.Core.Bool.{Bool, true, false}
+use mathlib.Core.List.{List, [], _∷_}
+use mathlib.Core.Logic.{_↔_}
+use mathlib.Core.Option.{Option, none, some, Option·some-injective, Option·none-ne-some}
+use mathlib.Core.Path.{_≡_, refl, sym, ap, _∙_}
+use native.Mathlib.Decide.{decLe}
+use native.Mathlib.Omega.{arith}
+use borrow.Author.Tests.{ltb-true, ltb-false, leb-true, leb-false}
+use lib.Dec.{lit<, leb, ltb}
+use lib.ListN.{length}
+use Rattle.formats.specs.Refusals.{inputEnded, notATag, outputFull, tooManyCalls, cannotPerform}
+use Rattle.formats.specs.Tokens.{labelBytes, Tag, ended, aLeaf, aNode, other, tagAt}
+use Rattle.formats.specs.Numbers.{bytesOf, numberOf, numberAt}
+use Rattle.formats.specs.Records.{fields, bytesOfRecord, recordAt, nth}
+use Rattle.formats.proofs.Records.{none-past}
+use Rattle.meaning.specs.Levels.{atLevel}
+use Rattle.meaning.specs.Instructions.{Instruction, Operation, Push, Get, Add, Ifnot, Jump, Slide, Drop, LeafTag, NodeTag, WriteNumber, ReadTag, ReadNumber, Call, Return, heldBy, operations, operationOf, instructionOf}
+use Rattle.meaning.specs.Performing.{Setting, Caller, State, wordsBelow, standing, opened, Step, goes, ends, refuses}
+use Rattle.meaning.specs.Performing.{one, two, room, push, write, byTag, readNumber, call, kept, leave, operate, perform, step}
+use Rattle.meaning.specs.Running.{ofCode}
+use Rattle.meaning.specs.CannotPerform.{wordsNeeded, wordsAdded, Fetches, fetched, CannotPerform, no-instruction, no-operation, return-byte, missing-words, surplus-words}
+use Rattle.meaning.proofs.Levels.{level-found, level-below}
+
+-- ---- what becomes of an instruction, and whether C holds: it is refused with 19 where C holds, and nowhere else
+
+data Exactly (C : Type 0) : Step → Type 0 where
+  stuck : C → Exactly C (refuses cannotPerform)
+  going : {t : State} → (C → ⊥) → Exactly C (goes t)
+  ending : {number : ℕ} → (C → ⊥) → Exactly C (ends number)
+  refused : {number : ℕ} → number < cannotPerform → (C → ⊥) → Exactly C (refuses number)
+
+-- the number of a refusal, or 0
+numberIn : Step → ℕ
+numberIn (goes t) = 0
+numberIn (ends number) = 0
+numberIn (refuses number) = number
+
+exactly-to : {C : Type 0} {r : Step} → Exactly C r → r ≡ refuses cannotPerform → C
+unfolding numberIn
+exactly-to (stuck c) e = c
+exactly-to (going h) e = let n : 0 ≡ cannotPerform = ap numberIn e in absurd (omega arith)
+exactly-to (ending h) e = let n : 0 ≡ cannotPerform = ap numberIn e in absurd (omega arith)
+exactly-to (refused {number = number} below h) e = let n : number ≡ cannotPerform = ap numberIn e in absurd (omega arith)
+
+exactly-from : {C : Type 0} {r : Step} → Exactly C r → C → r ≡ refuses cannotPerform
+exactly-from (stuck c) d = refl
+exactly-from (going h) d = absurd (h d)
+exactly-from (ending h) d = absurd (h d)
+exactly-from (refused below h) d = absurd (h d)
+
+-- of another condition that holds in the same cases
+exactly-of : {C D : Type 0} {r : Step} → (C → D) → (D → C) → Exactly C r → Exactly D r
+exactly-of to from (stuck c) = stuck (to c)
+exactly-of to from (going h) = going (λ d. h (from d))
+exactly-of to from (ending h) = ending (λ d. h (from d))
+exactly-of to from (refused below h) = refused below (λ d. h (from d))
+
+module _ {C : Type 0} where
+  -- where a test fails, 19
+  exactly-if : (test : Bool) (r : Step) → (test ≡ true → Exactly C r) → (test ≡ false → C) → Exactly C (elim test [ true ↦ r | false ↦ refuses cannotPerform ])
+  exactly-if true r h g = h refl
+  exactly-if false r h g = stuck (g refl)
+
+  -- where it fails, something else
+  exactly-or : (test : Bool) (r o : Step) → Exactly C r → Exactly C o → Exactly C (elim test [ true ↦ r | false ↦ o ])
+  exactly-or true r o h g = h
+  exactly-or false r o h g = g
+
+  -- one word, or two
+  exactly-one :
+      (words : List ℕ) (f : ℕ → List ℕ → Step)
+      → (length words < 1 → C)
+      → ((x : ℕ) (rest : List ℕ) → 1 ≤ length words → Exactly C (f x rest))
+      → Exactly C (one words f)
+  unfolding one
+  exactly-one [] f g h = stuck (g (omega arith))
+  exactly-one (x ∷ rest) f g h = h x rest (omega arith)
+
+  exactly-two :
+      (words : List ℕ) (f : ℕ → ℕ → List ℕ → Step)
+      → (length words < 2 → C)
+      → ((x y : ℕ) (rest : List ℕ) → 2 ≤ length words → Exactly C (f x y rest))
+      → Exactly C (two words f)
+  unfolding two one
+  exactly-two [] f g h = stuck (g (omega arith))
+  exactly-two (x ∷ []) f g h = stuck (g (omega arith))
+  exactly-two (x ∷ y ∷ rest) f g h = h x y rest (omega arith)
+
+-- ---- operations
+
+module _ (m : Setting) (s : State) where
+  -- what of the rules concerns an operation that has been fetched
+  data Cannot (op : Operation) : Type 0 where
+    byte : (k : ℕ) → op ≡ Return k → 1 < k → Cannot op
+    missing : length (s .frame) < wordsNeeded op → Cannot op
+    surplus : 0 < wordsAdded op → m .mostWords < standing s + wordsAdded op → Cannot op
+
+  -- a return's byte, or 0
+  byteIn : Operation → ℕ
+  byteIn (Push x) = 0
+  byteIn (Get k) = 0
+  byteIn Add = 0
+  byteIn (Ifnot a) = 0
+  byteIn (Jump a) = 0
+  byteIn Slide = 0
+  byteIn Drop = 0
+  byteIn LeafTag = 0
+  byteIn NodeTag = 0
+  byteIn WriteNumber = 0
+  byteIn (ReadTag a) = 0
+  byteIn ReadNumber = 0
+  byteIn (Call entry n) = 0
+  byteIn (Return k) = k
+
+  -- none does
+  can :
+      (op : Operation)
+      → byteIn op ≤ 1
+      → wordsNeeded op ≤ length (s .frame)
+      → (0 < wordsAdded op → standing s + wordsAdded op ≤ m .mostWords)
+      → Cannot op
+      → ⊥
+  unfolding byteIn
+  can op small enough fits (byte k e h) = let is : byteIn op ≡ k = ap byteIn e in omega arith
+  can op small enough fits (missing h) = omega arith
+  can op small enough fits (surplus adds h) = let most = fits adds in omega arith
+
+  -- where it adds no word
+  can-plain : (op : Operation) → wordsAdded op ≡ 0 → byteIn op ≤ 1 → wordsNeeded op ≤ length (s .frame) → Cannot op → ⊥
+  can-plain op none-added small enough = can op small enough (λ adds. absurd (omega arith))
+
+  -- room for the word that an operation adds
+  exactly-room :
+      (op : Operation) (r : Step)
+      → wordsAdded op ≡ 1
+      → ((0 < wordsAdded op → standing s + wordsAdded op ≤ m .mostWords) → Exactly (Cannot op) r)
+      → Exactly (Cannot op) (room m s r)
+  unfolding room
+  exactly-room op r adds h =
+      exactly-if _ r
+      (λ e. let below = ltb-true (standing s) (m .mostWords) e in h (λ some-added. omega arith))
+      (λ e. let full = ltb-false (standing s) (m .mostWords) e in surplus (omega arith) (omega arith))
+
+  exactly-push : (op : Operation) (x : ℕ) → wordsAdded op ≡ 1 → byteIn op ≤ 1 → wordsNeeded op ≤ length (s .frame) → Exactly (Cannot op) (push m x s)
+  unfolding push
+  exactly-push op x adds small enough = exactly-room op _ adds (λ fits. going (can op small enough fits))
+
+  -- a word of the frame, if there is one
+  exactly-get :
+      (k : ℕ) (found : Option ℕ)
+      → atLevel (s .frame) k ≡ found
+      → Exactly (Cannot (Get k)) (elim found [ some x ↦ push m x s | none ↦ refuses cannotPerform ])
+  unfolding wordsNeeded wordsAdded byteIn
+  exactly-get k (some x) e = exactly-push (Get k) x refl (omega arith) (level-below (s .frame) k e)
+  exactly-get k none e = stuck (missing (by-count (decLe (suc k) (length (s .frame)))))
+    where
+      by-count : Dec (suc k ≤ length (s .frame)) → length (s .frame) < suc k
+      by-count (no h) = omega arith
+      by-count (yes h) = let f = level-found (s .frame) k h in absurd (Option·none-ne-some (f .entry) (sym e ∙ f .is))
+
+  -- bytes written, a number read, a call
+  exactly-write : {C : Type 0} (bytes : List ℕ) (t : State) → (C → ⊥) → Exactly C (write m bytes t)
+  unfolding write
+  exactly-write bytes t h = exactly-or (leb (length (t .output) + length bytes) (m .space)) _ _ (going h) (refused {number = outputFull} (omega arith) h)
+
+  exactly-number : {C : Type 0} → (C → ⊥) → Exactly C (readNumber m s)
+  unfolding readNumber
+  exactly-number h = exactly-or (leb (s .read + labelBytes) (length (m .input))) _ _ (going h) (refused {number = inputEnded} (omega arith) h)
+
+  exactly-call : {C : Type 0} (entry n : ℕ) → (C → ⊥) → Exactly C (call m entry n s)
+  unfolding call
+  exactly-call entry n h = exactly-or (ltb (opened s) (m .mostOpen)) _ _ (going h) (refused {number = tooManyCalls} (omega arith) h)
+
+  -- a tag read
+  exactly-tag : {C : Type 0} (g : Tag) (a : ℕ) → (C → ⊥) → Exactly C (byTag g a s)
+  unfolding byTag
+  exactly-tag ended a h = refused {number = inputEnded} (omega arith) h
+  exactly-tag aLeaf a h = going h
+  exactly-tag aNode a h = going h
+  exactly-tag other a h = refused {number = notATag} (omega arith) h
+
+  -- a return
+  exactly-leave : {C : Type 0} (cs : List Caller) (words : List ℕ) → (C → ⊥) → Exactly C (leave cs words s)
+  unfolding leave
+  exactly-leave [] words h = ending h
+  exactly-leave (c ∷ cs) words h = going h
+
+  exactly-return :
+      (k : ℕ) (frame : List ℕ)
+      → s .frame ≡ frame
+      → Exactly (Cannot (Return k)) (elim (kept k frame) [ some words ↦ leave (s .callers) words s | none ↦ refuses cannotPerform ])
+  unfolding kept wordsNeeded wordsAdded byteIn
+  exactly-return zero frame e = exactly-leave (s .callers) _ (can-plain (Return 0) refl (omega arith) (omega arith))
+  exactly-return (suc zero) [] e = let none-there = ap length e in stuck (missing (omega arith))
+  exactly-return (suc zero) (x ∷ rest) e =
+      let there = ap length e in
+      exactly-leave (s .callers) _ (can-plain (Return 1) refl (omega arith) (omega arith))
+  exactly-return (suc (suc k)) frame e = stuck (byte (suc (suc k)) refl (omega arith))
+
+  -- one line for each opcode
+  exactly-operate : (op : Operation) → Exactly (Cannot op) (operate m s op)
+  unfolding operate wordsNeeded wordsAdded byteIn
+  exactly-operate (Push x) = exactly-push (Push x) x refl (omega arith) (omega arith)
+  exactly-operate (Get k) = exactly-get k (atLevel (s .frame) k) refl
+  exactly-operate Add = exactly-two (s .frame) _ missing (λ q p rest h. going (can-plain Add refl (omega arith) h))
+  exactly-operate (Ifnot a) = exactly-one (s .frame) _ missing (λ x rest h. going (can-plain (Ifnot a) refl (omega arith) h))
+  exactly-operate (Jump a) = going (can-plain (Jump a) refl (omega arith) (omega arith))
+  exactly-operate Slide = exactly-two (s .frame) _ missing (λ x under rest h. going (can-plain Slide refl (omega arith) h))
+  exactly-operate Drop = exactly-one (s .frame) _ missing (λ x rest h. going (can-plain Drop refl (omega arith) h))
+  exactly-operate LeafTag = exactly-write _ s (can-plain LeafTag refl (omega arith) (omega arith))
+  exactly-operate NodeTag = exactly-write _ s (can-plain NodeTag refl (omega arith) (omega arith))
+  exactly-operate WriteNumber =
+      exactly-one (s .frame) _ missing (λ x rest h. exactly-write _ _ (can-plain WriteNumber refl (omega arith) h))
+  exactly-operate (ReadTag a) = exactly-tag (tagAt (m .input) (s .read)) a (can-plain (ReadTag a) refl (omega arith) (omega arith))
+  exactly-operate ReadNumber = exactly-room ReadNumber _ refl (λ fits. exactly-number (can ReadNumber (omega arith) (omega arith) fits))
+  exactly-operate (Call entry n) =
+      exactly-if _ _
+      (λ e. exactly-call entry n (can-plain (Call entry n) refl (omega arith) (leb-true _ _ e)))
+      (λ e. missing (leb-false _ _ e))
+  exactly-operate (Return k) = exactly-return k (s .frame) refl
+
+  -- ---- an instruction
+
+  -- a list has nothing past its end alone
+  past-end : {A : Type 0} (xs : List A) (k : ℕ) → nth xs k ≡ none → length xs ≤ k
+  unfolding nth
+  past-end [] k e = omega arith
+  past-end (x ∷ xs) zero e = absurd (Option·none-ne-some x (sym e))
+  past-end (x ∷ xs) (suc k) e = let h = past-end xs k e in omega arith
+
+  -- an operation that is fetched
+  exactly-fetched :
+      (i : Instruction) (op : Operation)
+      → m .holds (s .address) ≡ some i
+      → operationOf i ≡ some op
+      → Exactly (CannotPerform m s) (operate m s op)
+  unfolding operationOf operations
+  exactly-fetched i op held is = exactly-of to from (exactly-operate op)
+    where
+      to : Cannot op → CannotPerform m s
+      to (byte k e h) = return-byte k (fetched i held (is ∙ ap some e)) h
+      to (missing h) = missing-words op (fetched i held is) h
+      to (surplus adds h) = surplus-words op (fetched i held is) adds h
+
+      same : (op′ : Operation) → Fetches m s op′ → op′ ≡ op
+      same op′ (fetched j holds names) =
+          let alike : i ≡ j = Option·some-injective i j (sym held ∙ holds) in
+          Option·some-injective op′ op (sym names ∙ ap operationOf (sym alike) ∙ is)
+
+      from : CannotPerform m s → Cannot op
+      from (no-instruction e) = absurd (Option·none-ne-some i (sym e ∙ held))
+      from (no-operation opcode byte1 operand number e above) =
+          let alike : i ≡ fields opcode byte1 operand number = Option·some-injective i _ (sym held ∙ e) in
+          let none-named : operationOf (fields opcode byte1 operand number) ≡ none = none-past (operations byte1 operand number) opcode (omega arith) in
+          absurd (Option·none-ne-some op (sym none-named ∙ ap operationOf (sym alike) ∙ is))
+      from (return-byte k f h) = byte k (sym (same (Return k) f)) h
+      from (missing-words op′ f h) = missing (rw (same op′ f) at h)
+      from (surplus-words op′ f adds h) = surplus (rw (same op′ f) at adds) (rw (same op′ f) at h)
+
+  -- an opcode that names none
+  no-name : (i : Instruction) → m .holds (s .address) ≡ some i → operationOf i ≡ none → CannotPerform m s
+  unfolding operationOf operations
+  no-name (fields opcode byte1 operand number) holds names =
+      no-operation opcode byte1 operand number holds (past-end (operations byte1 operand number) opcode names)
+
+  exactly-perform : (i : Instruction) → m .holds (s .address) ≡ some i → Exactly (CannotPerform m s) (perform m s i)
+  unfolding perform
+  exactly-perform i held = by-operation (operationOf i) refl
+    where
+      by-operation :
+          (o : Option Operation)
+          → operationOf i ≡ o
+          → Exactly (CannotPerform m s) (elim o [ some op ↦ operate m s op | none ↦ refuses cannotPerform ])
+      by-operation (some op) e = exactly-fetched i op held e
+      by-operation none e = stuck (no-name i held e)
+
+  exactly-step : Exactly (CannotPerform m s) (step m s)
+  unfolding step
+  exactly-step = by-holds (m .holds (s .address)) refl
+    where
+      by-holds :
+          (o : Option Instruction)
+          → m .holds (s .address) ≡ o
+          → Exactly (CannotPerform m s) (elim o [ some i ↦ perform m s i | none ↦ refuses cannotPerform ])
+      by-holds (some i) e = exactly-perform i e
+      by-holds none e = stuck (no-instruction e)
+
+  pub cannot-first : (step m s ≡ refuses cannotPerform) ↔ CannotPerform m s
+  cannot-first = (exactly-to exactly-step, exactly-from exactly-step)
+
+-- ---- closed cases
+
+-- One operation as code, with document 01's limits, no input and no output: whatever reads or writes is refused with 15 or 17.
+alone : Operation → Setting
+alone op = ofCode (bytesOfRecord (instructionOf op)) [] 0
+
+-- So many words, all 0; so many frames that wait, each without words.
+zero-words : ℕ → List ℕ
+zero-words zero = []
+zero-words (suc n) = 0 ∷ zero-words n
+
+waiting : ℕ → List Caller
+waiting zero = []
+waiting (suc n) = record { back = 0; words = [] } ∷ waiting n
+
+-- At address 0, with so many words and so many frames that wait.
+standing-at : ℕ → ℕ → State
+standing-at words calls = record { address = 0; frame = zero-words words; callers = waiting calls; read = 0; output = [] }
+
+-- What an operation is refused with there.
+refusal-of : Operation → ℕ → ℕ → ℕ
+refusal-of op words calls = numberIn (step (alone op) (standing-at words calls))
+
+-- The input has ended: 19 where 16,384 words stand already, else 15. The output is full: 19 where the number is missing, else 17. 1,024 calls are open:
+-- 19 where an argument is missing, else 18. (A read tag, which alone is refused with 16, neither needs a word nor adds one.)
+both-apply :
+    refusal-of ReadNumber 16384 0 ∷ refusal-of ReadNumber 16383 0 ∷ refusal-of WriteNumber 0 0 ∷ refusal-of WriteNumber 1 0 ∷ refusal-of (Call 0 1) 0 1023
+    ∷ refusal-of (Call 0 1) 1 1023 ∷ []
+    ≡ 19 ∷ 15 ∷ 19 ∷ 17 ∷ 19 ∷ 18 ∷ []
+unfolding refusal-of numberIn alone standing-at waiting step perform operate heldBy operationOf operations instructionOf nth recordAt bytesOfRecord bytesOf numberOf numberAt standing wordsBelow opened one room write readNumber call zero-words
+both-apply = refl
+
+-- a derivation by each rule
+stack-full : CannotPerform (alone ReadNumber) (standing-at 16384 0)
+unfolding alone standing-at waiting heldBy operationOf operations instructionOf nth recordAt bytesOfRecord bytesOf numberOf numberAt standing wordsBelow wordsAdded zero-words
+stack-full = surplus-words ReadNumber (fetched (instructionOf ReadNumber) refl refl) (lit< tt) (lit< tt)
+
+number-missing : CannotPerform (alone WriteNumber) (standing-at 0 0)
+unfolding alone standing-at waiting heldBy operationOf operations instructionOf nth recordAt bytesOfRecord bytesOf numberOf numberAt wordsNeeded zero-words
+number-missing = missing-words WriteNumber (fetched (instructionOf WriteNumber) refl refl) (lit< tt)
+
+argument-missing : CannotPerform (alone (Call 0 1)) (standing-at 0 1023)
+unfolding alone standing-at waiting heldBy operationOf operations instructionOf nth recordAt bytesOfRecord bytesOf numberOf numberAt wordsNeeded zero-words
+argument-missing = missing-words (Call 0 1) (fetched (instructionOf (Call 0 1)) refl refl) (lit< tt)
+
+two-kept : CannotPerform (alone (Return 2)) (standing-at 2 0)
+unfolding alone standing-at waiting heldBy operationOf operations instructionOf nth recordAt bytesOfRecord bytesOf numberOf numberAt zero-words
+two-kept = return-byte 2 (fetched (instructionOf (Return 2)) refl refl) (lit< tt)
+
+opcode-14 : CannotPerform (ofCode (bytesOfRecord (fields 14 0 0 0)) [] 0) (standing-at 0 0)
+unfolding standing-at waiting heldBy recordAt bytesOfRecord bytesOf numberOf numberAt zero-words
+opcode-14 = no-operation 14 0 0 0 refl (lit< tt)
+
+no-code : CannotPerform (ofCode [] [] 0) (standing-at 0 0)
+unfolding standing-at heldBy
+no-code = no-instruction refl

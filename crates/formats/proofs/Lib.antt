@@ -14,5 +14,6 @@ pub mod Words
 pub mod Blocks
 pub mod Files
 pub mod ProgramFiles
+pub mod Decimal
 pub mod Cases
 pub mod ProgramCases

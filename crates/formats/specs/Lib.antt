@@ -12,3 +12,5 @@ pub mod Rows
 pub mod Blocks
 pub mod ProgramFiles
 pub mod Reader
+pub mod Characters
+pub mod Decimal

@@ -1,7 +1,5 @@
 -- The laws of the listing's text and of the program's functions.
-pub mod Decimal
 pub mod Putting
 pub mod Signs
 pub mod Lines
 pub mod Texts
-pub mod Cases

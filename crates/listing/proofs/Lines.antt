@@ -17,9 +17,10 @@ use Rattle.formats.specs.Records.{Record, Ranged, fields, recordAt, recordBytes
 use Rattle.formats.proofs.Written.{written-none}
 use Rattle.formats.proofs.Records.{ranged-at}
 use Rattle.translation.specs.Listing.{Line, line, lineOf, linesFrom, instructionsIn}
-use Rattle.listing.specs.Text.{newline, space, field, signedField, lineText, linesText}
+use Rattle.formats.specs.Characters.{newline, space}
+use Rattle.translation.specs.ListingText.{field, signedField, lineText, linesText}
 use Rattle.listing.specs.Shown.{longestLine, mostCode, Puts}
-use Rattle.listing.proofs.Decimal.{decimal-length}
+use Rattle.formats.proofs.Decimal.{decimal-length}
 use Rattle.listing.proofs.Putting.{put-both, put-length}
 
 -- ---- `line_at`

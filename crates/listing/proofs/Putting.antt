@@ -11,9 +11,11 @@ use mir.Facts.{toZ-ofZ}
 use Rattle.formats.specs.Written.{written}
 use Rattle.formats.proofs.Written.{wrote, written-one, written-append}
 use Rattle.translation.specs.Listing.{line}
-use Rattle.listing.specs.Text.{space, digitZero, decimal, field, signedField, lineText}
+use Rattle.formats.specs.Characters.{space, digitZero}
+use Rattle.formats.specs.Decimal.{decimal}
+use Rattle.translation.specs.ListingText.{field, signedField, lineText}
 use Rattle.listing.specs.Shown.{Puts}
-use Rattle.listing.proofs.Decimal.{decimal-one, decimal-more}
+use Rattle.formats.proofs.Decimal.{decimal-one, decimal-more}
 
 -- ---- pieces
 

@@ -12,7 +12,8 @@ use mir.Syntax.{w32, w64}
 use mir.Val.{Fits, SFits, toZ, ofZ}
 use mir.Facts.{toZ-ofZ, fits-of-lt}
 use borrow.Author.Tests.{ltb-true, le-ltb}
-use Rattle.listing.specs.Text.{newline, minus, field, signedField}
+use Rattle.formats.specs.Characters.{newline, minus}
+use Rattle.translation.specs.ListingText.{field, signedField}
 use Rattle.listing.specs.Shown.{Puts}
 use Rattle.listing.proofs.Putting.{put-both, put-length}
 

@@ -21,7 +21,8 @@ use Rattle.refusal.specs.declared.Filled.the-variants.{Written, Refused}
 use Rattle.translation.specs.Calls.{translateFile}
 use Rattle.translation.specs.Listing.{refused, linesFrom, instructionsIn, listingOf, listing}
 use Rattle.translation.proofs.Calls.{has-room}
-use Rattle.listing.specs.Text.{newline, space, field, linesText, codeWord, refusedWord, text}
+use Rattle.formats.specs.Characters.{newline, space, ascii}
+use Rattle.translation.specs.ListingText.{field, linesText, codeWord, refusedWord, text}
 use Rattle.listing.specs.Shown.{longestLine, mostCode, mostText, Puts}
 use Rattle.listing.proofs.Putting.{put-both, put-length}
 use Rattle.listing.proofs.Lines.{field-length}
@@ -56,7 +57,7 @@ module _ (s t : List ℕ) (n place : ℕ) (big : mostText ≤ length s) (is : t 
         )
 
     pub refusal-put : (v : List ℕ) (r : ℕ) → Puts u v q (field place newline) r → Puts s v 0 (text (refused n place)) r
-    unfolding text refusedWord
+    unfolding text refusedWord ascii
     refusal-put v r last = put-both s t v 0 8 r _ _ (word-put s t refusedWord (omega arith) is) (put-both t u v 8 q r _ _ put last)
 
 pub ruleset refusal-ways = (number-room, place-room, refusal-put)
@@ -80,7 +81,7 @@ module _ (s t code : List ℕ) (big : mostText ≤ length s) (short : length cod
     lines-room = omega (arith, code-length, count-length, put .behind, put-length t u 5 _ q put)
 
     pub code-put : (v : List ℕ) (r : ℕ) → Puts u v q (linesText (linesFrom code (instructionsIn code) 0)) r → Puts s v 0 (text (listingOf (done code))) r
-    unfolding text codeWord listingOf
+    unfolding text codeWord ascii listingOf
     code-put v r lines = put-both s t v 0 5 r _ _ (word-put s t codeWord (omega arith) is) (put-both t u v 5 q r _ _ put lines)
 
 pub ruleset code-ways = (count-room, lines-room, code-put)

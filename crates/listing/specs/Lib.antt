@@ -1,3 +1,2 @@
--- What a listing is as text, and what the program's functions put into the text.
-pub mod Text
+-- What the program's functions put into the text.
 pub mod Shown

@@ -10,7 +10,8 @@ ghost use lib.ListN.{length};
 ghost use Rattle.formats.specs.Records.{recordAt};
 ghost use Rattle.formats.specs.Results.{done};
 ghost use Rattle.translation.specs.Listing.{lineOf, linesFrom, refused, instructionsIn, listingOf, listing};
-ghost use Rattle.listing.specs.Text.{decimal, field, signedField, lineText, linesText, text};
+ghost use Rattle.formats.specs.Decimal.{decimal};
+ghost use Rattle.translation.specs.ListingText.{field, signedField, lineText, linesText, text};
 ghost use Rattle.listing.specs.Shown.{longestLine, mostCode, mostText, shown, Puts};
 
 const INSTRUCTION_BYTES: usize = 8;

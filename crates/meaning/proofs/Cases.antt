@@ -5,10 +5,10 @@ use mathlib.Core.Path.{_≡_, refl}
 use lib.ListN.{length}
 use Rattle.formats.specs.Numbers.{bytesOf, numberOf, numberAt, sum32}
 use Rattle.formats.specs.Results.{Result, done, refusal, onValue}
-use Rattle.formats.specs.Records.{bytesOfRecord, flat, recordAt, nth}
+use Rattle.formats.specs.Records.{fields, bytesOfRecord, flat, recordAt, nth}
 use Rattle.formats.specs.Tokens.{tagOf, tagAt}
 use Rattle.formats.specs.Written.{written}
-use Rattle.meaning.specs.Instructions.{Operation, Push, Get, Add, Ifnot, Jump, Slide, Drop, LeafTag, NodeTag, WriteNumber, ReadTag, ReadNumber, Call, Return, heldBy, operations, operationOf, instructionOf}
+use Rattle.meaning.specs.Instructions.{Instruction, Operation, Push, Get, Add, Ifnot, Jump, Slide, Drop, LeafTag, NodeTag, WriteNumber, ReadTag, ReadNumber, Call, Return, heldBy, operations, operationOf, instructionOf}
 use Rattle.meaning.specs.Levels.{atLevel}
 use Rattle.meaning.specs.Performing.{Setting, start, goes, ends, refuses, holding, wordsBelow, standing, opened, one, two, room, push, write, byTag, readNumber, call, kept, numberKept, leave, operate, perform, step}
 use Rattle.meaning.specs.Running.{ofCode, Ran, Run, run, unitsOf, outcomeOf, numberTold, streamRun, valueWords, returnWords}
@@ -18,10 +18,12 @@ codeOf : List Operation → List ℕ
 codeOf ops = flat (map instructionOf ops)
 
 -- 01, "Worked programs": Grow's code.
+grow-operations : List Operation
+grow-operations =
+    ReadTag 9 ∷ ReadNumber ∷ LeafTag ∷ Get 0 ∷ Push 1 ∷ Add ∷ WriteNumber ∷ Drop ∷ Jump 12 ∷ NodeTag ∷ Call 0 0 ∷ Call 0 0 ∷ Return 0 ∷ []
+
 grow : List ℕ
-grow =
-    codeOf
-    (ReadTag 9 ∷ ReadNumber ∷ LeafTag ∷ Get 0 ∷ Push 1 ∷ Add ∷ WriteNumber ∷ Drop ∷ Jump 12 ∷ NodeTag ∷ Call 0 0 ∷ Call 0 0 ∷ Return 0 ∷ [])
+grow = codeOf grow-operations
 
 -- Tree T.
 two-leaves : List ℕ
@@ -153,7 +155,7 @@ cases : List Row
 cases = worked ++ (performed-well ++ (not-performed ++ at-ends))
 
 as-told : map ranOn cases ≡ map (λ r. r .gives) cases
-unfolding streamRun run step perform operate heldBy operationOf operations instructionOf nth recordAt flat bytesOfRecord bytesOf numberOf numberAt sum32 tagAt tagOf written standing wordsBelow opened atLevel one two room push write byTag readNumber call kept numberKept leave outcomeOf numberTold cases worked performed-well not-performed at-ends grow two-leaves grown blank codeOf ranOn ended-with refused-with ends-with stuck on-grow bare
+unfolding streamRun run step perform operate heldBy operationOf operations instructionOf nth recordAt flat bytesOfRecord bytesOf numberOf numberAt sum32 tagAt tagOf written standing wordsBelow opened atLevel one two room push write byTag readNumber call kept numberKept leave outcomeOf numberTold cases worked performed-well not-performed at-ends grow grow-operations two-leaves grown blank codeOf ranOn ended-with refused-with ends-with stuck on-grow bare
 as-told = refl
 
 -- ---- the limits, on a machine that has room for 2 words and 2 open calls
@@ -199,3 +201,73 @@ pushed-on n = elim (push (ofCode [] [] 0) 1 (holding (replicate n) start)) [ goe
 full-stack : map pushed-on (16383 ∷ 16384 ∷ []) ≡ 0 ∷ 19 ∷ []
 unfolding push room standing wordsBelow pushed-on replicate
 full-stack = refl
+
+-- ---- the limit of 4,128 instructions
+
+-- 4,129 instructions: the first, 4,126 pushes of 0, and those at addresses 4,127 and 4,128.
+long : (first at-4127 at-4128 : Operation) → List ℕ
+long first at-4127 at-4128 = codeOf (first ∷ []) ++ (replicate 33008 ++ codeOf (at-4127 ∷ at-4128 ∷ []))
+
+-- 01: "an address from 4,128 up .. holds no instruction and gives 19", also where 8 bytes of the buffer stand there. Address 4,127 is performed.
+past-the-last : List Row
+past-the-last =
+    bare (long (Jump 4127) (Return 0) (Return 0)) (ends-with 2 0)
+    ∷ bare (long (Jump 4127) LeafTag (Return 0)) (refused-with 19 2 0 (1 ∷ []) (blank 5))
+    ∷ bare (long (Jump 4128) (Return 0) (Return 0)) (stuck 19 1)
+    ∷ []
+
+long-buffer : map ranOn past-the-last ≡ map (λ r. r .gives) past-the-last
+unfolding streamRun run step perform operate heldBy operationOf operations instructionOf nth recordAt flat bytesOfRecord bytesOf numberOf numberAt written one two room push write kept numberKept leave outcomeOf numberTold past-the-last long replicate blank codeOf ranOn ended-with refused-with ends-with stuck bare
+long-buffer = refl
+
+-- ---- fields that an operation does not use
+
+-- The instruction of an operation, with 7, 513 and 9 in the fields that it does not use: byte 1, operand, number.
+with-others : Operation → Instruction
+with-others (Push n) = fields 0 7 513 n
+with-others (Get k) = fields 1 7 k 9
+with-others Add = fields 2 7 513 9
+with-others (Ifnot a) = fields 3 7 a 9
+with-others (Jump a) = fields 4 7 a 9
+with-others Slide = fields 5 7 513 9
+with-others Drop = fields 6 7 513 9
+with-others LeafTag = fields 7 7 513 9
+with-others NodeTag = fields 8 7 513 9
+with-others WriteNumber = fields 9 7 513 9
+with-others (ReadTag a) = fields 10 7 a 9
+with-others ReadNumber = fields 11 7 513 9
+with-others (Call entry n) = fields 12 n entry 9
+with-others (Return k) = fields 13 k 513 9
+
+-- 01: "Unused fields are .. not looked at." The runs are those of the same code with zeros there. Each opcode is performed.
+others-set : List Row
+others-set =
+    record { code = flat (map with-others grow-operations); input = two-leaves; fuel = 25; space = 12; gives = ended-with 25 11 0 grown (blank 1) }
+    ∷ bare (flat (map with-others (Push 1 ∷ Ifnot 3 ∷ Return 0 ∷ Push 5 ∷ Push 6 ∷ Slide ∷ Return 1 ∷ []))) (ends-with 6 6)
+    ∷ []
+
+unused-fields : map ranOn others-set ≡ map (λ r. r .gives) others-set
+unfolding streamRun run step perform operate heldBy operationOf operations nth recordAt flat bytesOfRecord bytesOf numberOf numberAt sum32 tagAt tagOf written standing wordsBelow opened atLevel one two room push write byTag readNumber call kept numberKept leave outcomeOf numberTold others-set with-others grow-operations two-leaves grown blank ranOn ended-with refused-with ends-with bare
+unused-fields = refl
+
+-- ---- the refusals of a call in their order
+
+-- A call with so many value words and return words, on an empty input, with 6 bytes of output.
+lending : (values returns : ℕ) (code : List ℕ) (fuel : ℕ) → Ran
+lending values returns code fuel = streamRun code [] (blank 6) fuel values returns
+
+-- 01: "The runs test 13 before tree or fuel." "Fuel is looked at first." Too few value words, or return words, without fuel or code and with both; no fuel;
+-- no code; then a run that ends, with just enough words and with more.
+first-refusal :
+    lending 16383 2048 [] 0
+    ∷ lending 16384 2047 [] 0
+    ∷ lending 16383 2048 (codeOf (Return 0 ∷ [])) 1
+    ∷ lending 16384 2047 (codeOf (Return 0 ∷ [])) 1
+    ∷ lending 16384 2048 [] 0
+    ∷ lending 16384 2048 [] 1
+    ∷ lending 16384 2048 (codeOf (Return 0 ∷ [])) 1
+    ∷ lending 16385 2049 (codeOf (Return 0 ∷ [])) 1
+    ∷ []
+    ≡ stuck 13 0 ∷ stuck 13 0 ∷ stuck 13 0 ∷ stuck 13 0 ∷ stuck 14 0 ∷ stuck 19 0 ∷ ends-with 1 0 ∷ ends-with 1 0 ∷ []
+unfolding streamRun run step perform operate heldBy operationOf operations instructionOf nth recordAt flat bytesOfRecord bytesOf numberOf numberAt written kept numberKept leave outcomeOf numberTold lending blank codeOf ended-with refused-with ends-with stuck
+first-refusal = refl

@@ -3,6 +3,7 @@
 use Prim.Native.Nat.{ℕ}
 use mathlib.Core.List.{List, [], _∷_, map}
 use mathlib.Core.Path.{_≡_, refl}
+use lib.IntN.{pos, negsuc}
 use lib.ListN.{replicate}
 use Rattle.formats.specs.Numbers.{bytesOf, numberOf, numberAt, sum32}
 use Rattle.formats.specs.Results.{done}
@@ -11,6 +12,8 @@ use Rattle.formats.specs.Records.{bytesOfRecord, flat, recordAt, nth}
 use Rattle.formats.specs.Programs.{Expr, const, var, add, ifZero, letIn, leafOf, nodeOf, caseOf, prefix, prefixes, size, countArgs, signatureOf}
 use Rattle.formats.specs.Programs.{numberValued, treeValued, Function, Program}
 use Rattle.formats.specs.Written.{written}
+use Rattle.formats.specs.Characters.{ascii}
+use Rattle.formats.specs.Decimal.{digits, decimal}
 use Rattle.formats.proofs.ProgramCases.{grow}
 use Rattle.rules.specs.Types.{isInt, isTree, fits, resultType}
 use Rattle.rules.specs.Scopes.{inside, startOf, entered, enteredArgs, enteredAll}
@@ -27,6 +30,8 @@ use Rattle.meaning.specs.Evaluation.{tree, branch, inBranch, Const as Literal, 
 use Rattle.meaning.proofs.Cases.{blank, ended-with, refused-with}
 use Rattle.meaning.proofs.MeaningCases.{again, sum, two-leaves, on-two}
 use Rattle.translation.specs.EveryRun.{unitsOf}
+use Rattle.translation.specs.Listing.{line, listed}
+use Rattle.translation.specs.ListingText.{field, signedField, lineText, linesText, codeWord, text}
 use Rattle.translation.specs.Templates.{behind, behindArgs, wordOf, firstWords, endOf, code, codeArgs, wordsKept}
 use Rattle.translation.specs.Templates.{functionCode, behindFunction, entryFrom, functionsCode, entryOf, operationsOf, codeOf}
 
@@ -223,3 +228,12 @@ grow-on-leaf = record { first = _; is-first = refl; takes = CaseOn refl (LeafOf 
 grow-units : unitsOf grow-on-leaf ≡ 10
 unfolding counted caseUnits grow-on-leaf
 grow-units = refl
+
+-- ---- a listing as text
+
+-- A sign, a number of 10 digits, an address and a byte of the greatest length.
+long-lines :
+    text (listed 2 (line 0 10 0 4127 (pos 0) ∷ line 1 0 255 0 (negsuc 2147483647) ∷ []))
+    ≡ ascii "code 2\n0 10 0 4127 0\n1 0 255 0 -2147483648\n"
+unfolding text linesText lineText signedField field codeWord decimal digits ascii
+long-lines = refl

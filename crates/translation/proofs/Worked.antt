@@ -2,13 +2,15 @@
 -- records: the writer's definition makes a file of them, and a call is made on that file. A second table has calls on other bytes, and buffers that are
 -- too short or just long enough.
 use Prim.Native.Nat.{ℕ}
+use Prim.Native.String.{String}
 use mathlib.Core.List.{List, [], _∷_, _++_, map}
 use mathlib.Core.Path.{_≡_, refl}
-use lib.IntN.{pos, negsuc}
 use lib.ListN.{length, take, replicate}
 use Rattle.formats.specs.Numbers.{bytesOf, numberOf, numberAt, sum32, signed32}
 use Rattle.formats.specs.Results.{Result, done, refusal, onValue, each}
 use Rattle.formats.specs.Written.{written}
+use Rattle.formats.specs.Characters.{newline, ascii}
+use Rattle.formats.specs.Decimal.{digits, decimal}
 use Rattle.formats.specs.Tokens.{tokens, tagOf, tagAt, labelAt, partsAt, byTag as readTag, treeAt, firstTree}
 use Rattle.formats.specs.Records.{Record, bytesOfRecord, flat, recordAt, Kind, Const, Var, Add, Leaf, Node, Case, Call as CallOf, fieldsOf, kinds, nth, kindOf, same, below, nodeRecord}
 use Rattle.formats.specs.Programs.{prefix, prefixes, size, countArgs, Sort, numberValued, treeValued, sortNumber, signatureRecord, arityOf, total, signatureOf, headerRecord, mostParameters}
@@ -29,7 +31,8 @@ use Rattle.meaning.specs.SourceRun.{SourceRan, told, tellFrom, checkSource, sou
 use Rattle.translation.specs.Templates.{behind, behindArgs, wordOf, firstWords, endOf, code, codeArgs, wordsKept}
 use Rattle.translation.specs.Templates.{functionCode, behindFunction, entryFrom, functionsCode, entryOf, operationsOf, codeOf}
 use Rattle.translation.specs.Calls.{checkedRecords, translateRecords, translateFile, prepared, Called, runFile}
-use Rattle.translation.specs.Listing.{line, Listing, listed, refused, lineOf, linesFrom, instructionsIn, listingOf, listing}
+use Rattle.translation.specs.Listing.{lineOf, linesFrom, instructionsIn, listingOf, listing}
+use Rattle.translation.specs.ListingText.{field, signedField, lineText, linesText, codeWord, refusedWord, text}
 
 -- ---- programs, in document 01's words
 
@@ -67,7 +70,7 @@ T = 2 ∷ 1 ∷ 5 ∷ 0 ∷ 0 ∷ 0 ∷ 1 ∷ 7 ∷ 0 ∷ 0 ∷ 0 ∷ []
 
 -- ---- calls
 
--- What is asked of a file: its listing; its code, in a code buffer; its run on an input, with an output, a code buffer, fuel, value words and return
+-- What is asked of a file: its listing as it is printed; its code, in a code buffer; its run on an input, with an output, a code buffer, fuel, value words and return
 -- words; its source run.
 data Asked : Type 0 where
   list : Asked
@@ -75,19 +78,24 @@ data Asked : Type 0 where
   runOn : (input output code : List ℕ) (fuel values returns : ℕ) → Asked
   sourceOn : (input output : List ℕ) (fuel : ℕ) → Asked
 
--- What is given, whole: the listing; the code or the refusal, and the code buffer; the answer, the output and the code buffer; the answer and the output.
+-- What is given, whole: every byte of the listing; the code or the refusal, and the code buffer; the answer, the output and the code buffer; the answer and the output.
 data Gives : Type 0 where
-  aListing : Listing → Gives
+  aListing : List ℕ → Gives
   aCode : Result (List ℕ) → List ℕ → Gives
   aRun : Called → Gives
   aSourceRun : SourceRan → Gives
 
 -- What a file gives. The source run is lent the work space that document 01 asks for.
 asked-of : List ℕ → Asked → Gives
-asked-of file list = aListing (listing file)
+asked-of file list = aListing (text (listing file))
 asked-of file (translate code) = aCode (translateFile (length code) file) (lent code (translateFile (length code) file))
 asked-of file (runOn input output code fuel values returns) = aRun (runFile file input output code fuel values returns)
 asked-of file (sourceOn input output fuel) = aSourceRun (sourceRun file input output fuel valueWords returnWords)
+
+-- Lines as bytes, each ended by a newline.
+printed : List String → List ℕ
+printed [] = []
+printed (l ∷ ls) = ascii l ++ (newline ∷ printed ls)
 
 -- A buffer of so many bytes, all 9.
 nines : ℕ → List ℕ
@@ -121,9 +129,9 @@ record Row : Type 0 where
 given : Row → Result Gives
 given r = onValue (λ file. asked-of file (r .asked)) (writeFile (flat (r .records)))
 
--- The listing.
-lists : List Record → Listing → Row
-lists records l = record { records = records; asked = list; due = aListing l }
+-- The listing, printed in these lines.
+lists : List Record → List String → Row
+lists records ls = record { records = records; asked = list; due = aListing (printed ls) }
 
 -- A run on an input, with so much fuel, so many bytes of output and of code buffer, and the work space that document 01 asks for.
 runs : List Record → (input : List ℕ) (fuel space room : ℕ) → Gives → Row
@@ -165,21 +173,21 @@ rows : List Row
 rows =
     -- "Grow passes. The listing program reads its file from standard input and prints ..:"
     lists grow
-    (listed 13
-    (line 0 10 0 9 (pos 0)
-    ∷ line 1 11 0 0 (pos 0)
-    ∷ line 2 7 0 0 (pos 0)
-    ∷ line 3 1 0 0 (pos 0)
-    ∷ line 4 0 0 0 (pos 1)
-    ∷ line 5 2 0 0 (pos 0)
-    ∷ line 6 9 0 0 (pos 0)
-    ∷ line 7 6 0 0 (pos 0)
-    ∷ line 8 4 0 12 (pos 0)
-    ∷ line 9 8 0 0 (pos 0)
-    ∷ line 10 12 0 0 (pos 0)
-    ∷ line 11 12 0 0 (pos 0)
-    ∷ line 12 13 0 0 (pos 0)
-    ∷ []))
+    ("code 13"
+    ∷ "0 10 0 9 0"
+    ∷ "1 11 0 0 0"
+    ∷ "2 7 0 0 0"
+    ∷ "3 1 0 0 0"
+    ∷ "4 0 0 0 1"
+    ∷ "5 2 0 0 0"
+    ∷ "6 9 0 0 0"
+    ∷ "7 6 0 0 0"
+    ∷ "8 4 0 12 0"
+    ∷ "9 8 0 0 0"
+    ∷ "10 12 0 0 0"
+    ∷ "11 12 0 0 0"
+    ∷ "12 13 0 0 0"
+    ∷ [])
     -- "Grow on T, fuel 25: ends, labels 6 and 8, units 25."
     ∷ runs grow T 25 12 110 (answers (done tt) 25 11 11 0 (2 ∷ 1 ∷ 6 ∷ 0 ∷ 0 ∷ 0 ∷ 1 ∷ 8 ∷ 0 ∷ 0 ∷ 0 ∷ 9 ∷ []) (grow-code 6))
     -- "fuel 24: 14, read 11, written 11."
@@ -200,16 +208,16 @@ rows =
     -- "03: 16, read 0."
     ∷ runs grow (3 ∷ []) 25 12 110 (answers (refusal 16 0) 0 0 0 0 (nines 12) (grow-code 6))
     -- "Case 0, Leaf, Var 0, Node, Call 0 on 2, Call 0 on 1: 11 at record 6."
-    ∷ lists swapped (refused 11 6)
+    ∷ lists swapped ("refused 11 6" ∷ [])
     ∷ runs swapped T 25 12 110 (answers (refusal 11 6) 0 0 0 0 (nines 12) (nines 110))
     -- "Its source run on T gives labels 7, 5."
     ∷ source-runs swapped T 10 12 (source-answers (done tt) 10 11 0 (2 ∷ 1 ∷ 7 ∷ 0 ∷ 0 ∷ 0 ∷ 1 ∷ 5 ∷ 0 ∷ 0 ∷ 0 ∷ 9 ∷ []))
     -- "Case 0, Const 1, Call 0 on 1 (number): 11 at record 2."
-    ∷ lists tree-left (refused 11 2)
+    ∷ lists tree-left ("refused 11 2" ∷ [])
     ∷ runs tree-left T 25 12 110 (answers (refusal 11 2) 0 0 0 0 (nines 12) (nines 110))
     -- "Call 0 on 0 passes;"
-    ∷ lists (again numberValued) (listed 2 (line 0 12 0 0 (pos 0) ∷ line 1 13 1 0 (pos 0) ∷ []))
-    ∷ lists (again treeValued) (listed 2 (line 0 12 0 0 (pos 0) ∷ line 1 13 0 0 (pos 0) ∷ []))
+    ∷ lists (again numberValued) ("code 2" ∷ "0 12 0 0 0" ∷ "1 13 1 0 0" ∷ [])
+    ∷ lists (again treeValued) ("code 2" ∷ "0 12 0 0 0" ∷ "1 13 0 0 0" ∷ [])
     -- "fuel 1,023 gives 14,"
     ∷ runs (again numberValued) T 1023 12 20 (answers (refusal 14 0) 1023 0 0 0 (nines 12) (again-code 4))
     -- "1,024 gives 18."
@@ -218,7 +226,7 @@ rows =
 
 -- One computation, through writer, reader, checker, translator, stream run, source run and listing.
 worked : map given rows ≡ map (λ r. done (r .due)) rows
-unfolding listing listingOf instructionsIn linesFrom lineOf signed32 runFile prepared translateFile translateRecords checkedRecords within lent codeOf operationsOf entryOf functionsCode entryFrom behindFunction functionCode wordsKept code codeArgs endOf firstWords wordOf behind behindArgs countArgs order passTwo walkAll noneLeft walk walkArgs joinedLists sameNames takeHead passOne passOver atEntry roomy wordsTested bareNumber typed named enteredAll entered enteredArgs inside startOf resultType isInt isTree fits size prefix prefixes signatureOf streamRun run step perform operate heldBy operationOf operations instructionOf standing wordsBelow opened atLevel one two room push write byTag readNumber call kept numberKept leave outcomeOf numberTold sum32 tagAt tagOf written sourceRun checkSource tellFrom told withFuel evaluation called evaluate evaluateArgs next resultNumber resultBytes resultTree numberOr treeOr firstRecord tokens firstTree treeAt readTag partsAt labelAt programIn writeFile fileOf blocksFor blocksFrom blockOf blockBody checkWord wordSum flatIn lengthRow blockRow blockAt usedOf fieldsFit usedFits zeros joined readProgram headerRow headerFrom functionRow functionAt functionFrom sorts mostParameters nodeRow nodeAt nodeRecord kindOf kinds nth same below fieldsOf each prefixRow bodies exactlyOne exprsOf build popArgs arityOf total recordAt flat bytesOfRecord bytesOf numberAt numberOf headerRecord signatureRecord sortNumber Call_on_ one-function grow swapped tree-left again T asked-of nines answers source-answers given lists runs source-runs grow-code again-code rows
+unfolding text linesText lineText signedField field codeWord refusedWord decimal digits ascii printed listing listingOf instructionsIn linesFrom lineOf signed32 runFile prepared translateFile translateRecords checkedRecords within lent codeOf operationsOf entryOf functionsCode entryFrom behindFunction functionCode wordsKept code codeArgs endOf firstWords wordOf behind behindArgs countArgs order passTwo walkAll noneLeft walk walkArgs joinedLists sameNames takeHead passOne passOver atEntry roomy wordsTested bareNumber typed named enteredAll entered enteredArgs inside startOf resultType isInt isTree fits size prefix prefixes signatureOf streamRun run step perform operate heldBy operationOf operations instructionOf standing wordsBelow opened atLevel one two room push write byTag readNumber call kept numberKept leave outcomeOf numberTold sum32 tagAt tagOf written sourceRun checkSource tellFrom told withFuel evaluation called evaluate evaluateArgs next resultNumber resultBytes resultTree numberOr treeOr firstRecord tokens firstTree treeAt readTag partsAt labelAt programIn writeFile fileOf blocksFor blocksFrom blockOf blockBody checkWord wordSum flatIn lengthRow blockRow blockAt usedOf fieldsFit usedFits zeros joined readProgram headerRow headerFrom functionRow functionAt functionFrom sorts mostParameters nodeRow nodeAt nodeRecord kindOf kinds nth same below fieldsOf each prefixRow bodies exactlyOne exprsOf build popArgs arityOf total recordAt flat bytesOfRecord bytesOf numberAt numberOf headerRecord signatureRecord sortNumber Call_on_ one-function grow swapped tree-left again T asked-of nines answers source-answers given lists runs source-runs grow-code again-code rows
 worked = refl
 
 -- ---- other bytes, and the buffers' lengths
@@ -254,9 +262,9 @@ untouched why place room = answers (refusal why place) 0 0 0 0 (nines 12) (nines
 translating : (file : List ℕ) (room : ℕ) → Gives → OnFile
 translating file room due = record { file = file; asked = translate (nines room); due = due }
 
--- The listing.
-listing-of : List ℕ → Listing → OnFile
-listing-of file l = record { file = file; asked = list; due = aListing l }
+-- The listing, printed in these lines.
+listing-of : List ℕ → List String → OnFile
+listing-of file ls = record { file = file; asked = list; due = aListing (printed ls) }
 
 -- The refusals in their order. Each row has all the faults of those below it: the file is a byte too short; prefix form; pass one; pass two; too short a
 -- code buffer; too few value words; too few return words; no fuel; a byte that is no tag. Once nothing is too short, the code is in its buffer and stays.
@@ -304,21 +312,21 @@ translations =
 listings : List OnFile
 listings =
     listing-of (filed (one-function numberValued (Case 0 ∷ Const 4294967295 ∷ Add ∷ Call 0 on 1 ∷ Call 0 on 2 ∷ [])))
-    (listed 9
-    (line 0 10 0 5 (pos 0)
-    ∷ line 1 11 0 0 (pos 0)
-    ∷ line 2 0 0 0 (negsuc 0)
-    ∷ line 3 5 0 0 (pos 0)
-    ∷ line 4 4 0 8 (pos 0)
-    ∷ line 5 12 0 0 (pos 0)
-    ∷ line 6 12 0 0 (pos 0)
-    ∷ line 7 2 0 0 (pos 0)
-    ∷ line 8 13 1 0 (pos 0)
-    ∷ []))
-    ∷ listing-of [] (refused 1 0)
-    ∷ listing-of (take 511 (filed one-too-many)) (refused 1 0)
-    ∷ listing-of (filed one-too-many) (refused 7 2)
-    ∷ listing-of (filed not-bound) (refused 9 7)
+    ("code 9"
+    ∷ "0 10 0 5 0"
+    ∷ "1 11 0 0 0"
+    ∷ "2 0 0 0 -1"
+    ∷ "3 5 0 0 0"
+    ∷ "4 4 0 8 0"
+    ∷ "5 12 0 0 0"
+    ∷ "6 12 0 0 0"
+    ∷ "7 2 0 0 0"
+    ∷ "8 13 1 0 0"
+    ∷ [])
+    ∷ listing-of [] ("refused 1 0" ∷ [])
+    ∷ listing-of (take 511 (filed one-too-many)) ("refused 1 0" ∷ [])
+    ∷ listing-of (filed one-too-many) ("refused 7 2" ∷ [])
+    ∷ listing-of (filed not-bound) ("refused 9 7" ∷ [])
     ∷ []
 
 -- All of these.
@@ -327,5 +335,5 @@ calls = in-order ++ (lengths ++ (translations ++ listings))
 
 -- Again one computation.
 orderly : map (λ c. asked-of (c .file) (c .asked)) calls ≡ map (λ c. c .due) calls
-unfolding listing listingOf instructionsIn linesFrom lineOf signed32 runFile prepared translateFile translateRecords checkedRecords within lent codeOf operationsOf entryOf functionsCode entryFrom behindFunction functionCode wordsKept code codeArgs endOf firstWords wordOf behind behindArgs countArgs order passTwo walkAll noneLeft walk walkArgs joinedLists sameNames takeHead passOne passOver atEntry roomy wordsTested bareNumber typed named enteredAll entered enteredArgs inside startOf resultType isInt isTree fits size prefix prefixes signatureOf streamRun run step perform operate heldBy operationOf operations instructionOf standing wordsBelow opened atLevel one two room push write byTag readNumber call kept numberKept leave outcomeOf numberTold sum32 tagAt tagOf written fileOf blocksFor blocksFrom blockOf blockBody checkWord wordSum flatIn lengthRow blockRow blockAt usedOf fieldsFit usedFits zeros joined readProgram headerRow headerFrom functionRow functionAt functionFrom sorts mostParameters nodeRow nodeAt nodeRecord kindOf kinds nth same below fieldsOf each prefixRow bodies exactlyOne exprsOf build popArgs arityOf total recordAt flat bytesOfRecord bytesOf numberAt numberOf headerRecord signatureRecord sortNumber Call_on_ one-function grow swapped T asked-of nines answers grow-code filed not-bound one-too-many running untouched translating listing-of in-order grown lengths translations listings calls
+unfolding text linesText lineText signedField field codeWord refusedWord decimal digits ascii printed listing listingOf instructionsIn linesFrom lineOf signed32 runFile prepared translateFile translateRecords checkedRecords within lent codeOf operationsOf entryOf functionsCode entryFrom behindFunction functionCode wordsKept code codeArgs endOf firstWords wordOf behind behindArgs countArgs order passTwo walkAll noneLeft walk walkArgs joinedLists sameNames takeHead passOne passOver atEntry roomy wordsTested bareNumber typed named enteredAll entered enteredArgs inside startOf resultType isInt isTree fits size prefix prefixes signatureOf streamRun run step perform operate heldBy operationOf operations instructionOf standing wordsBelow opened atLevel one two room push write byTag readNumber call kept numberKept leave outcomeOf numberTold sum32 tagAt tagOf written fileOf blocksFor blocksFrom blockOf blockBody checkWord wordSum flatIn lengthRow blockRow blockAt usedOf fieldsFit usedFits zeros joined readProgram headerRow headerFrom functionRow functionAt functionFrom sorts mostParameters nodeRow nodeAt nodeRecord kindOf kinds nth same below fieldsOf each prefixRow bodies exactlyOne exprsOf build popArgs arityOf total recordAt flat bytesOfRecord bytesOf numberAt numberOf headerRecord signatureRecord sortNumber Call_on_ one-function grow swapped T asked-of nines answers grow-code filed not-bound one-too-many running untouched translating listing-of in-order grown lengths translations listings calls
 orderly = refl

@@ -5,4 +5,5 @@ pub mod EveryRun
 pub mod CodeLimits
 pub mod Calls
 pub mod Listing
+pub mod ListingText
 pub mod ThisCall

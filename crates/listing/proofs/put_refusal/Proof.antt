@@ -1,12 +1,13 @@
 -- `listing::put_refusal` meets its contract: the word, the number and the place are put one behind the other.
 use borrow.Author.Needs.{needs}
-use Rattle.listing.specs.Text.{refusedWord}
+use Rattle.formats.specs.Characters.{ascii}
+use Rattle.translation.specs.ListingText.{refusedWord}
 use Rattle.listing.proofs.Texts.{refusal-ways}
 use Rattle.listing.proofs.put_refusal.Statement.{statement}
 use Rattle.listing.proofs.put_refusal.Tie as tie
 
 pub put-refusal-spec : {M : Type 1} → statement M
-unfolding refusedWord
+unfolding refusedWord ascii
 put-refusal-spec =
     tie.close
     (tie.spec

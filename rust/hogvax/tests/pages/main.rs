@@ -7,6 +7,7 @@
 mod calling;
 #[path = "../shared/compiler.rs"]
 mod compiler;
+mod edits;
 mod machinery;
 mod names;
 #[path = "../shared/page.rs"]

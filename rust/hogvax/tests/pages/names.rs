@@ -73,7 +73,7 @@ fn declares(text: &str, name: &str) -> bool {
 }
 
 /// The texts between backticks, fenced blocks aside.
-fn between_backticks(text: &str) -> Vec<String> {
+pub fn between_backticks(text: &str) -> Vec<String> {
     let outside = text.split("\n```").step_by(2).collect::<Vec<_>>();
     let outside = outside.join("\n");
     let pieces = outside.split('`').skip(1).step_by(2);
@@ -89,7 +89,7 @@ fn citations(text: &str) -> Vec<Citation> {
 }
 
 /// All documents of the repository.
-fn documents() -> Vec<PathBuf> {
+pub fn documents() -> Vec<PathBuf> {
     let entries = fs::read_dir(repository("docs")).unwrap();
     let paths = entries.map(|entry| entry.unwrap().path());
     let is_page = |path: &PathBuf| path.extension().is_some_and(|end| end == "md");

@@ -1,4 +1,4 @@
--- A number's decimal digits: the last one stands behind those of a tenth, and a number below 10^k has at most k.
+-- A number's decimal digits: the last one stands after those of a tenth, and a number below 10^k has at most k.
 use Prim.Native.Nat.{ℕ, zero, suc, _+_, _/_, _%_, _^_, _≤_, _<_}
 use mathlib.Core.List.{[], _∷_, _++_}
 use mathlib.Core.Path.{_≡_, sym, ap, _∙_}
@@ -7,7 +7,8 @@ use native.Mathlib.Nat.{pow-succ'}
 use native.Mathlib.Omega.{arith}
 use lib.ListN.{length, length-append}
 use borrow.Author.Tests.{lt-ltb, le-ltb}
-use Rattle.listing.specs.Text.{digitZero, digits, decimal}
+use Rattle.formats.specs.Characters.{digitZero}
+use Rattle.formats.specs.Decimal.{digits, decimal}
 
 -- one digit is all, or it is not
 by-digit : {A : Type 0} (n : ℕ) → (n < 10 → A) → (10 ≤ n → A) → A

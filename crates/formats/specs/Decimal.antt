@@ -1,0 +1,15 @@
+-- Numbers in decimal, as the bytes of their digits.
+use Prim.Native.Nat.{ℕ, zero, suc, _+_, _/_, _%_}
+use mathlib.Core.Bool.{true, false}
+use mathlib.Core.List.{List, [], _∷_, _++_}
+use lib.Dec.{ltb}
+use Rattle.formats.specs.Characters.{digitZero}
+
+-- The decimal digits of n, the last so many at most.
+unfoldable pub digits : ℕ → ℕ → List ℕ
+digits zero n = []
+digits (suc most) n = elim (ltb n 10) [ true ↦ (digitZero + n) ∷ [] | false ↦ digits most (n / 10) ++ ((digitZero + n % 10) ∷ []) ]
+
+-- All of them: n has no more than n + 1 digits.
+unfoldable pub decimal : ℕ → List ℕ
+decimal n = digits (suc n) n

@@ -204,20 +204,13 @@ full-stack = refl
 
 -- ---- the limit of 4,128 instructions
 
--- 4,129 instructions: the first, 4,126 pushes of 0, and those at addresses 4,127 and 4,128.
-long : (first at-4127 at-4128 : Operation) → List ℕ
-long first at-4127 at-4128 = codeOf (first ∷ []) ++ (replicate 33008 ++ codeOf (at-4127 ∷ at-4128 ∷ []))
+-- 4,129 instructions: a jump to the last but one, 4,126 pushes of 0, a leaf tag at 4,127 and a return at 4,128.
+long : List ℕ
+long = codeOf (Jump 4127 ∷ []) ++ (replicate 33008 ++ codeOf (LeafTag ∷ Return 0 ∷ []))
 
--- 01: "an address from 4,128 up .. holds no instruction and gives 19", also where 8 bytes of the buffer stand there. Address 4,127 is performed.
-past-the-last : List Row
-past-the-last =
-    bare (long (Jump 4127) (Return 0) (Return 0)) (ends-with 2 0)
-    ∷ bare (long (Jump 4127) LeafTag (Return 0)) (refused-with 19 2 0 (1 ∷ []) (blank 5))
-    ∷ bare (long (Jump 4128) (Return 0) (Return 0)) (stuck 19 1)
-    ∷ []
-
-long-buffer : map ranOn past-the-last ≡ map (λ r. r .gives) past-the-last
-unfolding streamRun run step perform operate heldBy operationOf operations instructionOf nth recordAt flat bytesOfRecord bytesOf numberOf numberAt written one two room push write kept numberKept leave outcomeOf numberTold past-the-last long replicate blank codeOf ranOn ended-with refused-with ends-with stuck bare
+-- 01: "an address from 4,128 up .. holds no instruction and gives 19", also where 8 bytes of the buffer stand there. That at 4,127 is performed.
+long-buffer : streamRun long [] (blank 6) 20 valueWords returnWords ≡ refused-with 19 2 0 (1 ∷ []) (blank 5)
+unfolding streamRun run step perform operate heldBy operationOf operations instructionOf nth recordAt flat bytesOfRecord bytesOf numberOf numberAt written write kept numberKept leave outcomeOf numberTold long replicate blank codeOf refused-with
 long-buffer = refl
 
 -- ---- fields that an operation does not use

@@ -1,4 +1,4 @@
-// Reads a program file from standard input and prints its code listing, or the refusal. What is printed is one proved function of the bytes read.
+// Reads a program file from standard input and prints its code listing, or the refusal. The text is one proved function of the bytes that it is lent: `put_listing`.
 use libc::STDIN_FILENO;
 use libc::STDOUT_FILENO;
 use refusal::Filled;

@@ -8,6 +8,7 @@ pub mod PassTwo
 pub mod FirstFault
 pub mod Places
 pub mod Untyped
+pub mod Overfull
 pub mod Printed
 pub mod OrderChecker
 pub mod Parts

@@ -27,6 +27,7 @@ use Rattle.rules.proofs.PassTwo.{walks, second, no-typing, only-full}
 use Rattle.rules.proofs.FirstFault.{pass-two, only-one}
 use Rattle.rules.proofs.Places.{untyped-there}
 use Rattle.rules.proofs.Untyped.{pass-one-no-typing, pass-one-untyped-there, only-words}
+use Rattle.rules.proofs.Overfull.{pass-one-overfull-there}
 use Rattle.rules.proofs.Printed.{printed, fixed}
 
 -- ---- one function
@@ -150,6 +151,7 @@ order-checker = record {
   pass-one = pass-one;
   pass-one-no-typing = pass-one-no-typing;
   pass-one-untyped-there = pass-one-untyped-there;
+  pass-one-overfull-there = pass-one-overfull-there;
   only-words = only-words;
   pass-two = pass-two;
   only-one = only-one;

@@ -19,7 +19,7 @@ use Rattle.rules.specs.Types.{Ty, resultType, functionType, isInt, isTre
 use Rattle.rules.specs.Typing.{Types, T-Var2, T-Int, T-App, T-Plus, T-Leaf, T-Node, T-Case, Let-01, IfZero-01, to-number, to-tree, TypedFunction}
 use Rattle.rules.specs.Scopes.{Scope, scope, startOf, inside, Entry, entry, entered, enteredArgs, enteredAll}
 use Rattle.rules.specs.PassOne.{named, typed, passOne, name-not-bound, wrong-type, too-many-words, FirstFails, here, later}
-use Rattle.rules.specs.OrderChecker.{firstNode, Numbered, kindIn, Untyped, this-one, behind-it}
+use Rattle.rules.specs.OrderChecker.{firstNode, Numbered, kindIn, InFunction, this-one, behind-it, Untyped}
 use Rattle.rules.proofs.Entries.{kinds-entered, numbered}
 use Rattle.rules.proofs.PassOne.{pass-one}
 use Rattle.rules.proofs.Typed.{applied-type, Bound, bound-more, name-bound, value-fits}
@@ -104,7 +104,7 @@ module _ (gs : List Signature) where
   fails-words (x ∷ xs) h (later g f) = fails-words xs (h .1) f
 
   -- in the first of two lists, or in the second
-  fails-split : {number r : ℕ} (xs ys : List Entry) → FirstFails gs (xs ++ ys) number r → FirstFails gs xs number r ⊎ FirstFails gs ys number r
+  pub fails-split : {number r : ℕ} (xs ys : List Entry) → FirstFails gs (xs ++ ys) number r → FirstFails gs xs number r ⊎ FirstFails gs ys number r
   fails-split [] ys f = inr f
   fails-split (x ∷ xs) ys (here f) = inl (here f)
   fails-split (x ∷ xs) ys (later h f) = elim (fails-split xs ys f) [ inl g ↦ inl (later h g) | inr g ↦ inr g ]
@@ -123,16 +123,24 @@ module _ (gs : List Signature) where
   unfolding size
   many-entered f k = sym (length-map (entered (startOf f) k (f .body)) kindIn) ∙ ap length (kinds-entered (f .body) (startOf f) k)
 
-  -- a function, or one after it, has the record and no derivation
-  untyped : {number r : ℕ} (k : ℕ) (fs : List Function) → (number ≡ tooManyWords → ⊥) → FirstFails gs (enteredAll k fs) number r → Untyped gs r k fs
+  -- a function, or one after it, has the record, and of it holds what follows where a condition first fails in its body
+  pub in-function :
+      {number r : ℕ} (P : Function → Type 0) (k : ℕ) (fs : List Function)
+      → ((f : Function) (j : ℕ) → FirstFails gs (entered (startOf f) j (f .body)) number r → P f)
+      → FirstFails gs (enteredAll k fs) number r
+      → InFunction P r k fs
   unfolding enteredAll
-  untyped k (f ∷ fs) other fails = elim (fails-split (entered (startOf f) k (f .body)) _ fails) [
+  in-function P k (f ∷ fs) follows fails = elim (fails-split (entered (startOf f) k (f .body)) _ fails) [
     | inl first ↦
         let many = many-entered f k in
         let place = fails-among k _ (numbered (f .body) (startOf f) k) first in
-        this-one {f = f} (place .from) (omega (arith, place .before)) (λ d. other (fails-words _ (fine-function f k d .each) first))
-    | inr after ↦ behind-it (untyped (k + size (f .body)) fs other after)
+        this-one {f = f} (place .from) (omega (arith, place .before)) (follows f k first)
+    | inr after ↦ behind-it (in-function P (k + size (f .body)) fs follows after)
   ]
+
+  -- it has no derivation
+  untyped : {number r : ℕ} (k : ℕ) (fs : List Function) → (number ≡ tooManyWords → ⊥) → FirstFails gs (enteredAll k fs) number r → Untyped gs r k fs
+  untyped k fs other fails = in-function _ k fs (λ f j first d. other (fails-words _ (fine-function f j d .each) first)) fails
 
   -- where every function is typed
   all-typed : {number r : ℕ} (k : ℕ) (fs : List Function) → Every (TypedFunction gs) fs → FirstFails gs (enteredAll k fs) number r → number ≡ tooManyWords

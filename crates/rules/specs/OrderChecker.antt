@@ -73,15 +73,18 @@ Numbered r (entry sc k kind ∷ xs) = (k ≡ r) × Numbered (suc r) xs
 unfoldable pub kindIn : Entry → Kind
 kindIn (entry sc r kind) = kind
 
--- Record r is one of a function's, which has no derivation; functions from this one on, its first node at record k.
-pub data Untyped (gs : List Signature) (r : ℕ) : ℕ → List Function → Type 0 where
-  this-one :
-      {k : ℕ} {f : Function} {fs : List Function}
-      → k ≤ r
-      → r < k + size (f .body)
-      → (TypedFunction gs f → ⊥)
-      → Untyped gs r k (f ∷ fs)
-  behind-it : {k : ℕ} {f : Function} {fs : List Function} → Untyped gs r (k + size (f .body)) fs → Untyped gs r k (f ∷ fs)
+-- Record r is one of a function's, of which P holds; functions from this one on, its first node at record k.
+pub data InFunction (P : Function → Type 0) (r : ℕ) : ℕ → List Function → Type 0 where
+  this-one : {k : ℕ} {f : Function} {fs : List Function} → k ≤ r → r < k + size (f .body) → P f → InFunction P r k (f ∷ fs)
+  behind-it : {k : ℕ} {f : Function} {fs : List Function} → InFunction P r (k + size (f .body)) fs → InFunction P r k (f ∷ fs)
+
+-- The function has no derivation.
+abbrev pub Untyped : List Signature → ℕ → ℕ → List Function → Type 0
+Untyped gs r k fs = InFunction (λ f. TypedFunction gs f → ⊥) r k fs
+
+-- More than 16 words stand at some point of the function's body.
+abbrev pub Overfull : List Signature → ℕ → ℕ → List Function → Type 0
+Overfull gs r k fs = InFunction (λ f. mostWords < wordsOf gs (f .parameters) (f .body)) r k fs
 
 -- ---- the theorems
 
@@ -126,6 +129,11 @@ pub record OrderChecker : Type 0 where
       → passOne program ≡ refusal number r
       → (number ≡ notBound) ⊎ (number ≡ wrongType)
       → Untyped (signatures program) r (firstNode program) (program .functions)
+  -- Where pass one refuses with 10, the function that has the record of the refusal needs more than 16 words. (Nothing is asked of the program.)
+  pub pass-one-overfull-there :
+      (program : Program) (r : ℕ)
+      → passOne program ≡ refusal tooManyWords r
+      → Overfull (signatures program) r (firstNode program) (program .functions)
   -- Where every body has one, it refuses nothing but 10: the limit of 16 words is all that pass one asks besides.
   pub only-words :
       (program : Program) (number r : ℕ)

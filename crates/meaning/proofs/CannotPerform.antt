@@ -1,4 +1,5 @@
--- An instruction is refused with 19 exactly where it can't be performed, and closed cases in which another refusal applies as well.
+-- An instruction is refused with 19 exactly where it can't be performed, and closed cases in which another refusal applies as well. The walk over the
+-- opcodes also finds the rule by which an instruction is refused with another number, or ends the run (Stopping.antt).
 use Prim.Native.Nat.{ℕ, zero, suc, _+_, _≤_, _<_}
 use mathlib.Core.Bool.{Bool, true, false}
 use mathlib.Core.List.{List, [], _∷_}
@@ -14,66 +15,81 @@ use Rattle.formats.specs.Refusals.{inputEnded, notATag, outputFull, tooManyCall
 use Rattle.formats.specs.Tokens.{labelBytes, Tag, ended, aLeaf, aNode, other, tagAt}
 use Rattle.formats.specs.Numbers.{bytesOf, numberOf, numberAt}
 use Rattle.formats.specs.Records.{fields, bytesOfRecord, recordAt, nth}
+use Rattle.formats.proofs.Numbers.{length-bytesOf}
 use Rattle.formats.proofs.Records.{none-past}
+use Rattle.formats.proofs.Tokens.{Look, past, at-other, look}
 use Rattle.meaning.specs.Levels.{atLevel}
 use Rattle.meaning.specs.Instructions.{Instruction, Operation, Push, Get, Add, Ifnot, Jump, Slide, Drop, LeafTag, NodeTag, WriteNumber, ReadTag, ReadNumber, Call, Return, heldBy, operations, operationOf, instructionOf}
 use Rattle.meaning.specs.Performing.{Setting, Caller, State, wordsBelow, standing, opened, Step, goes, ends, refuses}
-use Rattle.meaning.specs.Performing.{one, two, room, push, write, byTag, readNumber, call, kept, leave, operate, perform, step}
+use Rattle.meaning.specs.Performing.{holding, one, two, room, push, write, byTag, readNumber, call, kept, numberKept, leave, operate, perform, step}
 use Rattle.meaning.specs.Running.{ofCode}
 use Rattle.meaning.specs.CannotPerform.{wordsNeeded, wordsAdded, Fetches, fetched, CannotPerform, no-instruction, no-operation, return-byte, missing-words, surplus-words}
+use Rattle.meaning.specs.Stopping.{Prevented, no-tag, no-label, no-such-tag, no-room-for-leaf, no-room-for-node, no-room-for-number, all-open, Refused, prevented, ReturnsFirst, none-kept, one-kept}
 use Rattle.meaning.proofs.Levels.{level-found, level-below}
 
--- ---- what becomes of an instruction, and whether C holds: it is refused with 19 where C holds, and nowhere else
+-- ---- what becomes of an instruction, and whether C holds: it is refused with 19 where C holds, and nowhere else. A number of which R holds is another
+-- refusal's, one of which E holds is the run's, which ends
 
-data Exactly (C : Type 0) : Step → Type 0 where
-  stuck : C → Exactly C (refuses cannotPerform)
-  going : {t : State} → (C → ⊥) → Exactly C (goes t)
-  ending : {number : ℕ} → (C → ⊥) → Exactly C (ends number)
-  refused : {number : ℕ} → number < cannotPerform → (C → ⊥) → Exactly C (refuses number)
+pub data Exactly (C : Type 0) (R E : ℕ → Type 0) : Step → Type 0 where
+  stuck : C → Exactly C R E (refuses cannotPerform)
+  going : {t : State} → (C → ⊥) → Exactly C R E (goes t)
+  ending : {number : ℕ} → E number → (C → ⊥) → Exactly C R E (ends number)
+  refused : {number : ℕ} → R number → number < cannotPerform → (C → ⊥) → Exactly C R E (refuses number)
 
 -- the number of a refusal, or 0
-numberIn : Step → ℕ
+unfoldable pub numberIn : Step → ℕ
 numberIn (goes t) = 0
 numberIn (ends number) = 0
 numberIn (refuses number) = number
 
-exactly-to : {C : Type 0} {r : Step} → Exactly C r → r ≡ refuses cannotPerform → C
+exactly-to : {C : Type 0} {R E : ℕ → Type 0} {r : Step} → Exactly C R E r → r ≡ refuses cannotPerform → C
 unfolding numberIn
 exactly-to (stuck c) e = c
 exactly-to (going h) e = let n : 0 ≡ cannotPerform = ap numberIn e in absurd (omega arith)
-exactly-to (ending h) e = let n : 0 ≡ cannotPerform = ap numberIn e in absurd (omega arith)
-exactly-to (refused {number = number} below h) e = let n : number ≡ cannotPerform = ap numberIn e in absurd (omega arith)
+exactly-to (ending x h) e = let n : 0 ≡ cannotPerform = ap numberIn e in absurd (omega arith)
+exactly-to (refused {number = number} x below h) e = let n : number ≡ cannotPerform = ap numberIn e in absurd (omega arith)
 
-exactly-from : {C : Type 0} {r : Step} → Exactly C r → C → r ≡ refuses cannotPerform
+exactly-from : {C : Type 0} {R E : ℕ → Type 0} {r : Step} → Exactly C R E r → C → r ≡ refuses cannotPerform
 exactly-from (stuck c) d = refl
 exactly-from (going h) d = absurd (h d)
-exactly-from (ending h) d = absurd (h d)
-exactly-from (refused below h) d = absurd (h d)
+exactly-from (ending x h) d = absurd (h d)
+exactly-from (refused x below h) d = absurd (h d)
 
--- of another condition that holds in the same cases
-exactly-of : {C D : Type 0} {r : Step} → (C → D) → (D → C) → Exactly C r → Exactly D r
-exactly-of to from (stuck c) = stuck (to c)
-exactly-of to from (going h) = going (λ d. h (from d))
-exactly-of to from (ending h) = ending (λ d. h (from d))
-exactly-of to from (refused below h) = refused below (λ d. h (from d))
+-- of another condition that holds in the same cases, and of what follows from R and E
+exactly-of :
+    {C D : Type 0} {R S E F : ℕ → Type 0} {r : Step}
+    → (C → D)
+    → (D → C)
+    → ((number : ℕ) → (D → ⊥) → R number → S number)
+    → ((number : ℕ) → E number → F number)
+    → Exactly C R E r
+    → Exactly D S F r
+exactly-of to from numbered end (stuck c) = stuck (to c)
+exactly-of to from numbered end (going h) = going (λ d. h (from d))
+exactly-of to from numbered end (ending x h) = ending (end _ x) (λ d. h (from d))
+exactly-of to from numbered end (refused x below h) = refused (numbered _ (λ d. h (from d)) x) below (λ d. h (from d))
 
-module _ {C : Type 0} where
+module _ {C : Type 0} {R E : ℕ → Type 0} where
   -- where a test fails, 19
-  exactly-if : (test : Bool) (r : Step) → (test ≡ true → Exactly C r) → (test ≡ false → C) → Exactly C (elim test [ true ↦ r | false ↦ refuses cannotPerform ])
+  exactly-if :
+      (test : Bool) (r : Step)
+      → (test ≡ true → Exactly C R E r)
+      → (test ≡ false → C)
+      → Exactly C R E (elim test [ true ↦ r | false ↦ refuses cannotPerform ])
   exactly-if true r h g = h refl
   exactly-if false r h g = stuck (g refl)
 
   -- where it fails, something else
-  exactly-or : (test : Bool) (r o : Step) → Exactly C r → Exactly C o → Exactly C (elim test [ true ↦ r | false ↦ o ])
+  exactly-or : (test : Bool) (r o : Step) → Exactly C R E r → (test ≡ false → Exactly C R E o) → Exactly C R E (elim test [ true ↦ r | false ↦ o ])
   exactly-or true r o h g = h
-  exactly-or false r o h g = g
+  exactly-or false r o h g = g refl
 
   -- one word, or two
   exactly-one :
       (words : List ℕ) (f : ℕ → List ℕ → Step)
       → (length words < 1 → C)
-      → ((x : ℕ) (rest : List ℕ) → 1 ≤ length words → Exactly C (f x rest))
-      → Exactly C (one words f)
+      → ((x : ℕ) (rest : List ℕ) → 1 ≤ length words → Exactly C R E (f x rest))
+      → Exactly C R E (one words f)
   unfolding one
   exactly-one [] f g h = stuck (g (omega arith))
   exactly-one (x ∷ rest) f g h = h x rest (omega arith)
@@ -81,14 +97,21 @@ module _ {C : Type 0} where
   exactly-two :
       (words : List ℕ) (f : ℕ → ℕ → List ℕ → Step)
       → (length words < 2 → C)
-      → ((x y : ℕ) (rest : List ℕ) → 2 ≤ length words → Exactly C (f x y rest))
-      → Exactly C (two words f)
+      → ((x y : ℕ) (rest : List ℕ) → 2 ≤ length words → Exactly C R E (f x y rest))
+      → Exactly C R E (two words f)
   unfolding two one
   exactly-two [] f g h = stuck (g (omega arith))
   exactly-two (x ∷ []) f g h = stuck (g (omega arith))
   exactly-two (x ∷ y ∷ rest) f g h = h x y rest (omega arith)
 
 -- ---- operations
+
+-- a list has nothing past its end alone
+pub past-end : {A : Type 0} (xs : List A) (k : ℕ) → nth xs k ≡ none → length xs ≤ k
+unfolding nth
+past-end [] k e = omega arith
+past-end (x ∷ xs) zero e = absurd (Option·none-ne-some x (sym e))
+past-end (x ∷ xs) (suc k) e = let h = past-end xs k e in omega arith
 
 module _ (m : Setting) (s : State) where
   -- what of the rules concerns an operation that has been fetched
@@ -131,19 +154,23 @@ module _ (m : Setting) (s : State) where
   can-plain : (op : Operation) → wordsAdded op ≡ 0 → byteIn op ≤ 1 → wordsNeeded op ≤ length (s .frame) → Cannot op → ⊥
   can-plain op none-added small enough = can op small enough (λ adds. absurd (omega arith))
 
+  -- what is shown of an operation
+  abbrev Performs : Operation → Step → Type 0
+  Performs op = Exactly (Cannot op) (Prevented m s op) (λ number. Fetches m s op → ReturnsFirst m s number)
+
   -- room for the word that an operation adds
   exactly-room :
       (op : Operation) (r : Step)
       → wordsAdded op ≡ 1
-      → ((0 < wordsAdded op → standing s + wordsAdded op ≤ m .mostWords) → Exactly (Cannot op) r)
-      → Exactly (Cannot op) (room m s r)
+      → ((0 < wordsAdded op → standing s + wordsAdded op ≤ m .mostWords) → Performs op r)
+      → Performs op (room m s r)
   unfolding room
   exactly-room op r adds h =
       exactly-if _ r
       (λ e. let below = ltb-true (standing s) (m .mostWords) e in h (λ some-added. omega arith))
       (λ e. let full = ltb-false (standing s) (m .mostWords) e in surplus (omega arith) (omega arith))
 
-  exactly-push : (op : Operation) (x : ℕ) → wordsAdded op ≡ 1 → byteIn op ≤ 1 → wordsNeeded op ≤ length (s .frame) → Exactly (Cannot op) (push m x s)
+  exactly-push : (op : Operation) (x : ℕ) → wordsAdded op ≡ 1 → byteIn op ≤ 1 → wordsNeeded op ≤ length (s .frame) → Performs op (push m x s)
   unfolding push
   exactly-push op x adds small enough = exactly-room op _ adds (λ fits. going (can op small enough fits))
 
@@ -151,7 +178,7 @@ module _ (m : Setting) (s : State) where
   exactly-get :
       (k : ℕ) (found : Option ℕ)
       → atLevel (s .frame) k ≡ found
-      → Exactly (Cannot (Get k)) (elim found [ some x ↦ push m x s | none ↦ refuses cannotPerform ])
+      → Performs (Get k) (elim found [ some x ↦ push m x s | none ↦ refuses cannotPerform ])
   unfolding wordsNeeded wordsAdded byteIn
   exactly-get k (some x) e = exactly-push (Get k) x refl (omega arith) (level-below (s .frame) k e)
   exactly-get k none e = stuck (missing (by-count (decLe (suc k) (length (s .frame)))))
@@ -161,46 +188,58 @@ module _ (m : Setting) (s : State) where
       by-count (yes h) = let f = level-found (s .frame) k h in absurd (Option·none-ne-some (f .entry) (sym e ∙ f .is))
 
   -- bytes written, a number read, a call
-  exactly-write : {C : Type 0} (bytes : List ℕ) (t : State) → (C → ⊥) → Exactly C (write m bytes t)
+  exactly-write :
+      {C : Type 0} {R E : ℕ → Type 0} (bytes words : List ℕ)
+      → (m .space < length (s .output) + length bytes → R outputFull)
+      → (C → ⊥)
+      → Exactly C R E (write m bytes (holding words s))
   unfolding write
-  exactly-write bytes t h = exactly-or (leb (length (t .output) + length bytes) (m .space)) _ _ (going h) (refused {number = outputFull} (omega arith) h)
+  exactly-write bytes words full h =
+      exactly-or (leb (length (s .output) + length bytes) (m .space)) _ _ (going h) (λ e. refused {number = outputFull} (full (leb-false _ _ e)) (omega arith) h)
 
-  exactly-number : {C : Type 0} → (C → ⊥) → Exactly C (readNumber m s)
+  exactly-number : (Cannot ReadNumber → ⊥) → Performs ReadNumber (readNumber m s)
   unfolding readNumber
-  exactly-number h = exactly-or (leb (s .read + labelBytes) (length (m .input))) _ _ (going h) (refused {number = inputEnded} (omega arith) h)
+  exactly-number h =
+      exactly-or (leb (s .read + labelBytes) (length (m .input))) _ _ (going h) (λ e. refused {number = inputEnded} (no-label (leb-false _ _ e)) (omega arith) h)
 
-  exactly-call : {C : Type 0} (entry n : ℕ) → (C → ⊥) → Exactly C (call m entry n s)
+  exactly-call : (entry n : ℕ) → (Cannot (Call entry n) → ⊥) → Performs (Call entry n) (call m entry n s)
   unfolding call
-  exactly-call entry n h = exactly-or (ltb (opened s) (m .mostOpen)) _ _ (going h) (refused {number = tooManyCalls} (omega arith) h)
+  exactly-call entry n h =
+      exactly-or (ltb (opened s) (m .mostOpen)) _ _ (going h) (λ e. refused {number = tooManyCalls} (all-open (ltb-false _ _ e)) (omega arith) h)
 
   -- a tag read
-  exactly-tag : {C : Type 0} (g : Tag) (a : ℕ) → (C → ⊥) → Exactly C (byTag g a s)
+  exactly-tag : (g : Tag) (a : ℕ) → Look (m .input) (s .read) g → (Cannot (ReadTag a) → ⊥) → Performs (ReadTag a) (byTag g a s)
   unfolding byTag
-  exactly-tag ended a h = refused {number = inputEnded} (omega arith) h
-  exactly-tag aLeaf a h = going h
-  exactly-tag aNode a h = going h
-  exactly-tag other a h = refused {number = notATag} (omega arith) h
+  exactly-tag ended a (past ends-before) h = refused {number = inputEnded} (no-tag ends-before) (omega arith) h
+  exactly-tag aLeaf a l h = going h
+  exactly-tag aNode a l h = going h
+  exactly-tag other a (at-other there no-leaf no-node) h = refused {number = notATag} (no-such-tag there no-leaf no-node) (omega arith) h
 
   -- a return
-  exactly-leave : {C : Type 0} (cs : List Caller) (words : List ℕ) → (C → ⊥) → Exactly C (leave cs words s)
+  exactly-leave :
+      {C : Type 0} {R E : ℕ → Type 0} (cs : List Caller) (words : List ℕ)
+      → (cs ≡ [] → E (numberKept words))
+      → (C → ⊥)
+      → Exactly C R E (leave cs words s)
   unfolding leave
-  exactly-leave [] words h = ending h
-  exactly-leave (c ∷ cs) words h = going h
+  exactly-leave [] words end h = ending (end refl) h
+  exactly-leave (c ∷ cs) words end h = going h
 
   exactly-return :
       (k : ℕ) (frame : List ℕ)
       → s .frame ≡ frame
-      → Exactly (Cannot (Return k)) (elim (kept k frame) [ some words ↦ leave (s .callers) words s | none ↦ refuses cannotPerform ])
-  unfolding kept wordsNeeded wordsAdded byteIn
-  exactly-return zero frame e = exactly-leave (s .callers) _ (can-plain (Return 0) refl (omega arith) (omega arith))
+      → Performs (Return k) (elim (kept k frame) [ some words ↦ leave (s .callers) words s | none ↦ refuses cannotPerform ])
+  unfolding kept numberKept wordsNeeded wordsAdded byteIn
+  exactly-return zero frame e =
+      exactly-leave (s .callers) [] (λ none-waits fetch. none-kept fetch none-waits) (can-plain (Return 0) refl (omega arith) (omega arith))
   exactly-return (suc zero) [] e = let none-there = ap length e in stuck (missing (omega arith))
   exactly-return (suc zero) (x ∷ rest) e =
       let there = ap length e in
-      exactly-leave (s .callers) _ (can-plain (Return 1) refl (omega arith) (omega arith))
+      exactly-leave (s .callers) (x ∷ []) (λ none-waits fetch. one-kept x rest fetch none-waits e) (can-plain (Return 1) refl (omega arith) (omega arith))
   exactly-return (suc (suc k)) frame e = stuck (byte (suc (suc k)) refl (omega arith))
 
   -- one line for each opcode
-  exactly-operate : (op : Operation) → Exactly (Cannot op) (operate m s op)
+  exactly-operate : (op : Operation) → Performs op (operate m s op)
   unfolding operate wordsNeeded wordsAdded byteIn
   exactly-operate (Push x) = exactly-push (Push x) x refl (omega arith) (omega arith)
   exactly-operate (Get k) = exactly-get k (atLevel (s .frame) k) refl
@@ -209,11 +248,14 @@ module _ (m : Setting) (s : State) where
   exactly-operate (Jump a) = going (can-plain (Jump a) refl (omega arith) (omega arith))
   exactly-operate Slide = exactly-two (s .frame) _ missing (λ x under rest h. going (can-plain Slide refl (omega arith) h))
   exactly-operate Drop = exactly-one (s .frame) _ missing (λ x rest h. going (can-plain Drop refl (omega arith) h))
-  exactly-operate LeafTag = exactly-write _ s (can-plain LeafTag refl (omega arith) (omega arith))
-  exactly-operate NodeTag = exactly-write _ s (can-plain NodeTag refl (omega arith) (omega arith))
+  exactly-operate LeafTag = exactly-write _ (s .frame) no-room-for-leaf (can-plain LeafTag refl (omega arith) (omega arith))
+  exactly-operate NodeTag = exactly-write _ (s .frame) no-room-for-node (can-plain NodeTag refl (omega arith) (omega arith))
   exactly-operate WriteNumber =
-      exactly-one (s .frame) _ missing (λ x rest h. exactly-write _ _ (can-plain WriteNumber refl (omega arith) h))
-  exactly-operate (ReadTag a) = exactly-tag (tagAt (m .input) (s .read)) a (can-plain (ReadTag a) refl (omega arith) (omega arith))
+      exactly-one (s .frame) _ missing
+      (λ x rest h.
+      exactly-write _ rest (λ full. no-room-for-number (rw length-bytesOf at full)) (can-plain WriteNumber refl (omega arith) h))
+  exactly-operate (ReadTag a) =
+      exactly-tag (tagAt (m .input) (s .read)) a (look (m .input) (s .read)) (can-plain (ReadTag a) refl (omega arith) (omega arith))
   exactly-operate ReadNumber = exactly-room ReadNumber _ refl (λ fits. exactly-number (can ReadNumber (omega arith) (omega arith) fits))
   exactly-operate (Call entry n) =
       exactly-if _ _
@@ -223,21 +265,16 @@ module _ (m : Setting) (s : State) where
 
   -- ---- an instruction
 
-  -- a list has nothing past its end alone
-  past-end : {A : Type 0} (xs : List A) (k : ℕ) → nth xs k ≡ none → length xs ≤ k
-  unfolding nth
-  past-end [] k e = omega arith
-  past-end (x ∷ xs) zero e = absurd (Option·none-ne-some x (sym e))
-  past-end (x ∷ xs) (suc k) e = let h = past-end xs k e in omega arith
-
   -- an operation that is fetched
   exactly-fetched :
       (i : Instruction) (op : Operation)
       → m .holds (s .address) ≡ some i
       → operationOf i ≡ some op
-      → Exactly (CannotPerform m s) (operate m s op)
+      → Exactly (CannotPerform m s) (Refused m s) (ReturnsFirst m s) (operate m s op)
   unfolding operationOf operations
-  exactly-fetched i op held is = exactly-of to from (exactly-operate op)
+  exactly-fetched i op held is =
+      let fetch = fetched i held is in
+      exactly-of to from (λ number can p. prevented op number can fetch p) (λ number end. end fetch) (exactly-operate op)
     where
       to : Cannot op → CannotPerform m s
       to (byte k e h) = return-byte k (fetched i held (is ∙ ap some e)) h
@@ -265,25 +302,25 @@ module _ (m : Setting) (s : State) where
   no-name (fields opcode byte1 operand number) holds names =
       no-operation opcode byte1 operand number holds (past-end (operations byte1 operand number) opcode names)
 
-  exactly-perform : (i : Instruction) → m .holds (s .address) ≡ some i → Exactly (CannotPerform m s) (perform m s i)
+  exactly-perform : (i : Instruction) → m .holds (s .address) ≡ some i → Exactly (CannotPerform m s) (Refused m s) (ReturnsFirst m s) (perform m s i)
   unfolding perform
   exactly-perform i held = by-operation (operationOf i) refl
     where
       by-operation :
           (o : Option Operation)
           → operationOf i ≡ o
-          → Exactly (CannotPerform m s) (elim o [ some op ↦ operate m s op | none ↦ refuses cannotPerform ])
+          → Exactly (CannotPerform m s) (Refused m s) (ReturnsFirst m s) (elim o [ some op ↦ operate m s op | none ↦ refuses cannotPerform ])
       by-operation (some op) e = exactly-fetched i op held e
       by-operation none e = stuck (no-name i held e)
 
-  exactly-step : Exactly (CannotPerform m s) (step m s)
+  pub exactly-step : Exactly (CannotPerform m s) (Refused m s) (ReturnsFirst m s) (step m s)
   unfolding step
   exactly-step = by-holds (m .holds (s .address)) refl
     where
       by-holds :
           (o : Option Instruction)
           → m .holds (s .address) ≡ o
-          → Exactly (CannotPerform m s) (elim o [ some i ↦ perform m s i | none ↦ refuses cannotPerform ])
+          → Exactly (CannotPerform m s) (Refused m s) (ReturnsFirst m s) (elim o [ some i ↦ perform m s i | none ↦ refuses cannotPerform ])
       by-holds (some i) e = exactly-perform i e
       by-holds none e = stuck (no-instruction e)
 
@@ -297,16 +334,16 @@ alone : Operation → Setting
 alone op = ofCode (bytesOfRecord (instructionOf op)) [] 0
 
 -- So many words, all 0; so many frames that wait, each without words.
-zero-words : ℕ → List ℕ
+unfoldable pub zero-words : ℕ → List ℕ
 zero-words zero = []
 zero-words (suc n) = 0 ∷ zero-words n
 
-waiting : ℕ → List Caller
+unfoldable pub waiting : ℕ → List Caller
 waiting zero = []
 waiting (suc n) = record { back = 0; words = [] } ∷ waiting n
 
 -- At address 0, with so many words and so many frames that wait.
-standing-at : ℕ → ℕ → State
+unfoldable pub standing-at : ℕ → ℕ → State
 standing-at words calls = record { address = 0; frame = zero-words words; callers = waiting calls; read = 0; output = [] }
 
 -- What an operation is refused with there.

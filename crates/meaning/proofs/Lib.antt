@@ -1,6 +1,7 @@
 -- Proofs about stream runs and about what a program means.
 pub mod Levels
 pub mod CannotPerform
+pub mod Stopping
 pub mod Steps
 pub mod Runs
 pub mod Inputs

@@ -19,6 +19,7 @@ use Rattle.meaning.specs.Performing.{Setting, Caller, State, wordsBelow,
 use Rattle.meaning.specs.Performing.{one, two, room, push, write, byTag, readNumber, call, kept, leave, operate, perform, step}
 use Rattle.meaning.specs.StreamRun.{StepRefusal, ended-there, no-tag, full, too-many, cannot, Within, Grows, OneStep}
 use Rattle.meaning.proofs.CannotPerform.{cannot-first}
+use Rattle.meaning.proofs.Stopping.{refused-exactly, ends-exactly}
 
 -- what becomes of a state's instruction, with the equation kept
 pub data Stepped (m : Setting) (s : State) : Type 0 where
@@ -236,6 +237,8 @@ module _ (m : Setting) (s : State) where
   one-step = record {
     refusals = λ number e. subst (Sound m s) e sound;
     cannot-first = cannot-first m s;
+    refused-exactly = refused-exactly m s;
+    ends-exactly = ends-exactly m s;
     grows = λ t e. follows-step e .grows;
     within = λ t w e. follows-step e .within w;
   }

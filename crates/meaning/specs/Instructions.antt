@@ -78,3 +78,28 @@ instructionOf (ReadTag a) = fields 10 0 a 0
 instructionOf ReadNumber = fields 11 0 0 0
 instructionOf (Call entry n) = fields 12 n entry 0
 instructionOf (Return k) = fields 13 k 0 0
+
+-- For each opcode, 0 to 13, the instruction with its unused fields zero. 01: "0 push, 1 get (operand ..), 2 add, 3 ifnot (.. operand), 4 jump, 5 slide,
+-- 6 drop, 7 leaf tag, 8 node tag, 9 write number, 10 read tag (.. operand), 11 read number, 12 call (operand ..; byte 1 ..), 13 return (byte 1 ..)". A
+-- push uses its number, a jump its operand.
+unfoldable pub usedFields : ℕ → ℕ → ℕ → List Instruction
+usedFields byte1 operand number =
+    fields 0 0 0 number
+    ∷ fields 1 0 operand 0
+    ∷ fields 2 0 0 0
+    ∷ fields 3 0 operand 0
+    ∷ fields 4 0 operand 0
+    ∷ fields 5 0 0 0
+    ∷ fields 6 0 0 0
+    ∷ fields 7 0 0 0
+    ∷ fields 8 0 0 0
+    ∷ fields 9 0 0 0
+    ∷ fields 10 0 operand 0
+    ∷ fields 11 0 0 0
+    ∷ fields 12 byte1 operand 0
+    ∷ fields 13 byte1 0 0
+    ∷ []
+
+-- An instruction with its unused fields zero; of another opcode all are unused.
+unfoldable pub used : Instruction → Instruction
+used (fields opcode byte1 operand number) = elim (nth (usedFields byte1 operand number) opcode) [ some i ↦ i | none ↦ fields opcode 0 0 0 ]

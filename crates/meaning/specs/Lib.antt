@@ -4,6 +4,7 @@ pub mod Instructions
 pub mod Performing
 pub mod Running
 pub mod CannotPerform
+pub mod Stopping
 pub mod StreamRun
 pub mod Evaluation
 pub mod OpenCalls

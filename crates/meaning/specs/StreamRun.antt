@@ -11,9 +11,10 @@ use Rattle.formats.specs.Places.{Opens}
 use Rattle.formats.specs.Refusals.{fuelUsedUp, inputEnded, notATag, outputFull, tooManyCalls, cannotPerform}
 use Rattle.formats.specs.Results.{Result, done, refusal}
 use Rattle.formats.specs.Tokens.{labelBytes}
-use Rattle.meaning.specs.Instructions.{Operation, operationOf, instructionOf}
+use Rattle.meaning.specs.Instructions.{Instruction, Operation, operationOf, instructionOf, used}
 use Rattle.meaning.specs.Performing.{Setting, State, standing, opened, goes, ends, refuses, step}
 use Rattle.meaning.specs.CannotPerform.{CannotPerform}
+use Rattle.meaning.specs.Stopping.{Refused, ReturnsFirst}
 use Rattle.meaning.specs.Running.{Run, ended, refused, run, unitsOf, Answer, Ran, streamRun}
 
 -- ---- one step
@@ -43,6 +44,9 @@ pub record OneStep (m : Setting) (s : State) : Type 0 where
   -- 01: "At one instruction 19 comes before 15 to 18". It is 19 exactly where the instruction can't be performed, whatever the input, the output and the
   -- open calls are.
   pub cannot-first : (step m s ≡ refuses cannotPerform) ↔ CannotPerform m s
+  -- It is refused with 15 to 19 exactly where a rule says so, and the run ends there exactly at the return of the first frame.
+  pub refused-exactly : (number : ℕ) → (step m s ≡ refuses number) ↔ Refused m s number
+  pub ends-exactly : (number : ℕ) → (step m s ≡ ends number) ↔ ReturnsFirst m s number
   pub grows : (t : State) → step m s ≡ goes t → Grows s t
   pub within : (t : State) → Within m s → step m s ≡ goes t → Within m t
 
@@ -146,6 +150,10 @@ pub record Calls (output : List ℕ) (call : List ℕ → ℕ → Ran) : Type 0 
 pub record StreamRun : Type 0 where
   -- an instruction is read as it is written
   pub reads-back : (op : Operation) → operationOf (instructionOf op) ≡ some op
+  -- its unused fields are written zero: what is written for an operation is any instruction that has it, with the unused fields zero ..
+  pub written-zero : (i : Instruction) (op : Operation) → operationOf i ≡ some op → instructionOf op ≡ used i
+  -- .. and not looked at: whatever they hold, the operation is the same
+  pub not-looked-at : (i : Instruction) → operationOf i ≡ operationOf (used i)
   pub steps : (m : Setting) (s : State) → OneStep m s
   pub runs : (m : Setting) (s : State) → Runs m s
   pub calls : (code output : List ℕ) (values returns : ℕ) → Calls output (λ input fuel. streamRun code input output fuel values returns)

@@ -1,6 +1,6 @@
 -- Where pass one refuses with 10, more than 16 words stand at some point of the function with that record. At the record the words are tested and 16
 -- stand already, so one more makes 17; and an expression's words are at least those of each of its parts.
-use Prim.Native.Nat.{ℕ, zero, suc, _+_, _≤_, _<_, max}
+use Prim.Native.Nat.{ℕ, zero, suc, _+_, _≤_, _<_}
 use mathlib.Core.Bool.{Bool, true, false, false≢true}
 use mathlib.Core.List.{List, [], _∷_}
 use mathlib.Core.Logic.{inl, inr}

@@ -101,12 +101,20 @@ nodeRecord edition functions k r =
       | some kind ↦ check (same (fieldsOf kind) r && below functions kind) nodeField k kind
     ]
 
--- The type of a part. 01: "Add's parts, tests, Let's first part, Leaf's part and arguments are numbers; Node's parts are trees; other parts take
--- the type expected of the whole."
+-- A part: what is expected of it, and what more is named in it. 01: "Add's parts, tests, Let's first part, Leaf's part and arguments are numbers;
+-- Node's parts are trees; other parts take the type expected of the whole." "Let's body and Case's leaf part add one number name, Case's node part two
+-- tree names, left first."
 pub data Part : Type 0 where
+  -- A number is expected. Before number part i stand i numbers, each on a word of its own.
   aNumber : Part
+  -- A tree is expected.
   aTree : Part
+  -- What is expected of the whole.
   asWhole : Part
+  -- The same, with one number name more.
+  underNumber : Part
+  -- The same, with two tree names more.
+  underTrees : Part
 
 -- A kind's parts in order: these, or a function's number arguments.
 pub data Parts : Type 0 where
@@ -118,11 +126,16 @@ partsOf (Const i) = these []
 partsOf (Var a) = these []
 partsOf Add = these (aNumber ∷ aNumber ∷ [])
 partsOf IfZero = these (aNumber ∷ asWhole ∷ asWhole ∷ [])
-partsOf Let = these (aNumber ∷ asWhole ∷ [])
+partsOf Let = these (aNumber ∷ underNumber ∷ [])
 partsOf Leaf = these (aNumber ∷ [])
 partsOf Node = these (aTree ∷ aTree ∷ [])
-partsOf (Case a) = these (asWhole ∷ asWhole ∷ [])
+partsOf (Case a) = these (underNumber ∷ underTrees ∷ [])
 partsOf (Call a b) = argumentsOf b
+
+-- Part i, counted from 0. Where these parts have no part i, it is as the whole.
+unfoldable pub nthPart : Parts → ℕ → Part
+nthPart (these ps) i = elim (nth ps i) [ none ↦ asWhole | some p ↦ p ]
+nthPart (argumentsOf b) i = aNumber
 
 -- How many they are, where each function has so many number parameters.
 unfoldable pub partCount : (ℕ → ℕ) → Parts → ℕ

@@ -7,7 +7,7 @@ use native.Mathlib.Numerals.{add-one}
 use native.Mathlib.Omega.{arith}
 use lib.ListN.{length}
 use Rattle.formats.specs.Results.{Result, done, andThen, onValue}
-use Rattle.formats.specs.Records.{below, partCount}
+use Rattle.formats.specs.Records.{Kind, below, partsOf, nthPart, partCount}
 use Rattle.formats.specs.Programs.{Expr, size, Placed, partsAt, Signature}
 use Rattle.formats.specs.Rows.{headerIn, arityIn, nodeIn}
 use Rattle.formats.proofs.Results.{done-injective, done-not, then-done, then-refused, value-inv, value-refused}
@@ -20,15 +20,17 @@ use Rattle.refusal.specs.declared.Refusal.the-variants.{PrefixForm}
 use Rattle.refusal.specs.declared.Verdict.{Verdict}
 use Rattle.refusal.specs.declared.Verdict.the-variants.{Passed}
 use Rattle.refusal.specs.declared.Verdict.the-variants.{Refused as Refuses}
-use Rattle.records.specs.Read.{Shape, meant, listed, shapeOf, shaped, described}
+use Rattle.records.specs.Read.{Shape, meant, partOf, listed, shapeOf, shaped, described}
+use Rattle.records.specs.declared.Part.{Part}
 use Rattle.records.specs.declared.Parts.{Parts}
 use Rattle.records.specs.declared.Record.{Record}
 use Rattle.records.specs.declared.Template.{Template}
 use Rattle.records.specs.declared.RecordRead.{RecordRead}
 use Rattle.records.specs.declared.RecordRead.the-variants.{Read}
 use Rattle.records.specs.declared.RecordRead.the-variants.{Refused as Unread}
-use Rattle.rules.specs.Scopes.{inside, entry, entered}
+use Rattle.rules.specs.Scopes.{inside, partScope, entry, entered}
 use Rattle.rules.specs.PassOne.{atEntry, passOver}
+use Rattle.rules.proofs.Entries.{part-scopes}
 use Rattle.rules.proofs.Parts.{Known, headOf, Holds, Row, passParts}
 use Rattle.rules.proofs.Walks.{node-held, parts-held, parts-counted, pass-parts, FirstOf, row-first, row-none, row-upto}
 use Rattle.pass_one.specs.Walk.{scopeOf, told, Fits, FitsParts, Tested, Entered, EnteredParts}
@@ -81,70 +83,80 @@ module _ (s : List ℕ) (k end : ℕ) (c : Scope) where
         }
 
         pub enter-passed : (count : ℕ) (r : Walked) → own ≡ Passed → count ≡ partCount (arityIn s) (listed parts)
-            → EnteredParts s node 0 count (k + 1) end c r → Entered s k end c r
+            → EnteredParts s parts 0 count (k + 1) end c r → Entered s k end c r
         enter-passed count r passes many walked = record {
           on = λ next e. let o = walked .on next e in (omega arith, o .1);
           is = λ gs e known held within.
               let row : Row s gs (k + 1) (partsAt k e) (k + size e) = rw add-one (parts-held s gs k e held) in
-              let all : 0 + length (partsAt k e) ≡ count =
-              omega (arith, parts-counted s gs k e known held, ap (λ (shape : Shape). partCount (arityIn s) (shape .parts)) (own-shape gs e held)) in
-              walked .is gs (partsAt k e) (k + size e) known row all within
-              ∙ ap (onValue (λ u. k + size e))
-              (ap (λ kind. passParts gs kind 0 (scopeOf c) (partsAt k e)) (own-kind gs e held)
-              ∙ sym (pass-parts gs (scopeOf c) k e ∙ then-done _ (sym (own-said gs e known held) ∙ ap said passes)));
+              let own-parts : listed parts ≡ partsOf (headOf e) = ap (λ (shape : Shape). shape .parts) (own-shape gs e held) in
+              let own-count = many ∙ ap (partCount (arityIn s)) own-parts in
+              let all : 0 + length (partsAt k e) ≡ count = omega (arith, parts-counted s gs k e known held) in
+              walked .is gs (headOf e) (partsAt k e) (k + size e) known own-parts own-count row all within
+              ∙ ap (onValue (λ u. k + size e)) (sym (pass-parts gs (scopeOf c) k e ∙ then-done _ (sym (own-said gs e known held) ∙ ap said passes)));
         }
 
 pub ruleset entering = (enter-past, enter-unread, enter-refused, enter-passed)
 
 -- ---- `enter_parts`
 
-module _ (s : List ℕ) (node : Record) (i count k end : ℕ) (c : Scope) where
-  pub parts-none : count ≤ i → k ≤ end → EnteredParts s node i count k end c (To k)
+module _ (s : List ℕ) (parts : Parts) (i count k end : ℕ) (c : Scope) where
+  pub parts-none : count ≤ i → k ≤ end → EnteredParts s parts i count k end c (To k)
   unfolding passParts
   parts-none none upto = record {
     on = λ next e. let same : k ≡ next = cc in (omega arith, omega arith);
-    is = λ gs ps m known row all within.
+    is = λ gs kind ps m known own many row all within.
         let nothing = row-none row (omega arith) in
-        sym (ap (λ ps. onValue (λ u. m) (passParts gs (meant node) i (scopeOf c) ps)) (nothing .0) ∙ ap done (nothing .1));
+        sym (ap (λ ps. onValue (λ u. m) (passParts gs kind i (scopeOf c) ps)) (nothing .0) ∙ ap done (nothing .1));
   }
 
-  module _ (part : Scope) (walked : Walked) (more : i < count) (is-part : scopeOf part ≡ inside (meant node) i (scopeOf c)) (w : Entered s k end part walked) where
+  module _ (part : Part) (inner : Scope) (walked : Walked) (more : i < count) (is-part : partOf part ≡ nthPart (listed parts) i)
+      (is-inner : scopeOf inner ≡ partScope (partOf part) i (scopeOf c)) (w : Entered s k end inner walked) where
+    -- what is known in the part is what its record's kind says
+    own-scope : (kind : Kind) → listed parts ≡ partsOf kind → count ≡ partCount (arityIn s) (partsOf kind) → scopeOf inner ≡ inside kind i (scopeOf c)
+    own-scope kind own many =
+        is-inner
+        ∙ ap (λ p. partScope p i (scopeOf c)) (is-part ∙ ap (λ ps. nthPart ps i) own)
+        ∙ sym (part-scopes (arityIn s) kind i (scopeOf c) (omega arith))
+
     -- the next part, and those behind it
-    record Turn (gs : List Signature) (ps : List Placed) (m : ℕ) : Type 0 where
+    record Turn (gs : List Signature) (kind : Kind) (ps : List Placed) (m : ℕ) : Type 0 where
       first : FirstOf s gs k ps m
       over : Result (Unit {0})
       here : told walked ≡ onValue (λ u. k + size (first .expr)) over
-      split : passParts gs (meant node) i (scopeOf c) ps ≡ andThen over (λ u. passParts gs (meant node) (suc i) (scopeOf c) (first .others))
+      split : passParts gs kind i (scopeOf c) ps ≡ andThen over (λ u. passParts gs kind (suc i) (scopeOf c) (first .others))
 
-    turn : (gs : List Signature) (ps : List Placed) (m : ℕ) → Known s gs → Row s gs k ps m → i + length ps ≡ count → m ≤ end → Turn gs ps m
+    turn : (gs : List Signature) (kind : Kind) (ps : List Placed) (m : ℕ) → Known s gs → listed parts ≡ partsOf kind → count ≡ partCount (arityIn s) (partsOf kind)
+        → Row s gs k ps m → i + length ps ≡ count → m ≤ end → Turn gs kind ps m
     unfolding passParts
-    turn gs ps m known row all within =
+    turn gs kind ps m known own many row all within =
         let f = row-first row (omega arith) in
         record {
           first = f;
-          over = passOver gs (entered (inside (meant node) i (scopeOf c)) k (f .expr));
-          here = w .is gs (f .expr) known (f .here) (omega (arith, row-upto (f .later))) ∙ ap (λ sc. onValue (λ u. k + size (f .expr)) (passOver gs (entered sc k (f .expr)))) is-part;
-          split = ap (passParts gs (meant node) i (scopeOf c)) (f .both);
+          over = passOver gs (entered (inside kind i (scopeOf c)) k (f .expr));
+          here =
+              w .is gs (f .expr) known (f .here) (omega (arith, row-upto (f .later)))
+              ∙ ap (λ sc. onValue (λ u. k + size (f .expr)) (passOver gs (entered sc k (f .expr)))) (own-scope kind own many);
+          split = ap (passParts gs kind i (scopeOf c)) (f .both);
         }
 
-    pub parts-refused : (why : Refusal) (place : ℕ) → walked ≡ Refused why place → EnteredParts s node i count k end c (Refused why place)
+    pub parts-refused : (why : Refusal) (place : ℕ) → walked ≡ Refused why place → EnteredParts s parts i count k end c (Refused why place)
     parts-refused why place case = record {
       on = λ next e. stopped why place next e;
-      is = λ gs ps m known row all within.
-          let t = turn gs ps m known row all within in
+      is = λ gs kind ps m known own many row all within.
+          let t = turn gs kind ps m known own many row all within in
           sym (ap (onValue (λ u. m)) (t .split ∙ then-refused _ (value-refused (λ u. k + size (t .first .expr)) (t .over) (number why) place (sym (t .here) ∙ ap told case))));
     }
 
-    pub parts-more : (next : ℕ) (r : Walked) → walked ≡ To next → EnteredParts s node (i + 1) count next end c r → EnteredParts s node i count k end c r
+    pub parts-more : (next : ℕ) (r : Walked) → walked ≡ To next → EnteredParts s parts (i + 1) count next end c r → EnteredParts s parts i count k end c r
     parts-more next r case others = record {
       on = λ last e. let o = others .on last e in let before = w .on next case in (omega arith, o .1);
-      is = λ gs ps m known row all within.
-          let t = turn gs ps m known row all within in
+      is = λ gs kind ps m known own many row all within.
+          let t = turn gs kind ps m known own many row all within in
           let f = t .first in
           let v = value-inv (λ u. k + size (f .expr)) (t .over) next (sym (t .here) ∙ ap told case) in
           let long : length ps ≡ suc (length (f .others)) = ap length (f .both) in
-          others .is gs (f .others) m known (rw (← (v .second)) (f .later)) (omega arith) within
-          ∙ ap (onValue (λ u. m)) (ap (λ j. passParts gs (meant node) j (scopeOf c) (f .others)) (add-one i) ∙ sym (t .split ∙ then-done _ (v .first)));
+          others .is gs kind (f .others) m known own many (rw (← (v .second)) (f .later)) (omega arith) within
+          ∙ ap (onValue (λ u. m)) (ap (λ j. passParts gs kind j (scopeOf c) (f .others)) (add-one i) ∙ sym (t .split ∙ then-done _ (v .first)));
     }
 
     -- the walk goes on behind the part, with fewer records left ..
@@ -157,7 +169,7 @@ module _ (s : List ℕ) (node : Record) (i count k end : ℕ) (c : Scope) where
         record { before-end = o .1; few = fits .few; numbers = omega (arith, fits .numbers); trees = omega (arith, fits .trees); words = omega (arith, fits .words) }
 
   -- .. and what fits the parts fits the next of them
-  pub into : (part : Scope) → scopeOf part ≡ inside (meant node) i (scopeOf c) → FitsParts i k end (scopeOf c) → Fits k end (scopeOf part)
-  into part e fits = subst (Fits k end) (sym e) (inside-fits (meant node) i k end (scopeOf c) fits)
+  pub into : (part : Part) (inner : Scope) → scopeOf inner ≡ partScope (partOf part) i (scopeOf c) → FitsParts i k end (scopeOf c) → Fits k end (scopeOf inner)
+  into part inner e fits = subst (Fits k end) (sym e) (inside-fits (partOf part) i k end (scopeOf c) fits)
 
 pub ruleset entering-parts = (parts-none, parts-refused, parts-more)

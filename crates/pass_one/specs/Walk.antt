@@ -5,13 +5,14 @@ use mathlib.Core.List.{List}
 use mathlib.Core.Path.{_≡_}
 use lib.ListN.{length}
 use Rattle.formats.specs.Results.{Result, done, refusal, onValue}
-use Rattle.formats.specs.Records.{below}
+use Rattle.formats.specs.Records.{Kind, below, partsOf, partCount}
 use Rattle.formats.specs.Programs.{Expr, size, Placed, Signature, Function, signatureOf, Program}
-use Rattle.formats.specs.Rows.{headerIn, functionIn, readProgram}
+use Rattle.formats.specs.Rows.{headerIn, arityIn, functionIn, readProgram}
 use Rattle.refusal.specs.Number.{number}
 use Rattle.refusal.specs.Said.{said}
 use Rattle.refusal.specs.declared.Verdict.{Verdict}
-use Rattle.records.specs.Read.{meant}
+use Rattle.records.specs.Read.{meant, listed}
+use Rattle.records.specs.declared.Parts.{Parts}
 use Rattle.records.specs.declared.Record.{Record}
 use Rattle.rules.specs.Types.{Ty, Int, Tree⁺}
 use Rattle.rules.specs.Scopes.{scope, startOf, entry, entered}
@@ -76,11 +77,12 @@ pub record Entered (s : List ℕ) (k end : ℕ) (c : Scope) (r : Walked) : Type 
   pub is : (gs : List Signature) (e : Expr) → Known s gs → Holds s gs k e → k + size e ≤ end
       → told r ≡ onValue (λ u. k + size e) (passOver gs (entered (scopeOf c) k e))
 
--- The parts of a record of this kind from part i on, so many in all, the next of them at record k.
-pub record EnteredParts (s : List ℕ) (node : Record) (i count k end : ℕ) (c : Scope) (r : Walked) : Type 0 where
+-- The parts of a record from part i on, so many in all, the next of them at record k: for the kind whose parts these are.
+pub record EnteredParts (s : List ℕ) (parts : Parts) (i count k end : ℕ) (c : Scope) (r : Walked) : Type 0 where
   pub on : (next : ℕ) → r ≡ To next → (k ≤ next) × (next ≤ end)
-  pub is : (gs : List Signature) (ps : List Placed) (m : ℕ) → Known s gs → Row s gs k ps m → i + length ps ≡ count → m ≤ end
-      → told r ≡ onValue (λ u. m) (passParts gs (meant node) i (scopeOf c) ps)
+  pub is : (gs : List Signature) (kind : Kind) (ps : List Placed) (m : ℕ) → Known s gs → listed parts ≡ partsOf kind → count ≡ partCount (arityIn s) (partsOf kind)
+      → Row s gs k ps m → i + length ps ≡ count → m ≤ end
+      → told r ≡ onValue (λ u. m) (passParts gs kind i (scopeOf c) ps)
 
 -- The scope on entering the body of function j.
 pub record Starts (s : List ℕ) (j : ℕ) (c : Scope) : Type 0 where

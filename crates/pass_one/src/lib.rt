@@ -1,16 +1,16 @@
 // Document 01's pass one, over flat records, 8 bytes each: at each record, in prefix order, name bound, then type, then words.
+use records::Part;
+use records::Parts;
 use records::Record;
 use records::RecordRead;
 use refusal::Refusal;
 use refusal::Verdict;
-ghost use Prim.Native.Nat.{_+_, _≤_, _<_};
 ghost use mathlib.Core.Path.{_≡_};
-ghost use Rattle.records.specs.Read.{meant};
+ghost use Rattle.records.specs.Read.{meant, partOf};
 ghost use Rattle.refusal.specs.Said.{said};
-ghost use Rattle.rules.specs.Types.{Int, Tree⁺};
-ghost use Rattle.rules.specs.Scopes.{scope as scoped, inside as insideOf};
+ghost use Rattle.rules.specs.Scopes.{partScope};
 ghost use Rattle.rules.specs.PassOne.{named, checkOne};
-ghost use Rattle.pass_one.specs.Walk.{expected, scopeOf, RoomFor, Fits, FitsParts, Typed, Bare, Roomy, Tested, Entered, EnteredParts, Starts, PassSays};
+ghost use Rattle.pass_one.specs.Walk.{scopeOf, RoomFor, Fits, FitsParts, Typed, Bare, Roomy, Tested, Entered, EnteredParts, Starts, PassSays};
 
 // The most words above the frame's base.
 const MOST_WORDS: usize = 16;
@@ -109,91 +109,37 @@ fn tests(flat: &[u8], node: Record, scope: Scope, k: usize) -> Verdict
     Verdict::Refused(Refusal::TooManyWords, k)
 }
 
-// A number is expected, and so many more words stand.
-fn number_part(scope: Scope, more: usize) -> Scope
-    requires { ⌜ scope .words + more ≤ 200000 ⌝ }
-    ensures { λ r. ⌜ scopeOf r ≡ scoped (scope .numbers) (scope .trees) (scope .words + more) Int ⌝ }
-{
-    Scope {
-        numbers: scope.numbers,
-        trees: scope.trees,
-        words: scope.words + more,
-        tree: false,
-    }
-}
-
-// A tree is expected.
-fn tree_part(scope: Scope) -> Scope
-    ensures { λ r. ⌜ scopeOf r ≡ scoped (scope .numbers) (scope .trees) (scope .words) Tree⁺ ⌝ }
-{
-    Scope {
-        numbers: scope.numbers,
-        trees: scope.trees,
-        words: scope.words,
-        tree: true,
-    }
-}
-
-// One more number is named, on a word of its own.
-fn under_number(scope: Scope) -> Scope
-    requires { ⌜ (scope .numbers < 200000) × (scope .words < 200000) ⌝ }
-    ensures { λ r. ⌜ scopeOf r ≡ scoped (scope .numbers + 1) (scope .trees) (scope .words + 1) (expected (scope .tree)) ⌝ }
-{
-    Scope {
-        numbers: scope.numbers + 1,
-        trees: scope.trees,
-        words: scope.words + 1,
-        tree: scope.tree,
-    }
-}
-
-// Two more trees are named.
-fn under_trees(scope: Scope) -> Scope
-    requires { ⌜ scope .trees < 300000 ⌝ }
-    ensures { λ r. ⌜ scopeOf r ≡ scoped (scope .numbers) (scope .trees + 2) (scope .words) (expected (scope .tree)) ⌝ }
-{
-    Scope {
-        numbers: scope.numbers,
-        trees: scope.trees + 2,
-        words: scope.words,
-        tree: scope.tree,
-    }
-}
-
-// What is known on entering part i of the record.
-fn inside(node: Record, i: usize, scope: Scope) -> Scope
+// What is known on entering part i of a record, by what the part is.
+fn inside(part: Part, i: usize, scope: Scope) -> Scope
     requires { ⌜ RoomFor i (scopeOf scope) ⌝ }
-    ensures { λ r. ⌜ scopeOf r ≡ insideOf (meant node) i (scopeOf scope) ⌝ }
+    ensures { λ r. ⌜ scopeOf r ≡ partScope (partOf part) i (scopeOf scope) ⌝ }
 {
-    match node {
-        Record::Add => {
-            if i == 0 {
-                return number_part(scope, 0);
-            }
-            number_part(scope, 1)
-        }
-        Record::IfZero => {
-            if i == 0 {
-                return number_part(scope, 0);
-            }
-            scope
-        }
-        Record::Let => {
-            if i == 0 {
-                return number_part(scope, 0);
-            }
-            under_number(scope)
-        }
-        Record::Leaf => number_part(scope, 0),
-        Record::Node => tree_part(scope),
-        Record::Case(t) => {
-            if i == 0 {
-                return under_number(scope);
-            }
-            under_trees(scope)
-        }
-        Record::Call(c) => number_part(scope, i),
-        _ => scope,
+    match part {
+        Part::Number => Scope {
+            numbers: scope.numbers,
+            trees: scope.trees,
+            words: scope.words + i,
+            tree: false,
+        },
+        Part::Tree => Scope {
+            numbers: scope.numbers,
+            trees: scope.trees,
+            words: scope.words,
+            tree: true,
+        },
+        Part::Whole => scope,
+        Part::UnderNumber => Scope {
+            numbers: scope.numbers + 1,
+            trees: scope.trees,
+            words: scope.words + 1,
+            tree: scope.tree,
+        },
+        Part::UnderTrees => Scope {
+            numbers: scope.numbers,
+            trees: scope.trees + 2,
+            words: scope.words,
+            tree: scope.tree,
+        },
     }
 }
 
@@ -215,7 +161,7 @@ fn enter(flat: &[u8], k: usize, end: usize, scope: Scope) -> Walked
                 return Walked::Refused(why, place);
             }
             let count = nodes::part_count(flat, parts);
-            enter_parts(flat, node, 0, count, k + 1, end, scope)
+            enter_parts(flat, parts, 0, count, k + 1, end, scope)
         }
     }
 }
@@ -223,7 +169,7 @@ fn enter(flat: &[u8], k: usize, end: usize, scope: Scope) -> Walked
 // Pass one over the parts of a record from part i on, the next of them at record k.
 fn enter_parts(
     flat: &[u8],
-    node: Record,
+    parts: Parts,
     i: usize,
     count: usize,
     k: usize,
@@ -231,16 +177,17 @@ fn enter_parts(
     scope: Scope,
 ) -> Walked
     requires { ⌜ FitsParts i k end (scopeOf scope) ⌝ }
-    ensures { λ r. ⌜ EnteredParts (now (flat .entry)) node i count k end scope r ⌝ }
+    ensures { λ r. ⌜ EnteredParts (now (flat .entry)) parts i count k end scope r ⌝ }
 {
     if count <= i {
         return Walked::To(k);
     }
-    let part = inside(node, i, scope);
-    let walked = enter(flat, k, end, part);
+    let part = parts::nth_part(parts, i);
+    let inner = inside(part, i, scope);
+    let walked = enter(flat, k, end, inner);
     match walked {
         Walked::Refused(why, place) => Walked::Refused(why, place),
-        Walked::To(next) => enter_parts(flat, node, i + 1, count, next, end, scope),
+        Walked::To(next) => enter_parts(flat, parts, i + 1, count, next, end, scope),
     }
 }
 

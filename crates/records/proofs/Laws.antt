@@ -15,7 +15,7 @@ use Rattle.formats.specs.Numbers.{numberAt}
 use Rattle.formats.specs.Refusals.{nodeField}
 use Rattle.formats.specs.Results.{done, refusal, check, onValue}
 use Rattle.formats.specs.Records.{Kind, fields, recordBytes, recordAt, kinds, kindOf, nth, same, below, fieldsOf, nodeRecord, partsOf}
-use Rattle.formats.specs.Records.{aNumber, aTree, asWhole, these, argumentsOf, Const, Var, Add, IfZero, Let, Leaf, Node, Case, Call}
+use Rattle.formats.specs.Records.{aNumber, aTree, asWhole, underNumber, underTrees, these, argumentsOf, Const, Var, Add, IfZero, Let, Leaf, Node, Case, Call}
 use Rattle.formats.specs.CodeColumn.{templateOf}
 use Rattle.formats.specs.Rows.{headerIn, nodeAt, nodeIn}
 use Rattle.formats.proofs.Numbers.{numberAt-cut}
@@ -141,7 +141,7 @@ pub of-let :
     → x ≡ 4
     → u ≡ a + b + i
     → t ≡ record { first = None; second = None; third = None; last = One End }
-    → described r ≡ check (eqb u 0) nodeField place (record { kind = Let; parts = these (aNumber ∷ asWhole ∷ []); template = columnOf t })
+    → described r ≡ check (eqb u 0) nodeField place (record { kind = Let; parts = these (aNumber ∷ underNumber ∷ []); template = columnOf t })
     → OfKind functions place x a b i r
 unfolding kindOf kinds nth fieldsOf below partsOf templateOf
 of-let functions place x a b i u t r number sum is told =
@@ -186,7 +186,7 @@ pub of-case :
     → x ≡ 7
     → u ≡ 0 + b + i
     → t ≡ record { first = Two ReadTag ReadNumber; second = Two End Jump; third = None; last = None }
-    → described r ≡ check (eqb u 0) nodeField place (record { kind = Case a; parts = these (asWhole ∷ asWhole ∷ []); template = columnOf t })
+    → described r ≡ check (eqb u 0) nodeField place (record { kind = Case a; parts = these (underNumber ∷ underTrees ∷ []); template = columnOf t })
     → OfKind functions place x a b i r
 unfolding kindOf kinds nth fieldsOf below partsOf templateOf
 of-case functions place x a b i u t r number sum is told =

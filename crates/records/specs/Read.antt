@@ -5,8 +5,8 @@ use mathlib.Core.Path.{_≡_}
 use lib.ListN.{length, getD}
 use Rattle.formats.specs.Numbers.{numberAt}
 use Rattle.formats.specs.Results.{Result, done, refusal, onValue}
-use Rattle.formats.specs.Records.{Kind, fields, recordBytes, nodeRecord, aNumber, aTree, asWhole, these, argumentsOf, partsOf}
-use Rattle.formats.specs.Records.{Part as TypeOfPart, Parts as PartsOfKind}
+use Rattle.formats.specs.Records.{Kind, fields, recordBytes, nodeRecord, aNumber, aTree, asWhole, underNumber, underTrees, these, argumentsOf, partsOf}
+use Rattle.formats.specs.Records.{Part as PartOfKind, Parts as PartsOfKind}
 use Rattle.formats.specs.CodeColumn.{pushNumber, getName, addTwo, ifnotLast, jumpBehind, endName, leafTag, nodeTag, writeNumber, readTagLast, readNumber, callFunction, templateOf}
 use Rattle.formats.specs.CodeColumn.{Item as ItemOfColumn, Template as TemplateOfKind}
 use Rattle.formats.specs.Records.{Const as aConst, Var as aVar, Add as anAdd, IfZero as anIfZero, Let as aLet, Leaf as aLeaf, Node as aNode, Case as aCase, Call as aCall}
@@ -19,7 +19,7 @@ use Rattle.records.specs.declared.Items.{Items}
 use Rattle.records.specs.declared.Items.the-variants as items
 use Rattle.records.specs.declared.Template.{Template}
 use Rattle.records.specs.declared.Part.{Part}
-use Rattle.records.specs.declared.Part.the-variants.{Number, Tree, Whole}
+use Rattle.records.specs.declared.Part.the-variants.{Number, Tree, Whole, UnderNumber, UnderTrees}
 use Rattle.records.specs.declared.Parts.{Parts}
 use Rattle.records.specs.declared.Parts.the-variants.{None, One, Two, Three, Arguments}
 use Rattle.records.specs.declared.RecordRead.{RecordRead}
@@ -37,16 +37,18 @@ meant Node = aNode
 meant (Case t) = aCase (t .a)
 meant (Call c) = aCall (c .a) (c .b)
 
-abbrev pub typeOf : Part → TypeOfPart
-typeOf Number = aNumber
-typeOf Tree = aTree
-typeOf Whole = asWhole
+abbrev pub partOf : Part → PartOfKind
+partOf Number = aNumber
+partOf Tree = aTree
+partOf Whole = asWhole
+partOf UnderNumber = underNumber
+partOf UnderTrees = underTrees
 
 abbrev pub listed : Parts → PartsOfKind
 listed None = these []
-listed (One p) = these (typeOf p ∷ [])
-listed (Two p q) = these (typeOf p ∷ typeOf q ∷ [])
-listed (Three p q r) = these (typeOf p ∷ typeOf q ∷ typeOf r ∷ [])
+listed (One p) = these (partOf p ∷ [])
+listed (Two p q) = these (partOf p ∷ partOf q ∷ [])
+listed (Three p q r) = these (partOf p ∷ partOf q ∷ partOf r ∷ [])
 listed (Arguments b) = argumentsOf b
 
 -- An item of the column "code".

@@ -46,11 +46,13 @@ pub enum Record {
     Call(Called),
 }
 
-// The type of a part; `Whole` is the type expected of the whole.
+// A part: a number or a tree is expected; or what is expected of the whole, as it is, with one number name more, or with two tree names more.
 pub enum Part {
     Number,
     Tree,
     Whole,
+    UnderNumber,
+    UnderTrees,
 }
 
 // A record's parts in order: so many, or the number arguments of a function.
@@ -163,8 +165,8 @@ fn row(node: Record, parts: Parts, template: Template, sum: u64, at: usize) -> R
     RecordRead::Refused(Refusal::NodeField, at)
 }
 
-// The one match over the kind number: an arm has the kind's operands, its parts with their types, its template, and the fields that it does not
-// use.
+// The one match over the kind number: an arm has the kind's operands, its parts with what is expected and named in each, its template, and the fields
+// that it does not use.
 fn record_of(kind: u8, a: u8, b: u16, i: u32, functions: u8, at: usize) -> RecordRead
     ensures { λ r. ⌜ OfKind functions at kind a b i r ⌝ }
 {
@@ -202,7 +204,7 @@ fn record_of(kind: u8, a: u8, b: u16, i: u32, functions: u8, at: usize) -> Recor
         ),
         4 => row(
             Record::Let,
-            Parts::Two(Part::Number, Part::Whole),
+            Parts::Two(Part::Number, Part::UnderNumber),
             last(Item::End),
             abi,
             at,
@@ -223,7 +225,7 @@ fn record_of(kind: u8, a: u8, b: u16, i: u32, functions: u8, at: usize) -> Recor
         ),
         7 => row(
             Record::Case(TreeName { a: a }),
-            Parts::Two(Part::Whole, Part::Whole),
+            Parts::Two(Part::UnderNumber, Part::UnderTrees),
             before(
                 Items::Two(Item::ReadTag, Item::ReadNumber),
                 Items::Two(Item::End, Item::Jump),

@@ -5,13 +5,13 @@ use mathlib.Core.Logic.{inl, inr}
 use mathlib.Core.Path.{_≡_, refl}
 use lib.Dec.{lit<, lit≤}
 use Rattle.formats.specs.Results.{Result, done, refusal}
-use Rattle.formats.specs.Records.{nth}
+use Rattle.formats.specs.Records.{Kind, Var, Leaf, Node, Case, Part, aNumber, aTree, asWhole, underNumber, underTrees, nth, partsOf, nthPart}
 use Rattle.formats.specs.Programs.{Expr, const, var, add, ifZero, letIn, leafOf, nodeOf, caseOf, call, noArgs, arg, prefix, prefixes, size, numberValued, treeValued, Signature, signatureOf, Function, Program, signatures}
 use Rattle.formats.specs.Programs.{Lawful, arityOf, countArgs, mostParameters, total}
 use Rattle.formats.proofs.ProgramCases.{grow, grow-lawful}
-use Rattle.rules.specs.Types.{Int, resultType, arrows, functionType, isInt, isTree, fits}
+use Rattle.rules.specs.Types.{Int, Tree⁺, resultType, arrows, functionType, isInt, isTree, fits}
 use Rattle.rules.specs.Typing.{TypesName, Types, to-tree}
-use Rattle.rules.specs.Scopes.{startOf, inside, entered, enteredArgs, enteredAll}
+use Rattle.rules.specs.Scopes.{scope, startOf, inside, partScope, entry, entered, enteredArgs, enteredAll}
 use Rattle.rules.specs.PassOne.{named, typed, bareNumber, wordsTested, roomy, atEntry, passOver, passOne, valueWords, wordsOf, wordsOfArgs}
 use Rattle.rules.specs.PassTwo.{takeHead, sameNames, joined, walk, walkArgs, noneLeft, walkAll, passTwo, order}
 use Rattle.rules.specs.FirstFault.{FirstFault}
@@ -139,6 +139,20 @@ pass-one =
 verdicts : map (λ row. order (programOf (row .functions))) (worked ++ (pass-two ++ pass-one)) ≡ map (λ row. row .verdict) (worked ++ (pass-two ++ pass-one))
 unfolding order passOne passOver atEntry roomy wordsTested bareNumber typed named enteredAll entered enteredArgs inside startOf passTwo walkAll noneLeft walk walkArgs joined sameNames takeHead resultType isInt isTree fits size prefix prefixes nth signatureOf numbered treed taking programOf on with-one lets cases left-cases says worked pass-two pass-one
 verdicts = refl
+
+-- ---- what a part is decides what is said of it
+
+-- The record of this kind at record 3, entered as part 0 of this sort of a record of which a tree is expected, with tree 0 alone named.
+unfoldable pub as-part : Kind → Part → Result (Unit {0})
+as-part kind p = atEntry [] (entry (partScope p 0 (scope 0 1 0 Tree⁺)) 3 kind)
+
+-- A Leaf may be Node's first part; it is refused where the part is a number. A number name is bound in a part under one, tree name 2 in one under two more.
+pub by-part : (as-part Leaf (nthPart (partsOf Node) 0) ≡ done tt)
+    × (map (as-part Leaf) (aNumber ∷ aTree ∷ asWhole ∷ underNumber ∷ underTrees ∷ []) ≡ refusal 8 3 ∷ done tt ∷ done tt ∷ done tt ∷ done tt ∷ [])
+    × (map (as-part (Var 0)) (aNumber ∷ aTree ∷ asWhole ∷ underNumber ∷ underTrees ∷ []) ≡ refusal 9 3 ∷ refusal 9 3 ∷ refusal 9 3 ∷ refusal 8 3 ∷ refusal 9 3 ∷ [])
+    × (map (as-part (Case 2)) (aNumber ∷ aTree ∷ asWhole ∷ underNumber ∷ underTrees ∷ []) ≡ refusal 9 3 ∷ refusal 9 3 ∷ refusal 9 3 ∷ refusal 9 3 ∷ done tt ∷ [])
+unfolding as-part atEntry roomy wordsTested typed named partScope nthPart partsOf nth isInt isTree
+by-part = (refl, refl, refl, refl)
 
 -- ---- the limit of 16 pending is no matter of Figure 6
 

@@ -1,13 +1,17 @@
--- Pass one goes through the nodes in prefix order, one record after the other, and expects of parts the types that their kinds give them.
-use Prim.Native.Nat.{ℕ, zero, suc, _+_}
+-- Pass one goes through the nodes in prefix order, one record after the other. What it expects of parts, and all that is known in them, is what the match
+-- over the kinds says of them.
+use Prim.Native.Nat.{ℕ, zero, suc, _+_, _<_}
 use mathlib.Core.List.{List, [], _∷_, _++_, map, map-append}
 use mathlib.Core.Path.{_≡_, refl, sym, ap, subst, _∙_}
 use native.Mathlib.Nat.{add-zero, add-suc, suc-add}
+use native.Mathlib.Numerals.{add-one}
+use native.Mathlib.Omega.{arith}
 use lib.ListN.{length, length-map}
-use Rattle.formats.specs.Records.{Kind, Const, Var, Add, IfZero, Let, Leaf, Node, Case, Call, nth, aNumber, aTree, asWhole, partsOf}
+use Rattle.formats.specs.Records.{Kind, Const, Var, Add, IfZero, Let, Leaf, Node, Case, Call, nth, aNumber, aTree, asWhole, underNumber, underTrees, partsOf, nthPart, partCount}
 use Rattle.formats.specs.Programs.{Expr, const, var, add, ifZero, letIn, leafOf, nodeOf, caseOf, call, Args, noArgs, arg}
 use Rattle.formats.specs.Programs.{prefix, prefixes, size, Function, Program, nodes}
-use Rattle.rules.specs.Scopes.{Scope, scope, inside, expectedIn, partType, PartTyped, one-of-these, none-of-these, an-argument}
+use Rattle.rules.specs.Types.{Int}
+use Rattle.rules.specs.Scopes.{Scope, scope, inside, partScope, expectedIn, partType, PartTyped, one-of-these, none-of-these, an-argument}
 use Rattle.rules.specs.Scopes.{startOf, Entry, entry, entered, enteredArgs, enteredAll}
 use Rattle.rules.specs.OrderChecker.{firstNode, Numbered, kindIn}
 
@@ -97,14 +101,47 @@ part-types IfZero (suc zero) (scope g n w τ) = one-of-these asWhole refl
 part-types IfZero (suc (suc zero)) (scope g n w τ) = one-of-these asWhole refl
 part-types IfZero (suc (suc (suc i))) (scope g n w τ) = none-of-these refl
 part-types Let zero (scope g n w τ) = one-of-these aNumber refl
-part-types Let (suc zero) (scope g n w τ) = one-of-these asWhole refl
+part-types Let (suc zero) (scope g n w τ) = one-of-these underNumber refl
 part-types Let (suc (suc i)) (scope g n w τ) = none-of-these refl
 part-types Leaf zero (scope g n w τ) = one-of-these aNumber refl
 part-types Leaf (suc i) (scope g n w τ) = none-of-these refl
 part-types Node zero (scope g n w τ) = one-of-these aTree refl
 part-types Node (suc zero) (scope g n w τ) = one-of-these aTree refl
 part-types Node (suc (suc i)) (scope g n w τ) = none-of-these refl
-part-types (Case a) zero (scope g n w τ) = one-of-these asWhole refl
-part-types (Case a) (suc zero) (scope g n w τ) = one-of-these asWhole refl
+part-types (Case a) zero (scope g n w τ) = one-of-these underNumber refl
+part-types (Case a) (suc zero) (scope g n w τ) = one-of-these underTrees refl
 part-types (Case a) (suc (suc i)) (scope g n w τ) = none-of-these refl
 part-types (Call a b) i (scope g n w τ) = an-argument
+
+-- ---- what is known on entering them
+
+-- a number part as the first, and as the second
+first-number : (g n w : ℕ) → scope g n w Int ≡ scope g n (w + 0) Int
+first-number g n w = sym (ap (λ m. scope g n m Int) (add-zero w))
+
+second-number : (g n w : ℕ) → scope g n (suc w) Int ≡ scope g n (w + 1) Int
+second-number g n w = sym (ap (λ m. scope g n m Int) (add-one w))
+
+pub part-scopes : (arity : ℕ → ℕ) (kind : Kind) (i : ℕ) (sc : Scope) → i < partCount arity (partsOf kind) → inside kind i sc ≡ partScope (nthPart (partsOf kind) i) i sc
+unfolding partsOf partCount nthPart inside partScope nth
+part-scopes arity (Const c) i (scope g n w τ) h = absurd (omega arith)
+part-scopes arity (Var a) i (scope g n w τ) h = absurd (omega arith)
+part-scopes arity Add zero (scope g n w τ) h = first-number g n w
+part-scopes arity Add (suc zero) (scope g n w τ) h = second-number g n w
+part-scopes arity Add (suc (suc i)) (scope g n w τ) h = absurd (omega arith)
+part-scopes arity IfZero zero (scope g n w τ) h = first-number g n w
+part-scopes arity IfZero (suc zero) (scope g n w τ) h = refl
+part-scopes arity IfZero (suc (suc zero)) (scope g n w τ) h = refl
+part-scopes arity IfZero (suc (suc (suc i))) (scope g n w τ) h = absurd (omega arith)
+part-scopes arity Let zero (scope g n w τ) h = first-number g n w
+part-scopes arity Let (suc zero) (scope g n w τ) h = refl
+part-scopes arity Let (suc (suc i)) (scope g n w τ) h = absurd (omega arith)
+part-scopes arity Leaf zero (scope g n w τ) h = first-number g n w
+part-scopes arity Leaf (suc i) (scope g n w τ) h = absurd (omega arith)
+part-scopes arity Node zero (scope g n w τ) h = refl
+part-scopes arity Node (suc zero) (scope g n w τ) h = refl
+part-scopes arity Node (suc (suc i)) (scope g n w τ) h = absurd (omega arith)
+part-scopes arity (Case a) zero (scope g n w τ) h = refl
+part-scopes arity (Case a) (suc zero) (scope g n w τ) h = refl
+part-scopes arity (Case a) (suc (suc i)) (scope g n w τ) h = absurd (omega arith)
+part-scopes arity (Call a b) i (scope g n w τ) h = refl

@@ -19,7 +19,7 @@ use Rattle.rules.specs.PassOne.{mostWords, passOver, passOne}
 use Rattle.rules.specs.PassTwo.{walk, noneLeft, walkAll, passTwo, order, checkRecords, checkFile}
 use Rattle.rules.specs.OrderChecker.{firstNode, AdmittedFunction, AdmittedFrom, Admitted, AdmittedRecords, AdmittedFile, Split, OrderChecker}
 use Rattle.rules.proofs.Splits.{splits, checks-types, no-longer, one-listing}
-use Rattle.rules.proofs.Entries.{in-prefix-order, one-by-one, part-types}
+use Rattle.rules.proofs.Entries.{in-prefix-order, one-by-one, part-types, part-scopes}
 use Rattle.rules.proofs.PassOne.{Passes, pass-one, pass-nothing, pass-left, pass-right, pass-both}
 use Rattle.rules.proofs.Words.{few-words}
 use Rattle.rules.proofs.Typed.{passes-one}
@@ -146,6 +146,7 @@ order-checker = record {
   no-longer = no-longer;
   one-listing = one-listing;
   part-types = part-types;
+  part-scopes = part-scopes;
   in-prefix-order = in-prefix-order;
   one-by-one = one-by-one;
   pass-one = pass-one;

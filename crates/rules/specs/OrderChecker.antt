@@ -9,14 +9,14 @@ use lib.ListN.{length}
 use Rattle.formats.specs.Numbers.{Bytes}
 use Rattle.formats.specs.Refusals.{notBound, wrongType, tooManyWords, outOfOrder, tooManyPending}
 use Rattle.formats.specs.Results.{done, refusal}
-use Rattle.formats.specs.Records.{Kind, partsOf}
+use Rattle.formats.specs.Records.{Kind, partsOf, nthPart, partCount}
 use Rattle.formats.specs.Programs.{Expr, size, Every, Signature, signatureOf, Function, Program, signatures, nodes, Lawful}
 use Rattle.formats.specs.Rows.{readProgram}
 use Rattle.formats.specs.Blocks.{programIn}
 use Rattle.rules.specs.Types.{Ty, resultType, functionType}
 use Rattle.rules.specs.Typing.{Types, TypedFunction}
 use Rattle.rules.specs.Leftover.{Checks, lines, FewAtCase, NoLonger, mostPending}
-use Rattle.rules.specs.Scopes.{Scope, inside, expectedIn, PartTyped, Entry, entry, enteredAll}
+use Rattle.rules.specs.Scopes.{Scope, inside, partScope, expectedIn, PartTyped, Entry, entry, enteredAll}
 use Rattle.rules.specs.PassOne.{mostWords, wordsOf, passOne, FirstFails}
 use Rattle.rules.specs.PassTwo.{passTwo, order, checkRecords, checkFile}
 use Rattle.rules.specs.FirstFault.{FirstFault}
@@ -109,6 +109,11 @@ pub record OrderChecker : Type 0 where
       → (Δ₁ ≡ Δ₂) × (lines d ≡ lines d′)
   -- The types that pass one expects of a record's parts are those that the one match over the kinds gives them.
   pub part-types : (kind : Kind) (i : ℕ) (sc : Scope) → PartTyped (partsOf kind) i (expectedIn sc) (expectedIn (inside kind i sc))
+  -- So is all that is known on entering a part: it is what that match says of part i, wherever the kind has a part i.
+  pub part-scopes :
+      (arity : ℕ → ℕ) (kind : Kind) (i : ℕ) (sc : Scope)
+      → i < partCount arity (partsOf kind)
+      → inside kind i sc ≡ partScope (nthPart (partsOf kind) i) i sc
   -- Pass one goes through the nodes in prefix order ..
   pub in-prefix-order : (program : Program) → map kindIn (enteredAll (firstNode program) (program .functions)) ≡ nodes (program .functions)
   pub one-by-one : (program : Program) → Numbered (firstNode program) (enteredAll (firstNode program) (program .functions))

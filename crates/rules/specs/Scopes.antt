@@ -3,7 +3,7 @@ use Prim.Native.Nat.{ℕ, zero, suc, _+_}
 use mathlib.Core.List.{List, [], _∷_, _++_}
 use mathlib.Core.Option.{none, some}
 use mathlib.Core.Path.{_≡_}
-use Rattle.formats.specs.Records.{Kind, Const, Var, Add, IfZero, Let, Leaf, Node, Case, Call, nth, Part, aNumber, aTree, asWhole, Parts, these, argumentsOf}
+use Rattle.formats.specs.Records.{Kind, Const, Var, Add, IfZero, Let, Leaf, Node, Case, Call, nth, Part, aNumber, aTree, asWhole, underNumber, underTrees, Parts, these, argumentsOf}
 use Rattle.formats.specs.Programs.{Expr, const, var, add, ifZero, letIn, leafOf, nodeOf, caseOf, call, Args, noArgs, arg, size, Function}
 use Rattle.rules.specs.Types.{Ty, Int, Tree⁺, resultType}
 
@@ -33,6 +33,14 @@ inside (Case a) zero (scope g n w τ) = scope (suc g) n (suc w) τ
 inside (Case a) (suc i) (scope g n w τ) = scope g (suc (suc n)) w τ
 inside (Call a b) i (scope g n w τ) = scope g n (w + i) Int
 
+-- The same by what part i is, whatever the record's kind (OrderChecker: `part-scopes`).
+unfoldable pub partScope : Part → ℕ → Scope → Scope
+partScope aNumber i (scope g n w τ) = scope g n (w + i) Int
+partScope aTree i (scope g n w τ) = scope g n w Tree⁺
+partScope asWhole i (scope g n w τ) = scope g n w τ
+partScope underNumber i (scope g n w τ) = scope (suc g) n (suc w) τ
+partScope underTrees i (scope g n w τ) = scope g (suc (suc n)) w τ
+
 unfoldable pub expectedIn : Scope → Ty
 expectedIn (scope g n w τ) = τ
 
@@ -41,6 +49,8 @@ unfoldable pub partType : Part → Ty → Ty
 partType aNumber τ = Int
 partType aTree τ = Tree⁺
 partType asWhole τ = τ
+partType underNumber τ = τ
+partType underTrees τ = τ
 
 -- Part i of these parts, if there is one, has type σ where τ is expected of the whole.
 pub data PartTyped : Parts → ℕ → Ty → Ty → Type 0 where

@@ -13,6 +13,7 @@ use Rattle.pass_one.proofs.enter_parts.Reads as enter-parts
 use Rattle.pass_one.proofs.enter_parts.Kinds as enter-parts-kinds
 use Rattle.pass_one.proofs.+enter+enter_parts.Lts-enter_parts as enter-parts-lts
 use Rattle.nodes.proofs.part_count.Reads as part-count-reads
+use Rattle.parts.proofs.nth_part.Reads as nth-part-reads
 use Rattle.pass_one.proofs.inside.Reads as inside-reads
 use Rattle.pass_one.proofs.tests.Reads as tests-reads
 use Rattle.records.proofs.record_at.Reads as record-at-reads
@@ -64,6 +65,8 @@ pub +enter+enter-parts-spec : {M : Type 1} → statement M
     (λ c. search entering)
     (λ c. search entering))
     λ t. enter-parts-lts.spec (
+      nth-part-reads.Asked,
+      nth-part-reads.Learnt,
       inside-reads.Asked,
       inside-reads.Learnt,
       enter-below t,
@@ -74,6 +77,7 @@ pub +enter+enter-parts-spec : {M : Type 1} → statement M
     (enter-parts-at t)
     enter-parts.Post
     (λ c. search entering-parts)
+    (λ c κs. search needs)
     (λ c κs. search needs)
     (λ c κs. (omega arith, search into))
     (λ c. search needs)

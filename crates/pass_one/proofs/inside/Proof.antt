@@ -1,4 +1,4 @@
--- `pass_one::inside` meets its contract: each part of each kind.
+-- `pass_one::inside` meets its contract: a law for each sort of part.
 use borrow.Author.Needs.{needs}
 use Rattle.pass_one.proofs.PartScopes.{part-scopes}
 use Rattle.pass_one.proofs.inside.Statement.{statement}
@@ -9,29 +9,14 @@ inside-spec =
     tie.close
     (tie.spec
     (λ c. search needs)
-    (λ c κs. search needs)
-    (λ c. search part-scopes)
-    (λ c κs. search needs)
     (λ c. search needs)
-    (λ c κs. search needs)
-    (λ c. search part-scopes)
     (λ c. search needs)
-    (λ c κs. search needs)
-    (λ c. search part-scopes)
-    (λ c κs. search needs)
     (λ c. search needs)
-    (λ c κs. search needs)
     (λ c. search needs)
-    (λ c κs. search needs)
     (λ c. search needs)
-    (λ c κs. search needs)
-    (λ c. search part-scopes)
-    (λ c κs. search needs)
     (λ c. search needs)
-    (λ c κs. search needs)
-    (λ c. search part-scopes)
-    (λ c. search part-scopes)
-    (λ c. search part-scopes)
+    (λ c. search needs)
+    (λ c. search needs)
     (λ c. search part-scopes)
     (λ c. search part-scopes)
     (λ c. search part-scopes)

@@ -1,3 +1,2 @@
--- Proofs about scopes and templates laid down.
-pub mod Scopes
+-- The laws that the functions' proofs cite.
 pub mod Items

@@ -1,35 +1,12 @@
--- The instructions that a template's items are, and how they are laid down.
-use Prim.Native.Nat.{ℕ, suc, _+_, _-_, _*_, _≤_}
-use mathlib.Core.List.{List, [], _∷_, map}
+-- The items of a template, by the part that they stand before, and the entries of functions.
+use Prim.Native.Nat.{ℕ, _+_, _-_, _*_, _≤_}
+use mathlib.Core.List.{List}
 use mathlib.Core.Path.{_≡_}
 use lib.ListN.{length, getD}
-use Rattle.formats.specs.CodeColumn.{Item, pushNumber, getName, addTwo, ifnotLast, jumpBehind, endName, leafTag, nodeTag, writeNumber, readTagLast, readNumber, callFunction, before}
-use Rattle.formats.specs.Records.{recordBytes, bytesOfRecord}
-use Rattle.formats.specs.Rows.{arityIn}
-use Rattle.formats.specs.Written.{written}
-use Rattle.meaning.specs.Instructions.{Operation, Push, Get, Add, Ifnot, Jump, LeafTag, NodeTag, WriteNumber, ReadTag, ReadNumber, Call, instructionOf}
+use Rattle.formats.specs.CodeColumn.{before}
 use Rattle.records.specs.Read.{row, columnOf}
 use Rattle.records.specs.declared.Items.{Items}
 use Rattle.records.specs.declared.Template.{Template}
-use Rattle.translation.specs.Templates.{wordOf, endOf}
-use Rattle.template.specs.declared.Scope.{Scope}
-use Rattle.template.specs.Around.{Around, aroundOf}
-
--- The instruction of an item, where functions have these entries and number parameters: `last` is where the last part begins, `behind` is behind the
--- whole.
-unfoldable pub operationFor : (entries arity : ℕ → ℕ) → Around → (last behind : ℕ) → Item → Operation
-operationFor entries arity x last behind (pushNumber i) = Push i
-operationFor entries arity x last behind (getName a) = Get (wordOf (x .words) a)
-operationFor entries arity x last behind addTwo = Add
-operationFor entries arity x last behind ifnotLast = Ifnot last
-operationFor entries arity x last behind jumpBehind = Jump behind
-operationFor entries arity x last behind endName = endOf (x .sort)
-operationFor entries arity x last behind leafTag = LeafTag
-operationFor entries arity x last behind nodeTag = NodeTag
-operationFor entries arity x last behind writeNumber = WriteNumber
-operationFor entries arity x last behind readTagLast = ReadTag last
-operationFor entries arity x last behind readNumber = ReadNumber
-operationFor entries arity x last behind (callFunction b) = Call (entries b) (arity b)
 
 -- What stands before part i of a template. There are at most two items, and before a fourth part and later ones none.
 pub record ItemsBefore (template : Template) (i : ℕ) (r : Items) : Type 0 where
@@ -39,16 +16,3 @@ pub record ItemsBefore (template : Template) (i : ℕ) (r : Items) : Type 0 wher
 -- The entries in a table; 0 past its end.
 abbrev pub entriesIn : List ℕ → ℕ → ℕ
 entriesIn entries b = getD entries b 0
-
--- What items are laid down as, with the flat records s, a table of entries and a scope.
-abbrev pub operationsFor : (s entries : List ℕ) → Scope → (last behind : ℕ) → List Item → List Operation
-operationsFor s entries c last behind items = map (operationFor (entriesIn entries) (arityIn s) (aroundOf c) last behind) items
-
--- An instruction written at an address of a part of the code buffer; untouched where it does not fit.
-abbrev pub put : List ℕ → ℕ → Operation → List ℕ
-put code a op = written code (recordBytes * a) (bytesOfRecord (instructionOf op))
-
--- Instructions one behind the other, from an address on.
-unfoldable pub putAll : List ℕ → ℕ → List Operation → List ℕ
-putAll code a [] = code
-putAll code a (op ∷ ops) = putAll (put code a op) (suc a) ops

@@ -1,3 +1,2 @@
--- What is known where code is laid down, and what a template's items are laid down as.
-pub mod Around
+-- What the functions over templates answer.
 pub mod Items

@@ -3,18 +3,19 @@ use Prim.Native.Nat.{ℕ, zero, suc, _+_}
 use mathlib.Core.List.{List, [], _∷_, _++_, append-assoc, append-nil, map}
 use mathlib.Core.Path.{_≡_, refl, sym, ap, _∙_}
 use native.Mathlib.Nat.{add-zero, add-suc, suc-add}
+use native.Mathlib.Numerals.{add-one}
 use native.Mathlib.Omega.{arith}
 use lib.ListN.{length, length-append, length-map}
-use Rattle.formats.specs.CodeColumn.{Item, callFunction, onlyLast, templateOf, before}
-use Rattle.formats.specs.Records.{Kind, Call, partsOf, partCount}
+use Rattle.formats.specs.CodeColumn.{Item, callFunction, onlyLast, Template, templateOf, before}
+use Rattle.formats.specs.Records.{Call, Parts, partsOf, nth, nthPart, partCount}
 use Rattle.formats.specs.Programs.{Expr, const, var, add, ifZero, letIn, leafOf, nodeOf, caseOf, call, Args, noArgs, arg, size, Placed, argsAt, partsAt, Sort, numberValued}
 use Rattle.rules.proofs.Parts.{headOf}
 use Rattle.rules.proofs.Walks.{length-args}
 use Rattle.meaning.specs.Instructions.{Operation}
 use Rattle.translation.specs.Templates.{Words, behind, behindArgs, code, codeArgs}
 use Rattle.translation.proofs.Addresses.{length-code}
-use Rattle.template.specs.Around.{Around, around, partAround}
-use Rattle.template.specs.Items.{operationFor}
+use Rattle.code_scope.specs.Around.{Around, around, partAround}
+use Rattle.lay_items.specs.Operations.{operationFor}
 use Rattle.translate.specs.Laying.{past, partsCode, lastPart, behindParts}
 
 -- ---- addresses
@@ -24,19 +25,19 @@ unfolding past
 past-length [] a = sym (add-zero a)
 past-length (x ∷ xs) a = past-length xs (suc a) ∙ suc-add a (length xs) ∙ sym (add-suc a (length xs))
 
-module _ (entries arity : ℕ → ℕ) (kind : Kind) (x : Around) (last whole : ℕ) where
+module _ (entries arity : ℕ → ℕ) (parts : Parts) (t : Template) (x : Around) (last whole : ℕ) where
   -- the address behind parts' code
-  pub length-parts : (i a : ℕ) (ps : List Placed) → a + length (partsCode entries arity kind x last whole i a ps) ≡ behindParts kind i a ps
+  pub length-parts : (i a : ℕ) (ps : List Placed) → a + length (partsCode entries arity parts t x last whole i a ps) ≡ behindParts t i a ps
   unfolding partsCode behindParts
   length-parts i a [] =
-      let items = templateOf kind .last in
+      let items = t .last in
       omega (arith, length-map items (operationFor entries arity x last whole), past-length items a)
   length-parts i a (p ∷ ps) =
-      let items = before (templateOf kind) i in
+      let items = before t i in
       let ops = map (operationFor entries arity x last whole) items in
-      let inner = partAround kind i x in
+      let inner = partAround (nthPart parts i) i x in
       let own = code entries (inner .sort) (inner .words) (inner .standing) (past items a) (p .expr) in
-      let others = partsCode entries arity kind x last whole (suc i) (behind (p .expr) (past items a)) ps in
+      let others = partsCode entries arity parts t x last whole (suc i) (behind (p .expr) (past items a)) ps in
       let rest = length-parts (suc i) (behind (p .expr) (past items a)) ps in
       let here = length-code entries (inner .sort) (inner .words) (inner .standing) (past items a) (p .expr) in
       omega (arith, length-append ops (own ++ others), length-append own others, length-map items (operationFor entries arity x last whole), past-length items a)
@@ -55,8 +56,8 @@ module _ (entries arity : ℕ → ℕ) (s : Sort) (words : Words) (w : ℕ) wher
   -- a Call's arguments from number i on, and the call behind them
   args-code : (a b k last whole : ℕ) (i at : ℕ) (xs : Args)
       → codeArgs entries words (w + i) at xs ++ (operationFor entries arity (around s words w) last whole (callFunction b) ∷ [])
-      ≡ partsCode entries arity (Call a b) (around s words w) last whole i at (argsAt k xs)
-  unfolding codeArgs partsCode argsAt templateOf before past partAround
+      ≡ partsCode entries arity (partsOf (Call a b)) (templateOf (Call a b)) (around s words w) last whole i at (argsAt k xs)
+  unfolding codeArgs partsCode argsAt templateOf before past partAround partsOf nthPart
   args-code a b k last whole i at noArgs = refl
   args-code a b k last whole i at (arg x xs) =
       let own = code entries numberValued words (w + i) at x in
@@ -69,27 +70,27 @@ module _ (entries arity : ℕ → ℕ) (s : Sort) (words : Words) (w : ℕ) wher
   -- where a record has as many parts as its kind says, by these numbers of parameters
   pub by-column : (a k : ℕ) (e : Expr) → length (partsAt k e) ≡ partCount arity (partsOf (headOf e))
       → code entries s words w a e
-      ≡ partsCode entries arity (headOf e) (around s words w) (lastPart (headOf e) a 0 a (partsAt k e)) (behind e a) 0 a (partsAt k e)
-  unfolding code behind partsCode lastPart partsAt headOf templateOf before past partAround operationFor partsOf partCount
+      ≡ partsCode entries arity (partsOf (headOf e)) (templateOf (headOf e)) (around s words w) (lastPart (templateOf (headOf e)) a 0 a (partsAt k e)) (behind e a) 0 a (partsAt k e)
+  unfolding code behind partsCode lastPart partsAt headOf templateOf before past partAround operationFor partsOf nthPart nth partCount
   by-column a k (const i) counted = refl
   by-column a k (var v) counted = refl
-  by-column a k (add p q) counted = refl
-  by-column a k (ifZero t z o) counted = rw append-nil
-  by-column a k (letIn p body) counted = refl
-  by-column a k (leafOf p) counted = refl
+  by-column a k (add p q) counted = rw (add-zero, add-one)
+  by-column a k (ifZero t z o) counted = rw (append-nil, add-zero)
+  by-column a k (letIn p body) counted = rw add-zero
+  by-column a k (leafOf p) counted = rw add-zero
   by-column a k (nodeOf p q) counted = rw append-nil
   by-column a k (caseOf v p q) counted = rw append-nil
   by-column a k (call v b xs) counted = (rw (sym (length-args (suc k) xs) ∙ counted, add-zero)) ∙ args-code v b (suc k) _ _ 0 a xs
 
 -- the address behind it
-behind-args : (a b k i at : ℕ) (xs : Args) → behindParts (Call a b) i at (argsAt k xs) ≡ suc (behindArgs xs at)
+behind-args : (a b k i at : ℕ) (xs : Args) → behindParts (templateOf (Call a b)) i at (argsAt k xs) ≡ suc (behindArgs xs at)
 unfolding behindParts behindArgs argsAt templateOf past
 behind-args a b k i at noArgs = refl
 behind-args a b k i at (arg x xs) =
-    ap (λ (items : List Item). behindParts (Call a b) (suc i) (behind x (past items at)) (argsAt (k + size x) xs)) (nothing-before (callFunction b ∷ []) i)
+    ap (λ (items : List Item). behindParts (templateOf (Call a b)) (suc i) (behind x (past items at)) (argsAt (k + size x) xs)) (nothing-before (callFunction b ∷ []) i)
     ∙ behind-args a b (k + size x) (suc i) (behind x at) xs
 
-pub behind-column : (a k : ℕ) (e : Expr) → behindParts (headOf e) 0 a (partsAt k e) ≡ behind e a
+pub behind-column : (a k : ℕ) (e : Expr) → behindParts (templateOf (headOf e)) 0 a (partsAt k e) ≡ behind e a
 unfolding behind behindParts partsAt headOf templateOf before past
 behind-column a k (const i) = refl
 behind-column a k (var v) = refl

@@ -7,68 +7,73 @@ use native.Mathlib.Omega.{arith}
 use lib.ListN.{length}
 use Rattle.formats.specs.CodeColumn.{templateOf}
 use Rattle.formats.specs.Results.{done, onValue}
-use Rattle.formats.specs.Records.{Kind, Const, Var, Add, IfZero, Let, Leaf, Node, Case, Call, partsOf, partCount}
+use Rattle.formats.specs.Records.{Kind, Case, Part, aNumber, aTree, asWhole, underNumber, underTrees, nth, partsOf, nthPart, partCount}
 use Rattle.formats.specs.Programs.{Expr, const, var, add, ifZero, letIn, leafOf, nodeOf, caseOf, call, size, Placed, behind, partsAt, Applied, Signature, arityOf}
 use Rattle.formats.specs.Rows.{arityIn, nodeIn}
 use Rattle.formats.proofs.Results.{done-injective, then-inv}
 use Rattle.formats.proofs.Programs.{some-record}
-use Rattle.records.specs.Read.{Shape as ShapeRead, meant, listed, described, shapeOf, shaped}
+use Rattle.records.specs.Read.{Shape as ShapeRead, listed, partOf, columnOf, described, shapeOf, shaped}
 use Rattle.records.specs.declared.Record.{Record}
+use Rattle.records.specs.declared.Part.{Part as PartRead}
 use Rattle.records.specs.declared.Parts.{Parts}
 use Rattle.records.specs.declared.Template.{Template}
 use Rattle.records.specs.declared.RecordRead.{RecordRead}
 use Rattle.records.specs.declared.RecordRead.the-variants.{Read}
 use Rattle.rules.specs.Types.{Ty, resultType}
-use Rattle.rules.specs.Scopes.{scope, inside, entry, entered}
+use Rattle.rules.specs.Scopes.{scope, inside, partScope, entry, entered}
 use Rattle.rules.specs.PassOne.{wordsTested, atEntry, passOver}
+use Rattle.rules.proofs.Entries.{part-scopes}
 use Rattle.rules.proofs.Parts.{headOf, Row, next, passParts}
 use Rattle.rules.proofs.PassOne.{Passes, pass-let}
 use Rattle.rules.proofs.Words.{tested, room}
 use Rattle.rules.proofs.Walks.{node-held, parts-held, parts-counted, pass-parts, row-upto}
 use Rattle.rules.proofs.Lists.{row-front, row-others}
-use Rattle.template.specs.Around.{Around, partAround, sortOf, aroundOf, mostNames, Binds, Enterable, Enters, insideScope}
-use Rattle.template.proofs.Scopes.{enters}
-use Rattle.template.specs.declared.Scope.{Scope}
+use Rattle.code_scope.specs.Around.{Around, partAround, sortOf, aroundOf, mostNames, Binds, Enterable, Enters, insideScope}
+use Rattle.code_scope.proofs.Scopes.{enters}
+use Rattle.code_scope.specs.declared.Scope.{Scope}
 use Rattle.translate.specs.declared.Shape.{Shape}
 use Rattle.translate.specs.Walk.{Entering, EnteringParts}
 
 -- ---- a word for a number that is named
 
-binder-room : (gs : List Signature) (g n w r : ℕ) (τ : Ty) (e : Expr) → Applied (arityOf gs) e → Passes gs (scope g n w τ) r e → Binds (headOf e) → w < mostNames
-unfolding headOf entered wordsTested
-binder-room gs g n w r τ (const i) a h binds = absurd binds
-binder-room gs g n w r τ (var v) a h binds = absurd binds
-binder-room gs g n w r τ (add p q) a h binds = absurd binds
-binder-room gs g n w r τ (ifZero t z o) a h binds = absurd binds
-binder-room gs g n w r τ (letIn p body) a h binds = room gs g n w _ p (a .0) (pass-let gs g n w r τ p body h .0)
-binder-room gs g n w r τ (leafOf p) a h binds = absurd binds
-binder-room gs g n w r τ (nodeOf p q) a h binds = absurd binds
-binder-room gs g n w r τ (caseOf v p q) a h binds = tested gs g n w r τ (Case v) _ refl h
-binder-room gs g n w r τ (call v b xs) a h binds = absurd binds
+-- a number is named in part j of the expression's record
+binder-room : (gs : List Signature) (g n w r : ℕ) (τ : Ty) (e : Expr) (j : ℕ) → Applied (arityOf gs) e → Passes gs (scope g n w τ) r e
+    → Binds (nthPart (partsOf (headOf e)) j)
+    → w < mostNames
+unfolding headOf entered wordsTested partsOf nthPart nth
+binder-room gs g n w r τ (const i) j a h binds = absurd binds
+binder-room gs g n w r τ (var v) j a h binds = absurd binds
+binder-room gs g n w r τ (add p q) zero a h binds = absurd binds
+binder-room gs g n w r τ (add p q) (suc zero) a h binds = absurd binds
+binder-room gs g n w r τ (add p q) (suc (suc j)) a h binds = absurd binds
+binder-room gs g n w r τ (ifZero t z o) zero a h binds = absurd binds
+binder-room gs g n w r τ (ifZero t z o) (suc zero) a h binds = absurd binds
+binder-room gs g n w r τ (ifZero t z o) (suc (suc zero)) a h binds = absurd binds
+binder-room gs g n w r τ (ifZero t z o) (suc (suc (suc j))) a h binds = absurd binds
+binder-room gs g n w r τ (letIn p body) j a h binds = room gs g n w _ p (a .0) (pass-let gs g n w r τ p body h .0)
+binder-room gs g n w r τ (leafOf p) zero a h binds = absurd binds
+binder-room gs g n w r τ (leafOf p) (suc j) a h binds = absurd binds
+binder-room gs g n w r τ (nodeOf p q) zero a h binds = absurd binds
+binder-room gs g n w r τ (nodeOf p q) (suc zero) a h binds = absurd binds
+binder-room gs g n w r τ (nodeOf p q) (suc (suc j)) a h binds = absurd binds
+binder-room gs g n w r τ (caseOf v p q) j a h binds = tested gs g n w r τ (Case v) _ refl h
+binder-room gs g n w r τ (call v b xs) j a h binds = absurd binds
 
 -- ---- the scope of a part, in pass one and here
 
-record Agrees (kind : Kind) (i : ℕ) (x : Around) (g n : ℕ) : Type 0 where
+record Agrees (p : Part) (i : ℕ) (x : Around) (g n : ℕ) : Type 0 where
   numbers : ℕ
   trees : ℕ
-  is : inside kind i (scope g n (x .standing) (resultType (x .sort)))
-      ≡ scope numbers trees (partAround kind i x .standing) (resultType (partAround kind i x .sort))
+  is : partScope p i (scope g n (x .standing) (resultType (x .sort)))
+      ≡ scope numbers trees (partAround p i x .standing) (resultType (partAround p i x .sort))
 
-agrees : (kind : Kind) (i : ℕ) (x : Around) (g n : ℕ) → Agrees kind i x g n
-unfolding inside partAround resultType
-agrees (Const c) i x g n = record { numbers = g; trees = n; is = refl }
-agrees (Var a) i x g n = record { numbers = g; trees = n; is = refl }
-agrees Add zero x g n = record { numbers = g; trees = n; is = refl }
-agrees Add (suc i) x g n = record { numbers = g; trees = n; is = refl }
-agrees IfZero zero x g n = record { numbers = g; trees = n; is = refl }
-agrees IfZero (suc i) x g n = record { numbers = g; trees = n; is = refl }
-agrees Let zero x g n = record { numbers = g; trees = n; is = refl }
-agrees Let (suc i) x g n = record { numbers = suc g; trees = n; is = refl }
-agrees Leaf i x g n = record { numbers = g; trees = n; is = refl }
-agrees Node i x g n = record { numbers = g; trees = n; is = refl }
-agrees (Case a) zero x g n = record { numbers = suc g; trees = n; is = refl }
-agrees (Case a) (suc i) x g n = record { numbers = g; trees = suc (suc n); is = refl }
-agrees (Call a b) i x g n = record { numbers = g; trees = n; is = refl }
+agrees : (p : Part) (i : ℕ) (x : Around) (g n : ℕ) → Agrees p i x g n
+unfolding partScope partAround resultType
+agrees aNumber i x g n = record { numbers = g; trees = n; is = refl }
+agrees aTree i x g n = record { numbers = g; trees = n; is = refl }
+agrees asWhole i x g n = record { numbers = g; trees = n; is = refl }
+agrees underNumber i x g n = record { numbers = suc g; trees = n; is = refl }
+agrees underTrees i x g n = record { numbers = g; trees = suc (suc n); is = refl }
 
 -- ---- from an expression to its parts
 
@@ -79,31 +84,37 @@ module _ {s : List ℕ} {k end : ℕ} {c : Scope} {e : Expr} (read : RecordRead)
   own-shape : shaped node parts template ≡ shapeOf (headOf e)
   own-shape = done-injective (ap described (sym is) ∙ told ∙ ap (onValue shapeOf) (node-held s (h .signed) k e (h .holds)))
 
-  pub own-kind : meant node ≡ headOf e
-  own-kind = ap (λ (x : ShapeRead). x .kind) own-shape
+  pub own-parts : listed parts ≡ partsOf (headOf e)
+  own-parts = ap (λ (x : ShapeRead). x .parts) own-shape
+
+  pub own-template : columnOf template ≡ templateOf (headOf e)
+  own-template = ap (λ (x : ShapeRead). x .template) own-shape
 
   pub own-count : length (partsAt k e) ≡ partCount (arityIn s) (partsOf (headOf e))
   own-count = parts-counted s (h .signed) k e (h .known) (h .holds)
 
   -- its parts are entered
-  pub parts-entered : k < end → EnteringParts s (record { node = node; template = template; count = count }) 0 (k + 1) end c (partsAt k e) (k + size e)
+  pub parts-entered : k < end → EnteringParts s (record { parts = parts; template = template; count = count }) 0 (k + 1) end c (partsAt k e) (k + size e)
   parts-entered more =
       let sc = scope (h .numbers) (h .trees) (c .standing) (resultType (sortOf (c .tree))) in
       let below = then-inv (atEntry (h .signed) (entry sc k (headOf e))) _ tt (sym (pass-parts (h .signed) sc k e) ∙ h .passes) in
+      let many = counted ∙ ap (partCount (arityIn s)) own-parts in
       record {
-        templated = ap (λ (x : ShapeRead). x .template) own-shape ∙ ap templateOf (sym own-kind);
-        counted = omega (arith, own-count, counted, ap (λ (x : ShapeRead). partCount (arityIn s) (x .parts)) own-shape);
+        kind = headOf e;
+        parted = own-parts;
+        many = many;
+        counted = omega (arith, own-count);
         signed = h .signed;
         known = h .known;
         row = rw add-one (parts-held s (h .signed) k e (h .holds));
         fits = h .fits;
         numbers = h .numbers;
         trees = h .trees;
-        passes = rw own-kind (below .second);
+        passes = below .second;
         table = h .table;
         named = h .named;
         words = omega (arith, h .words);
-        room = λ binds. binder-room (h .signed) (h .numbers) (h .trees) (c .standing) k (resultType (sortOf (c .tree))) e (h .holds .applied) (h .passes) (subst Binds own-kind binds);
+        room = λ j binds. binder-room (h .signed) (h .numbers) (h .trees) (c .standing) k (resultType (sortOf (c .tree))) e j (h .holds .applied) (h .passes) binds;
       }
 
 -- ---- from parts to the first of them, and the others
@@ -113,55 +124,68 @@ row-place : {s : List ℕ} {gs : List Signature} {k j m : ℕ} {e : Expr} {ps : 
 row-place (next here later) = refl
 
 module _ {s : List ℕ} {shape : Shape} {i k end m : ℕ} {c : Scope} {j : ℕ} {e : Expr} {ps : List Placed} (h : EnteringParts s shape i k end c (behind j e ∷ ps) m) where
-  -- part i can be entered
-  pub enterable : Enterable (meant (shape .node)) i c
-  enterable = record { table = h .table; named = h .named; fits = omega (arith, h .words); room = h .room }
+  -- part i of its record
+  abbrev own : Part
+  own = nthPart (partsOf (h .kind)) i
+
+  -- it can be entered
+  pub enterable : Enterable own i c
+  enterable = record { table = h .table; named = h .named; fits = omega (arith, h .words); room = h .room i }
 
   -- it passes, and so do the others
   record Passed : Type 0 where
-    first : passOver (h .signed) (entered (inside (meant (shape .node)) i (scope (h .numbers) (h .trees) (c .standing) (resultType (sortOf (c .tree))))) j e) ≡ done tt
-    others : passParts (h .signed) (meant (shape .node)) (suc i) (scope (h .numbers) (h .trees) (c .standing) (resultType (sortOf (c .tree)))) ps ≡ done tt
+    first : passOver (h .signed) (entered (inside (h .kind) i (scope (h .numbers) (h .trees) (c .standing) (resultType (sortOf (c .tree))))) j e) ≡ done tt
+    others : passParts (h .signed) (h .kind) (suc i) (scope (h .numbers) (h .trees) (c .standing) (resultType (sortOf (c .tree)))) ps ≡ done tt
 
   passed : Passed
   unfolding passParts
   passed =
-      let t = then-inv (passOver (h .signed) (entered (inside (meant (shape .node)) i _) j e)) _ tt (h .passes) in
+      let t = then-inv (passOver (h .signed) (entered (inside (h .kind) i _) j e)) _ tt (h .passes) in
       record { first = t .first; others = t .second }
 
   ends-by : k + size e ≤ m
   ends-by = row-upto (row-others (h .row))
 
-  -- its scope is the one wanted
-  pub scope-entered : (inner : Scope) → inner ≡ insideScope (meant (shape .node)) i c → Enters (meant (shape .node)) i c inner
-  scope-entered inner is = rw is (enters (meant (shape .node)) i c enterable)
+  module _ (part : PartRead) (inner : Scope) (is-part : partOf part ≡ nthPart (listed (shape .parts)) i) (is : inner ≡ insideScope (partOf part) i c) where
+    -- the part read is the one of its kind, and its scope is the one wanted
+    own-part : partOf part ≡ own
+    own-part = is-part ∙ ap (λ ps. nthPart ps i) (h .parted)
 
-  -- the first part is entered
-  pub first-entered : (inner : Scope) → inner ≡ insideScope (meant (shape .node)) i c → Entering s k end inner e
-  first-entered inner is =
-      let kind = meant (shape .node) in
-      let en = scope-entered inner is in
-      let sc = agrees kind i (aroundOf c) (h .numbers) (h .trees) in
-      let same = en .is in
-      let place : j ≡ k = row-place (h .row) in
-      let inside-is : inside kind i (scope (h .numbers) (h .trees) (c .standing) (resultType (sortOf (c .tree)))) ≡ scope (sc .numbers) (sc .trees) (inner .standing) (resultType (sortOf (inner .tree))) =
-      sc .is ∙ ap (λ (x : Around). scope (sc .numbers) (sc .trees) (x .standing) (resultType (x .sort))) (sym same) in
-      record {
-        signed = h .signed;
-        known = h .known;
-        holds = row-front (h .row);
-        fits = omega (arith, h .fits, ends-by);
-        numbers = sc .numbers;
-        trees = sc .trees;
-        passes = ap₂ (λ x r. passOver (h .signed) (entered x r e)) (sym inside-is) (sym place) ∙ passed .first;
-        table = en .table;
-        named = en .named;
-        words = omega (arith, h .words, en .standing);
-      }
+    scope-entered : Enters own i c inner
+    scope-entered = rw (is ∙ ap (λ p. insideScope p i c) own-part) (enters own i c enterable)
+
+    -- so it is where the parts are those read
+    pub around-part : aroundOf inner ≡ partAround (nthPart (listed (shape .parts)) i) i (aroundOf c)
+    around-part = scope-entered .is ∙ sym (ap (λ ps. partAround (nthPart ps i) i (aroundOf c)) (h .parted))
+
+    -- the first part is entered
+    pub first-entered : Entering s k end inner e
+    first-entered =
+        let sc = agrees own i (aroundOf c) (h .numbers) (h .trees) in
+        let place : j ≡ k = row-place (h .row) in
+        let inside-is : inside (h .kind) i (scope (h .numbers) (h .trees) (c .standing) (resultType (sortOf (c .tree)))) ≡ scope (sc .numbers) (sc .trees) (inner .standing) (resultType (sortOf (inner .tree))) =
+        part-scopes (arityIn s) (h .kind) i _ (omega (arith, h .counted, h .many))
+        ∙ sc .is
+        ∙ ap (λ (x : Around). scope (sc .numbers) (sc .trees) (x .standing) (resultType (x .sort))) (sym (scope-entered .is)) in
+        record {
+          signed = h .signed;
+          known = h .known;
+          holds = row-front (h .row);
+          fits = omega (arith, h .fits, ends-by);
+          numbers = sc .numbers;
+          trees = sc .trees;
+          passes = ap₂ (λ x r. passOver (h .signed) (entered x r e)) (sym inside-is) (sym place) ∙ passed .first;
+          table = scope-entered .table;
+          named = scope-entered .named;
+          words = omega (arith, h .words, scope-entered .standing);
+        }
 
   -- the others are
   pub rest-entered : (n : ℕ) → n ≡ k + size e → EnteringParts s shape (i + 1) n end c ps m
   rest-entered n is = record {
-    templated = h .templated;
+    kind = h .kind;
+    parted = h .parted;
+    many = h .many;
     counted = omega (arith, h .counted);
     signed = h .signed;
     known = h .known;

@@ -19,9 +19,9 @@ use Rattle.rules.specs.Scopes.{scope, entered}
 use Rattle.rules.specs.PassOne.{passOver}
 use Rattle.translation.specs.Templates.{behind, code, firstWords, wordsKept, functionCode, behindFunction}
 use Rattle.translation.proofs.Addresses.{length-code}
-use Rattle.template.specs.Around.{Around, around, sortOf, wordsIn, mostNames}
+use Rattle.code_scope.specs.Around.{Around, around, sortOf, wordsIn, mostNames}
 use Rattle.template.specs.Items.{entriesIn}
-use Rattle.template.specs.declared.Scope.{Scope}
+use Rattle.code_scope.specs.declared.Scope.{Scope}
 use Rattle.translate.specs.declared.Laid.{Laid}
 use Rattle.translate.specs.Laying.{laidAt}
 use Rattle.translate.specs.Walk.{Small, Entering, Lays, Starts, EnteringFunction, LaysFunction}

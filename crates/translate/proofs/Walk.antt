@@ -10,17 +10,19 @@ use mir.Syntax.{w64}
 use mir.Val.{Fits}
 use lib.ListN.{length, length-append, length-map}
 use Rattle.formats.specs.CodeColumn.{Item, templateOf, before}
+use Rattle.formats.specs.CodeColumn.{Template as TemplateOfKind}
 use Rattle.formats.specs.Results.{onValue}
-use Rattle.formats.specs.Records.{Kind, recordBytes, partCount}
+use Rattle.formats.specs.Records.{recordBytes, Parts as PartsOfKind, partsOf, nthPart, partCount}
 use Rattle.formats.specs.Programs.{Expr, size, Placed, partsAt}
 use Rattle.formats.specs.Programs.{behind as placed}
 use Rattle.formats.specs.Rows.{arityIn, nodeIn}
 use Rattle.formats.proofs.Results.{done-not}
 use Rattle.formats.proofs.Programs.{some-record}
 use Rattle.refusal.specs.declared.Refusal.{Refusal}
-use Rattle.records.specs.Read.{meant, listed, row, described, shapeOf}
+use Rattle.records.specs.Read.{listed, partOf, row, columnOf, described, shapeOf}
 use Rattle.records.specs.declared.Record.{Record}
 use Rattle.records.specs.declared.Items.{Items}
+use Rattle.records.specs.declared.Part.{Part}
 use Rattle.records.specs.declared.Parts.{Parts}
 use Rattle.records.specs.declared.Template.{Template}
 use Rattle.records.specs.declared.RecordRead.{RecordRead}
@@ -31,9 +33,10 @@ use Rattle.rules.proofs.Walks.{node-held}
 use Rattle.meaning.specs.Instructions.{Operation}
 use Rattle.translation.specs.Templates.{behind, code}
 use Rattle.translation.proofs.Addresses.{length-code}
-use Rattle.template.specs.Around.{Around, partAround, sortOf, wordsIn, aroundOf, insideScope}
-use Rattle.template.specs.Items.{ItemsBefore, operationFor, entriesIn, operationsFor, putAll}
-use Rattle.template.specs.declared.Scope.{Scope}
+use Rattle.code_scope.specs.Around.{Around, partAround, sortOf, wordsIn, aroundOf, insideScope}
+use Rattle.template.specs.Items.{ItemsBefore, entriesIn}
+use Rattle.lay_items.specs.Operations.{operationFor, operationsFor, putAll}
+use Rattle.code_scope.specs.declared.Scope.{Scope}
 use Rattle.template.proofs.Items.{few-items}
 use Rattle.translate.specs.declared.Laid.{Laid}
 use Rattle.translate.specs.declared.Shape.{Shape}
@@ -41,7 +44,7 @@ use Rattle.translate.specs.Laying.{laidAt, past, partsCode, lastPart, be
 use Rattle.translate.specs.Walk.{Small, SmallParts, dueFrom, Went, Entering, Came, Lays, EnteringParts, CameParts, LaysParts}
 use Rattle.translate.proofs.Written.{length-laid, laid-behind, laid-front, laid-each}
 use Rattle.translate.proofs.Column.{past-length, length-parts, by-column, behind-column}
-use Rattle.translate.proofs.Entering.{own-kind, own-count, parts-entered, scope-entered, first-entered, rest-entered}
+use Rattle.translate.proofs.Entering.{own-parts, own-template, own-count, parts-entered, around-part, first-entered, rest-entered}
 
 -- ---- `lay`
 
@@ -83,7 +86,7 @@ module _ (s entries code′ : List ℕ) (base at k end : ℕ) (c : Scope) where
         → read ≡ Read node parts template
         → count ≡ partCount (arityIn s) (listed parts)
         → k < end
-        → LaysParts s entries code′ after base at at (record { node = node; template = template; count = count }) 0 (k + 1) end c r
+        → LaysParts s entries code′ after base at at (record { parts = parts; template = template; count = count }) 0 (k + 1) end c r
         → Lays s entries code′ after base at k end c r
     lay-read node parts template count after r is counted more l = record {
       went = record {
@@ -93,28 +96,31 @@ module _ (s entries code′ : List ℕ) (base at k end : ℕ) (c : Scope) where
         small = omega (arith, l .went .small);
         last-small = l .went .last-small;
       };
-      came = λ e h.
-          let p = through e h in
-          let kind = own-kind read node parts template count told is counted h in
-          record { next = p .next; address = p .address ∙ ap (λ q. behindParts q 0 (base + at) (partsAt k e)) kind ∙ behind-column (base + at) k e };
+      came = λ e h. record { next = through e h .next; address = whole e h };
       lays = λ e h room.
-          let p = through e h in
-          let kind = own-kind read node parts template count told is counted h in
           let many = own-count read node parts template count told is counted h in
-          let whole : base + r .at ≡ behind e (base + at) = p .address ∙ ap (λ q. behindParts q 0 (base + at) (partsAt k e)) kind ∙ behind-column (base + at) k e in
-          let last : base + r .last ≡ lastPart (headOf e) (base + at) 0 (base + at) (partsAt k e) = p .last-part ∙ ap (λ q. lastPart q (base + at) 0 (base + at) (partsAt k e)) kind in
+          let last : base + r .last ≡ lastPart (templateOf (headOf e)) (base + at) 0 (base + at) (partsAt k e) =
+          through e h .last-part ∙ ap (λ t. lastPart t (base + at) 0 (base + at) (partsAt k e)) (own-column e h) in
           l .lays (partsAt k e) (k + size e) (entered-parts e h) room
           ∙ ap (laidAt code′ at)
-          (ap (λ q. partsCode (entriesIn entries) (arityIn s) q (aroundOf c) (base + r .last) (base + r .at) 0 (base + at) (partsAt k e)) kind
-          ∙ ap₂ (λ x y. partsCode (entriesIn entries) (arityIn s) (headOf e) (aroundOf c) x y 0 (base + at) (partsAt k e)) last whole
+          (ap₂ (λ q t. partsCode (entriesIn entries) (arityIn s) q t (aroundOf c) (base + r .last) (base + r .at) 0 (base + at) (partsAt k e))
+          (own-parts read node parts template count told is counted h)
+          (own-column e h)
+          ∙ ap₂ (λ x y. partsCode (entriesIn entries) (arityIn s) (partsOf (headOf e)) (templateOf (headOf e)) (aroundOf c) x y 0 (base + at) (partsAt k e)) last (whole e h)
           ∙ sym (by-column (entriesIn entries) (arityIn s) (sortOf (c .tree)) (wordsIn c) (c .standing) (base + at) k e many));
     }
       where
-        entered-parts : (e : Expr) → Entering s k end c e → EnteringParts s (record { node = node; template = template; count = count }) 0 (k + 1) end c (partsAt k e) (k + size e)
+        entered-parts : (e : Expr) → Entering s k end c e → EnteringParts s (record { parts = parts; template = template; count = count }) 0 (k + 1) end c (partsAt k e) (k + size e)
         entered-parts e h = parts-entered read node parts template count told is counted h more
 
-        through : (e : Expr) → Entering s k end c e → CameParts base at at (meant node) 0 (partsAt k e) (k + size e) r
+        through : (e : Expr) → Entering s k end c e → CameParts base at at (columnOf template) 0 (partsAt k e) (k + size e) r
         through e h = l .came (partsAt k e) (k + size e) (entered-parts e h)
+
+        own-column : (e : Expr) → Entering s k end c e → columnOf template ≡ templateOf (headOf e)
+        own-column e h = own-template read node parts template count told is counted h
+
+        whole : (e : Expr) → Entering s k end c e → base + r .at ≡ behind e (base + at)
+        whole e h = through e h .address ∙ ap (λ t. behindParts t 0 (base + at) (partsAt k e)) (own-column e h) ∙ behind-column (base + at) k e
 
 pub ruleset expressions = (lay-past, lay-unread, lay-read)
 
@@ -151,30 +157,26 @@ module _ (s entries code′ : List ℕ) (base at last : ℕ) (shape : Shape) (i 
     lays = λ ps m h room. lays (split h) room;
   }
     where
-      -- what stands last, by the column
-      items : {ps : List Placed} {m : ℕ} → EnteringParts s shape i k end c ps m → row (shape .template .last) ≡ templateOf (meant (shape .node)) .last
-      items h = ap (λ t. t .last) (h .templated)
-
-      came : {ps : List Placed} {m : ℕ} → Split s shape i k end c ps m → CameParts base at last (meant (shape .node)) i ps m (record { next = k; at = at + n; last = last })
+      came : {ps : List Placed} {m : ℕ} → Split s shape i k end c ps m → CameParts base at last (columnOf (shape .template)) i ps m (record { next = k; at = at + n; last = last })
       came (none h) = record {
         next = refl;
-        address = let e = ap length (items h) in omega (arith, past-length (templateOf (meant (shape .node)) .last) (base + at));
+        address = omega (arith, past-length (row (shape .template .last)) (base + at));
         last-part = refl;
       }
       came (some h) = absurd (omega (arith, h .counted))
 
       lays : {ps : List Placed} {m : ℕ} → Split s shape i k end c ps m → recordBytes * (at + n) ≤ length code′
-          → after ≡ laidAt code′ at (partsCode (entriesIn entries) (arityIn s) (meant (shape .node)) (aroundOf c) (base + last) (base + (at + n)) i (base + at) ps)
+          → after ≡ laidAt code′ at (partsCode (entriesIn entries) (arityIn s) (listed (shape .parts)) (columnOf (shape .template)) (aroundOf c) (base + last) (base + (at + n)) i (base + at) ps)
       lays (none h) room =
           let f = operationFor (entriesIn entries) (arityIn s) (aroundOf c) (base + last) (base + (at + n)) in
-          wrote ∙ laid-each code′ at (map f (row (shape .template .last))) (omega (arith, length-map (row (shape .template .last)) f)) ∙ ap (λ l. laidAt code′ at (map f l)) (items h)
+          wrote ∙ laid-each code′ at (map f (row (shape .template .last))) (omega (arith, length-map (row (shape .template .last)) f))
       lays (some h) room = absurd (omega (arith, h .counted))
 
-  module _ (items : Items) (n : ℕ) (inner : Scope) (part : Laid) (between : List ℕ)
-      (before-it : ItemsBefore (shape .template) i items) (many : n ≡ length (row items)) (inside : inner ≡ insideScope (meant (shape .node)) i c)
-      (p : Lays s entries code′ between base (at + n) k end inner part) (small : SmallParts i k end base at last) (more : i < shape .count) where
+  module _ (items : Items) (n : ℕ) (part : Part) (inner : Scope) (laid : Laid) (between : List ℕ)
+      (before-it : ItemsBefore (shape .template) i items) (many : n ≡ length (row items)) (is-part : partOf part ≡ nthPart (listed (shape .parts)) i)
+      (inside : inner ≡ insideScope (partOf part) i c) (p : Lays s entries code′ between base (at + n) k end inner laid) (small : SmallParts i k end base at last) (more : i < shape .count) where
     -- a part that is not entered: none stands there
-    pub parts-stuck : part .next ≤ k → LaysParts s entries code′ between base at last shape i k end c part
+    pub parts-stuck : laid .next ≤ k → LaysParts s entries code′ between base at last shape i k end c laid
     parts-stuck stuck = record {
       went = record {
         on = p .went .on;
@@ -189,10 +191,10 @@ module _ (s entries code′ : List ℕ) (base at last : ℕ) (shape : Shape) (i 
       where
         never : {A : Type 0} {ps : List Placed} {m : ℕ} → Split s shape i k end c ps m → A
         never (none h) = absurd (omega (arith, h .counted))
-        never (some {e = e} h) = absurd (omega (arith, some-record e, p .came e (first-entered h inner inside) .next))
+        never (some {e = e} h) = absurd (omega (arith, some-record e, p .came e (first-entered h part inner is-part inside) .next))
 
     pub parts-more : (rest : Laid) (there after : List ℕ)
-        → LaysParts s entries between there base (part .at) (at + n) shape (i + 1) (part .next) end c rest
+        → LaysParts s entries between there base (laid .at) (at + n) shape (i + 1) (laid .next) end c rest
         → after ≡ putAll there at (operationsFor s entries c (base + rest .last) (base + rest .at) (row items))
         → LaysParts s entries code′ after base at last shape i k end c rest
     unfolding behindParts lastPart partsCode
@@ -208,66 +210,65 @@ module _ (s entries code′ : List ℕ) (base at last : ℕ) (shape : Shape) (i 
       lays = λ ps m h room. lays (split h) room;
     }
       where
-        kind : Kind
-        kind = meant (shape .node)
+        parts-read : PartsOfKind
+        parts-read = listed (shape .parts)
+
+        t : TemplateOfKind
+        t = columnOf (shape .template)
 
         es : ℕ → ℕ
         es = entriesIn entries
 
-        -- the items, by the column
-        items-is : {ps : List Placed} {m : ℕ} → EnteringParts s shape i k end c ps m → row items ≡ before (templateOf kind) i
-        items-is h = before-it .is ∙ ap (λ t. before t i) (h .templated)
+        -- where the part begins
+        begins : base + (at + n) ≡ past (before t i) (base + at)
+        begins = let e = ap length (before-it .is) in omega (arith, past-length (before t i) (base + at))
 
-        -- where the part begins, and where the others do
-        begins : {ps : List Placed} {m : ℕ} → EnteringParts s shape i k end c ps m → base + (at + n) ≡ past (before (templateOf kind) i) (base + at)
-        begins h = let e = ap length (items-is h) in omega (arith, past-length (before (templateOf kind) i) (base + at))
+        own : {e : Expr} {ps : List Placed} {m : ℕ} → EnteringParts s shape i k end c (placed k e ∷ ps) m → Came base (at + n) k e laid
+        own {e} h = p .came e (first-entered h part inner is-part inside)
 
-        own : {e : Expr} {ps : List Placed} {m : ℕ} → EnteringParts s shape i k end c (placed k e ∷ ps) m → Came base (at + n) k e part
-        own {e} h = p .came e (first-entered h inner inside)
+        others : {e : Expr} {ps : List Placed} {m : ℕ} → EnteringParts s shape i k end c (placed k e ∷ ps) m → CameParts base (laid .at) (at + n) t (i + 1) ps m rest
+        others h = l .came _ _ (rest-entered h (laid .next) (own h .next))
 
-        others : {e : Expr} {ps : List Placed} {m : ℕ} → EnteringParts s shape i k end c (placed k e ∷ ps) m → CameParts base (part .at) (at + n) kind (i + 1) ps m rest
-        others h = l .came _ _ (rest-entered h (part .next) (own h .next))
+        follow : {e : Expr} {ps : List Placed} {m : ℕ} → EnteringParts s shape i k end c (placed k e ∷ ps) m → base + laid .at ≡ behind e (past (before t i) (base + at))
+        follow {e} h = own h .address ∙ ap (behind e) begins
 
-        follow : {e : Expr} {ps : List Placed} {m : ℕ} → EnteringParts s shape i k end c (placed k e ∷ ps) m → base + part .at ≡ behind e (past (before (templateOf kind) i) (base + at))
-        follow {e} h = own h .address ∙ ap (behind e) (begins h)
-
-        came : {ps : List Placed} {m : ℕ} → Split s shape i k end c ps m → CameParts base at last kind i ps m rest
+        came : {ps : List Placed} {m : ℕ} → Split s shape i k end c ps m → CameParts base at last t i ps m rest
         came (none h) = absurd (omega (arith, h .counted))
         came (some {e = e} {ps = ps} h) = record {
           next = others h .next;
-          address = others h .address ∙ ap₂ (λ j a. behindParts kind j a ps) (add-one i) (follow h);
-          last-part = others h .last-part ∙ ap₂ (λ j a. lastPart kind (base + (at + n)) j a ps) (add-one i) (follow h) ∙ ap (λ b. lastPart kind b (suc i) (behind e (past (before (templateOf kind) i) (base + at))) ps) (begins h);
+          address = others h .address ∙ ap₂ (λ j a. behindParts t j a ps) (add-one i) (follow h);
+          last-part = others h .last-part ∙ ap₂ (λ j a. lastPart t (base + (at + n)) j a ps) (add-one i) (follow h) ∙ ap (λ b. lastPart t b (suc i) (behind e (past (before t i) (base + at))) ps) begins;
         }
 
         lays : {ps : List Placed} {m : ℕ} → Split s shape i k end c ps m → recordBytes * rest .at ≤ length code′
-            → after ≡ laidAt code′ at (partsCode es (arityIn s) kind (aroundOf c) (base + rest .last) (base + rest .at) i (base + at) ps)
+            → after ≡ laidAt code′ at (partsCode es (arityIn s) parts-read t (aroundOf c) (base + rest .last) (base + rest .at) i (base + at) ps)
         lays (none h) room = absurd (omega (arith, h .counted))
         lays (some {m = m} {e = e} {ps = ps} h) room =
             let f = operationFor es (arityIn s) (aroundOf c) (base + rest .last) (base + rest .at) in
             let G = map f (row items) in
             let P = code es (sortOf (inner .tree)) (wordsIn inner) (inner .standing) (base + (at + n)) e in
-            let R = partsCode es (arityIn s) kind (aroundOf c) (base + rest .last) (base + rest .at) (i + 1) (base + part .at) ps in
+            let R = partsCode es (arityIn s) parts-read t (aroundOf c) (base + rest .last) (base + rest .at) (i + 1) (base + laid .at) ps in
             let long-G : length G ≡ n = length-map (row items) f ∙ sym many in
-            let long-P : (at + n) + length P ≡ part .at = omega (arith, length-code es (sortOf (inner .tree)) (wordsIn inner) (inner .standing) (base + (at + n)) e, own h .address) in
-            let long-R : part .at + length R ≡ rest .at = omega (arith, length-parts es (arityIn s) kind (aroundOf c) (base + rest .last) (base + rest .at) (i + 1) (base + part .at) ps, others h .address) in
+            let long-P : (at + n) + length P ≡ laid .at = omega (arith, length-code es (sortOf (inner .tree)) (wordsIn inner) (inner .standing) (base + (at + n)) e, own h .address) in
+            let long-R : laid .at + length R ≡ rest .at = omega (arith, length-parts es (arityIn s) parts-read t (aroundOf c) (base + rest .last) (base + rest .at) (i + 1) (base + laid .at) ps, others h .address) in
             let ups = l .went .up in
-            let first : between ≡ laidAt code′ (at + n) P = p .lays e (first-entered h inner inside) (omega arith) in
+            let first : between ≡ laidAt code′ (at + n) P = p .lays e (first-entered h part inner is-part inside) (omega arith) in
             let same-length : length between ≡ length code′ = ap length first ∙ length-laid code′ (at + n) P in
             let second : there ≡ laidAt code′ (at + n) (P ++ R) =
-            l .lays ps m (rest-entered h (part .next) (own h .next)) (omega arith)
-            ∙ ap (λ (b : List ℕ). laidAt b (part .at) R) first
-            ∙ laid-behind code′ (at + n) P R (part .at) (sym long-P) (omega arith) in
+            l .lays ps m (rest-entered h (laid .next) (own h .next)) (omega arith)
+            ∙ ap (λ (b : List ℕ). laidAt b (laid .at) R) first
+            ∙ laid-behind code′ (at + n) P R (laid .at) (sym long-P) (omega arith) in
             let still : length there ≡ length code′ = ap length second ∙ length-laid code′ (at + n) (P ++ R) in
-            let own-part : P ≡ code es (partAround kind i (aroundOf c) .sort) (partAround kind i (aroundOf c) .words) (partAround kind i (aroundOf c) .standing) (past (before (templateOf kind) i) (base + at)) e =
-            ap₂ (λ (x : Around) (a : ℕ). code es (x .sort) (x .words) (x .standing) a e) (scope-entered h inner inside .is) (begins h) in
+            let own-part : P ≡ code es (partAround (nthPart parts-read i) i (aroundOf c) .sort) (partAround (nthPart parts-read i) i (aroundOf c) .words) (partAround (nthPart parts-read i) i (aroundOf c) .standing) (past (before t i) (base + at)) e =
+            ap₂ (λ (x : Around) (a : ℕ). code es (x .sort) (x .words) (x .standing) a e) (around-part h part inner is-part inside) begins in
             wrote
             ∙ laid-each there at G (omega (arith, p .went .up))
             ∙ ap (λ (b : List ℕ). laidAt b at G) second
             ∙ laid-front code′ at G (P ++ R) (at + n) (omega arith) (omega (arith, length-append P R))
             ∙ ap (laidAt code′ at)
-            (ap (λ (q : List Item). map f q ++ (P ++ R)) (items-is h)
-            ∙ ap₂ (λ (x y : List Operation). map f (before (templateOf kind) i) ++ (x ++ y)) own-part
-            (ap₂ (λ j a. partsCode es (arityIn s) kind (aroundOf c) (base + rest .last) (base + rest .at) j a ps) (add-one i) (follow h)))
+            (ap (λ (q : List Item). map f q ++ (P ++ R)) (before-it .is)
+            ∙ ap₂ (λ (x y : List Operation). map f (before t i) ++ (x ++ y)) own-part
+            (ap₂ (λ j a. partsCode es (arityIn s) parts-read t (aroundOf c) (base + rest .last) (base + rest .at) j a ps) (add-one i) (follow h)))
 
 pub ruleset parts = (parts-done, parts-stuck, parts-more)
 

@@ -9,7 +9,7 @@ use Rattle.formats.specs.Written.{written}
 use Rattle.formats.proofs.Records.{length-flat}
 use Rattle.formats.proofs.Written.{written-append, written-front, written-none, wrote}
 use Rattle.meaning.specs.Instructions.{Operation, instructionOf}
-use Rattle.template.specs.Items.{put, putAll}
+use Rattle.lay_items.specs.Operations.{put, putAll}
 use Rattle.translate.specs.Laying.{laidAt}
 
 -- their bytes

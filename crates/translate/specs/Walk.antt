@@ -4,12 +4,12 @@ use Prim.Native.Nat.{ℕ, _+_, _-_, _*_, _≤_, _<_}
 use mathlib.Core.List.{List}
 use mathlib.Core.Path.{_≡_}
 use lib.ListN.{length}
-use Rattle.formats.specs.CodeColumn.{templateOf}
-use Rattle.formats.specs.Records.{Kind, recordBytes}
+use Rattle.formats.specs.CodeColumn.{Template}
+use Rattle.formats.specs.Records.{Kind, recordBytes, partsOf, nthPart, partCount}
 use Rattle.formats.specs.Results.{done, verdict}
 use Rattle.formats.specs.Programs.{Expr, size, Placed, Signature, Function, signatureOf, Program}
 use Rattle.formats.specs.Rows.{arityIn, functionIn}
-use Rattle.records.specs.Read.{meant, columnOf}
+use Rattle.records.specs.Read.{listed, columnOf}
 use Rattle.rules.specs.Types.{resultType}
 use Rattle.rules.specs.Scopes.{scope, entered}
 use Rattle.rules.specs.PassOne.{passOver}
@@ -17,9 +17,9 @@ use Rattle.rules.proofs.Parts.{Known, Holds, Row, passParts}
 use Rattle.formats.specs.Written.{written}
 use Rattle.translation.specs.Calls.{checkedRecords}
 use Rattle.translation.specs.Templates.{code, behind, firstWords, functionCode, behindFunction, entryOf, operationsOf, codeOf}
-use Rattle.template.specs.Around.{around, sortOf, wordsIn, aroundOf, mostNames, Named, Binds}
+use Rattle.code_scope.specs.Around.{around, sortOf, wordsIn, aroundOf, mostNames, Named, Binds}
+use Rattle.code_scope.specs.declared.Scope.{Scope}
 use Rattle.template.specs.Items.{entriesIn}
-use Rattle.template.specs.declared.Scope.{Scope}
 use Rattle.translate.specs.declared.Laid.{Laid}
 use Rattle.translate.specs.declared.Shape.{Shape}
 use Rattle.translate.specs.declared.Table.{Table}
@@ -80,7 +80,9 @@ pub record Lays (s entries code′ after : List ℕ) (base at k end : ℕ) (c : 
 
 -- Parts of a record from number i on stand one behind the other, the next at record k and the last before record m, and pass pass one.
 pub record EnteringParts (s : List ℕ) (shape : Shape) (i k end : ℕ) (c : Scope) (ps : List Placed) (m : ℕ) : Type 0 where
-  pub templated : columnOf (shape .template) ≡ templateOf (meant (shape .node))
+  pub kind : Kind
+  pub parted : listed (shape .parts) ≡ partsOf kind
+  pub many : shape .count ≡ partCount (arityIn s) (partsOf kind)
   pub counted : i + length ps ≡ shape .count
   pub signed : List Signature
   pub known : Known s signed
@@ -88,23 +90,23 @@ pub record EnteringParts (s : List ℕ) (shape : Shape) (i k end : ℕ) (c : Sco
   pub fits : m ≤ end
   pub numbers : ℕ
   pub trees : ℕ
-  pub passes : passParts signed (meant (shape .node)) i (scope numbers trees (c .standing) (resultType (sortOf (c .tree)))) ps ≡ done tt
+  pub passes : passParts signed kind i (scope numbers trees (c .standing) (resultType (sortOf (c .tree)))) ps ≡ done tt
   pub table : length (c .words) ≡ mostNames
   pub named : Named c
   pub words : c .standing + i + 1 + (end - k) ≤ 4000
-  pub room : Binds (meant (shape .node)) → c .standing < mostNames
+  pub room : (j : ℕ) → Binds (nthPart (partsOf kind) j) → c .standing < mostNames
 
-pub record CameParts (base at last : ℕ) (kind : Kind) (i : ℕ) (ps : List Placed) (m : ℕ) (r : Laid) : Type 0 where
+pub record CameParts (base at last : ℕ) (t : Template) (i : ℕ) (ps : List Placed) (m : ℕ) (r : Laid) : Type 0 where
   pub next : r .next ≡ m
-  pub address : base + r .at ≡ behindParts kind i (base + at) ps
-  pub last-part : base + r .last ≡ lastPart kind (base + last) i (base + at) ps
+  pub address : base + r .at ≡ behindParts t i (base + at) ps
+  pub last-part : base + r .last ≡ lastPart t (base + last) i (base + at) ps
 
 -- The parts from number i on, with what stands before and behind them.
 pub record LaysParts (s entries code′ after : List ℕ) (base at last : ℕ) (shape : Shape) (i k end : ℕ) (c : Scope) (r : Laid) : Type 0 where
   pub went : Went k end at (dueFrom i) r
-  pub came : (ps : List Placed) (m : ℕ) → EnteringParts s shape i k end c ps m → CameParts base at last (meant (shape .node)) i ps m r
+  pub came : (ps : List Placed) (m : ℕ) → EnteringParts s shape i k end c ps m → CameParts base at last (columnOf (shape .template)) i ps m r
   pub lays : (ps : List Placed) (m : ℕ) → EnteringParts s shape i k end c ps m → recordBytes * r .at ≤ length code′
-      → after ≡ laidAt code′ at (partsCode (entriesIn entries) (arityIn s) (meant (shape .node)) (aroundOf c) (base + r .last) (base + r .at) i (base + at) ps)
+      → after ≡ laidAt code′ at (partsCode (entriesIn entries) (arityIn s) (listed (shape .parts)) (columnOf (shape .template)) (aroundOf c) (base + r .last) (base + r .at) i (base + at) ps)
 
 -- ---- a function
 

@@ -1,19 +1,19 @@
 // The translator: from a program's records to its code, by document 01's templates.
-use records::Record;
+use code_scope::Scope;
+use lay_items::Labels;
+use records::Parts;
 use records::RecordRead;
 use records::Template;
 use refusal::Filled;
 use refusal::Refusal;
 use refusal::Verdict;
-use template::Labels;
-use template::Scope;
 ghost use mathlib.Core.Path.{_≡_};
 ghost use lib.ListN.{length};
 ghost use Rattle.formats.specs.Results.{done, verdict};
 ghost use Rattle.refusal.specs.Put.{Put};
 ghost use Rattle.translation.specs.Calls.{checkedRecords, translateRecords, translateFile};
 ghost use Rattle.translation.specs.Templates.{wordsKept};
-ghost use Rattle.template.specs.Around.{sortOf};
+ghost use Rattle.code_scope.specs.Around.{sortOf};
 ghost use Rattle.translate.specs.Walk.{Small, SmallParts, Lays, LaysParts, Starts, LaysFunction, Tabled, Ready, LaysAll};
 
 const INSTRUCTION_BYTES: usize = 8;
@@ -37,9 +37,9 @@ struct Laid {
     last: usize,
 }
 
-// What a record asks for: its kind, its template, and how many parts it has.
+// What a record asks for: its parts, its template, and how many parts it has.
 struct Shape {
-    node: Record,
+    parts: Parts,
     template: Template,
     count: usize,
 }
@@ -81,7 +81,7 @@ fn lay(
         },
         RecordRead::Read(node, parts, template) => {
             let shape = Shape {
-                node: node,
+                parts: parts,
                 template: template,
                 count: nodes::part_count(flat, parts),
             };
@@ -128,7 +128,7 @@ fn lay_parts(
             last: base + last,
             behind: base + behind,
         };
-        template::lay_items(flat, entries, code, at, items, scope, labels);
+        lay_items::lay_items(flat, entries, code, at, items, scope, labels);
         return Laid {
             next: k,
             at: behind,
@@ -137,22 +137,23 @@ fn lay_parts(
     }
     let items = template::items_before(template, i);
     let start = at + template::length_of(items);
-    let node = shape.node;
-    let inner = template::inside(node, i, scope);
-    let part = lay(flat, entries, code, base, start, k, end, inner);
-    if part.next <= k {
-        return part;
+    let parts = shape.parts;
+    let part = parts::nth_part(parts, i);
+    let inner = code_scope::inside(part, i, scope);
+    let laid = lay(flat, entries, code, base, start, k, end, inner);
+    if laid.next <= k {
+        return laid;
     }
     let rest = lay_parts(
         flat,
         entries,
         code,
         base,
-        part.at,
+        laid.at,
         start,
         shape,
         i + 1,
-        part.next,
+        laid.next,
         end,
         scope,
     );
@@ -160,7 +161,7 @@ fn lay_parts(
         last: base + rest.last,
         behind: base + rest.at,
     };
-    template::lay_items(flat, entries, code, at, items, scope, labels);
+    lay_items::lay_items(flat, entries, code, at, items, scope, labels);
     rest
 }
 

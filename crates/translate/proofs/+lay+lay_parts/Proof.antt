@@ -13,9 +13,10 @@ use Rattle.translate.proofs.lay_parts.Kinds as lay-parts-kinds
 use Rattle.translate.proofs.+lay+lay_parts.Lts-lay_parts as lay-parts-lts
 use Rattle.nodes.proofs.part_count.Reads as part-count-reads
 use Rattle.records.proofs.record_at.Reads as record-at-reads
-use Rattle.template.proofs.inside.Reads as inside-reads
+use Rattle.parts.proofs.nth_part.Reads as nth-part-reads
+use Rattle.code_scope.proofs.inside.Reads as inside-reads
 use Rattle.template.proofs.items_before.Reads as items-before-reads
-use Rattle.template.proofs.lay_items.Reads as lay-items-reads
+use Rattle.lay_items.proofs.lay_items.Reads as lay-items-reads
 use Rattle.template.proofs.length_of.Reads as length-of-reads
 use Rattle.translate.proofs.+lay+lay_parts.{statement}
 use Rattle.translate.proofs.+lay+lay_parts.Tie.{close}
@@ -64,6 +65,8 @@ pub +lay+lay-parts-spec : {M : Type 1} → statement M
       lay-items-reads.Learnt,
       items-before-reads.Asked,
       items-before-reads.Learnt,
+      nth-part-reads.Asked,
+      nth-part-reads.Learnt,
       inside-reads.Asked,
       inside-reads.Learnt,
       lay-below t,
@@ -75,42 +78,43 @@ pub +lay+lay-parts-spec : {M : Type 1} → statement M
     lay-parts.Post
     (λ c κs. search needs) (λ c. search asked) (λ c. search asked) (λ c. search asked) (λ c κs. search needs) (λ c. search needs)
     (λ c. search parts)
-    (λ c κs. search needs) (λ c κs. search needs) (λ c. search asked) (λ c κs. search needs) (λ c κs. search asked) (λ c. search needs)
+    (λ c κs. search needs) (λ c κs. search needs) (λ c. search asked) (λ c κs. search needs) (λ c κs. search needs) (λ c κs. search asked) (λ c. search needs)
     (λ c. search parts)
     (λ c. search asked)
     (λ c κs.
     let entered = c .before .before .before .before .before in
-    let start = entered .before .before .before .before .before .before .before .before .before .before .before .pre in
-    let length = entered .before .before .before .length-of2 in
-    let items = entered .before .before .before .before .items-before in
-    let part = entered .lay in
+    let start = entered .before .before .before .before .before .before .before .before .before .before .before .before .pre in
+    let length = entered .before .before .before .before .length-of2 in
+    let items = entered .before .before .before .before .before .items-before in
+    let laid = entered .lay in
     let on = c .before .if2 in
     search asked)
     (λ c.
     let entered = c .before .before .before .before .before .before .before .before .before in
-    let start = entered .before .before .before .before .before .before .before .before .before .before .before .pre in
-    let length = entered .before .before .before .length-of2 in
-    let items = entered .before .before .before .before .items-before in
-    let part = entered .lay in
+    let start = entered .before .before .before .before .before .before .before .before .before .before .before .before .pre in
+    let length = entered .before .before .before .before .length-of2 in
+    let items = entered .before .before .before .before .before .items-before in
+    let laid = entered .lay in
     let rest = c .before .before .before .lay-parts in
     search asked)
     (λ c.
     let entered = c .before .before .before .before .before .before .before .before .before .before in
-    let start = entered .before .before .before .before .before .before .before .before .before .before .before .pre in
-    let length = entered .before .before .before .length-of2 in
-    let items = entered .before .before .before .before .items-before in
-    let part = entered .lay in
+    let start = entered .before .before .before .before .before .before .before .before .before .before .before .before .pre in
+    let length = entered .before .before .before .before .length-of2 in
+    let items = entered .before .before .before .before .before .items-before in
+    let laid = entered .lay in
     let rest = c .before .before .before .before .lay-parts in
     search asked)
     (λ c κs. search needs) (λ c. search needs)
     (λ c.
     let entered = c .before .before .before .before .before .before .before .before .before .before .before .before .before .before in
-    let start = entered .before .before .before .before .before .before .before .before .before .before .before .pre in
-    let length = entered .before .before .before .length-of2 in
-    let items = entered .before .before .before .before .items-before in
-    let part = entered .lay in
+    let start = entered .before .before .before .before .before .before .before .before .before .before .before .before .pre in
+    let length = entered .before .before .before .before .length-of2 in
+    let items = entered .before .before .before .before .before .items-before in
+    let laid = entered .lay in
     let inner = entered .before .before .inside in
-    let more = entered .before .before .before .before .before .if1 in
+    let part = entered .before .before .before .nth-part in
+    let more = entered .before .before .before .before .before .before .if1 in
     let rest = c .before .before .before .before .before .before .before .before .lay-parts in
     let wrote = c .before .before .lay-items2 in
     search parts)

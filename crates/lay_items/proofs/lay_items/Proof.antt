@@ -1,8 +1,8 @@
--- `template::lay_items` meets its contract: one item behind the other.
+-- `lay_items::lay_items` meets its contract: one item behind the other.
 use borrow.Author.Needs.{needs}
-use Rattle.template.proofs.Items.{items-ways}
-use Rattle.template.proofs.lay_items.Statement.{statement}
-use Rattle.template.proofs.lay_items.Tie as tie
+use Rattle.lay_items.proofs.Operations.{items-ways}
+use Rattle.lay_items.proofs.lay_items.Statement.{statement}
+use Rattle.lay_items.proofs.lay_items.Tie as tie
 
 pub lay-items-spec : {M : Type 1} → statement M
 lay-items-spec =

@@ -1,8 +1,8 @@
--- `template::under_number` meets its contract: the name is on top of the others, or there is no room.
+-- `code_scope::under_number` meets its contract: the name is on top of the others, or there is no room.
 use borrow.Author.Needs.{needs, length-unmapped}
-use Rattle.template.proofs.Scopes.{under}
-use Rattle.template.proofs.under_number.Statement.{statement}
-use Rattle.template.proofs.under_number.Tie as tie
+use Rattle.code_scope.proofs.Scopes.{under}
+use Rattle.code_scope.proofs.under_number.Statement.{statement}
+use Rattle.code_scope.proofs.under_number.Tie as tie
 
 pub under-number-spec : {M : Type 1} → statement M
 under-number-spec =

@@ -1,8 +1,8 @@
--- `template::lay_item` meets its contract: a law for each item.
+-- `lay_items::lay_item` meets its contract: a law for each item.
 use borrow.Author.Needs.{needs}
-use Rattle.template.proofs.Items.{lay-ways}
-use Rattle.template.proofs.lay_item.Statement.{statement}
-use Rattle.template.proofs.lay_item.Tie as tie
+use Rattle.lay_items.proofs.Operations.{lay-ways}
+use Rattle.lay_items.proofs.lay_item.Statement.{statement}
+use Rattle.lay_items.proofs.lay_item.Tie as tie
 
 pub lay-item-spec : {M : Type 1} → statement M
 lay-item-spec =

@@ -1,18 +1,16 @@
 -- Scopes: the words of names, and a law for each way out of the functions that say what is known on entering a part.
-use Prim.Native.Nat.{ℕ, zero, suc, _+_, _-_, _%_, _^_, _≤_, _<_, min}
+use Prim.Native.Nat.{ℕ, zero, suc, _+_, _%_, _^_, _≤_, _<_, min}
 use mathlib.Core.Bool.{true, false}
-use mathlib.Core.List.{List, [], _∷_}
+use mathlib.Core.List.{List, _∷_}
 use mathlib.Core.Logic.{_≢_}
 use mathlib.Core.Option.{none, some}
 use mathlib.Core.Path.{_≡_, refl, sym, ap, ap₂, subst, _∙_}
 use native.Mathlib.Decide.{decLe}
-use native.Mathlib.Nat.{add-zero}
-use native.Mathlib.Numerals.{add-one}
 use native.Mathlib.Omega.{arith}
 use borrow.Author.Tests.{eq-eqb, ne-eqb}
 use lib.ListN.{getD, set, length-set}
 use Rattle.formats.specs.Places.{fromLast}
-use Rattle.formats.specs.Programs.{numberValued, treeValued}
+use Rattle.formats.specs.Programs.{numberValued}
 use Rattle.formats.specs.Records.{aNumber, aTree, asWhole, underNumber, underTrees}
 use Rattle.formats.specs.Records.{Part as PartOfKind}
 use Rattle.formats.proofs.Places.{length-from, from-top}
@@ -23,7 +21,7 @@ use Rattle.records.specs.declared.Part.{Part}
 use Rattle.records.specs.declared.Part.the-variants.{Number, Tree, Whole, UnderNumber, UnderTrees}
 use Rattle.translation.specs.Templates.{wordOf}
 use Rattle.code_scope.specs.declared.Scope.{Scope}
-use Rattle.code_scope.specs.Around.{around, partAround, mostNames, sortOf, wordsIn, aroundOf, Enterable, Enters, numberScope, treeScope, underScope, insideScope}
+use Rattle.code_scope.specs.Around.{around, partAround, mostNames, sortOf, wordsIn, aroundOf, Enterable, Enters, underScope, insideScope}
 
 -- ---- `word_of`
 

@@ -1,5 +1,5 @@
 -- What is known where an expression's code is laid down, and how a `Scope` holds it.
-use Prim.Native.Nat.{ℕ, zero, suc, _+_, _%_, _^_, _≤_, _<_, min}
+use Prim.Native.Nat.{ℕ, suc, _+_, _%_, _^_, _≤_, _<_, min}
 use mathlib.Core.Bool.{Bool, true, false}
 use mathlib.Core.List.{_∷_}
 use mathlib.Core.Path.{_≡_}
@@ -49,7 +49,7 @@ aroundOf c = around (sortOf (c .tree)) (wordsIn c) (c .standing)
 pub record Named (c : Scope) : Type 0 where
   pub few : c .names ≤ c .standing
 
--- A number is named in a part of this sort.
+-- A number is named in such a part.
 abbrev pub Binds : Part → Type 0
 Binds aNumber = ⊥
 Binds aTree = ⊥
@@ -73,15 +73,7 @@ pub record Enters (p : Part) (i : ℕ) (c r : Scope) : Type 0 where
 
 -- ---- the scope on entering a part, of any scope
 
--- A number is expected, and so many more words stand. (A scope counts in 64 bits.)
-abbrev pub numberScope : Scope → ℕ → Scope
-numberScope c more = record { words = c .words; names = c .names; standing = (c .standing + more) % 2 ^ 64; tree = false }
-
--- A tree is expected.
-abbrev pub treeScope : Scope → Scope
-treeScope c = record { words = c .words; names = c .names; standing = c .standing; tree = true }
-
--- One more number is named, on the next word. With 16 names nothing changes.
+-- One more number is named, on the next word. With 16 names nothing changes. (A scope counts in 64 bits.)
 unfoldable pub underScope : Scope → Scope
 underScope c =
     let n = min (c .names) mostNames in
@@ -91,10 +83,10 @@ underScope c =
           record { words = set (c .words) n (c .standing % 65536); names = n + 1; standing = (c .standing + 1) % 2 ^ 64; tree = c .tree }
     ]
 
--- Part i of a record is entered.
+-- Part i of a record is entered, by what the part is.
 unfoldable pub insideScope : Part → ℕ → Scope → Scope
-insideScope aNumber i c = numberScope c i
-insideScope aTree i c = treeScope c
+insideScope aNumber i c = record { words = c .words; names = c .names; standing = (c .standing + i) % 2 ^ 64; tree = false }
+insideScope aTree i c = record { words = c .words; names = c .names; standing = c .standing; tree = true }
 insideScope asWhole i c = c
 insideScope underNumber i c = underScope c
 insideScope underTrees i c = c

@@ -1,8 +1,8 @@
 -- Part i of a record's parts: a law for each way out of the functions.
 use Prim.Native.Nat.{ℕ, zero, suc, _-_}
-use mathlib.Core.List.{List, [], _∷_}
+use mathlib.Core.List.{[], _∷_}
 use mathlib.Core.Logic.{_≢_}
-use mathlib.Core.Path.{_≡_, refl, sym, ap, _∙_}
+use mathlib.Core.Path.{_≡_, refl, _∙_}
 use native.Mathlib.Omega.{arith}
 use Rattle.formats.specs.Records.{asWhole, aNumber, nth, these, nthPart}
 use Rattle.formats.specs.Records.{Part as PartOfKind}

@@ -1,7 +1,7 @@
 -- What is known on entering a part: a law for each way out of `inside`, and that counts stay small from one part to the next.
 use Prim.Native.Nat.{ℕ, suc, _+_, _≤_}
 use mathlib.Core.Bool.{true, false}
-use mathlib.Core.Path.{_≡_, sym, ap, ap₂, _∙_}
+use mathlib.Core.Path.{_≡_, ap, ap₂}
 use native.Mathlib.Numerals.{add-one}
 use native.Mathlib.Omega.{arith}
 use Rattle.formats.specs.Records.{aNumber, aTree, asWhole, underNumber, underTrees}

@@ -143,8 +143,8 @@ fn inside(part: Part, i: usize, scope: Scope) -> Scope
     }
 }
 
-// Pass one over the expression at record k, entered with this scope: its own tests, then its parts in order. The records left up to the end fall at
-// each call.
+// Pass one over the expression at record k, entered with this scope: its own tests, then its parts in order. Twice the records left up to the end, and
+// one more for the parts, falls at each call.
 fn enter(flat: &[u8], k: usize, end: usize, scope: Scope) -> Walked
     requires { ⌜ Fits k end (scopeOf scope) ⌝ }
     ensures { λ r. ⌜ Entered (now (flat .entry)) k end scope r ⌝ }

@@ -34,7 +34,8 @@ fn joined(one: Pending, other: Checked, k: usize) -> Checked
     }
 }
 
-// Pass two over the expression at record k, where so many tree names are bound. The records left up to the end fall at each call.
+// Pass two over the expression at record k, where so many tree names are bound. Three times the records left up to the end, with one more for an
+// expression and two more for a list, falls at each call.
 fn order_at(flat: &[u8], k: usize, end: usize, trees: u16, pending: Pending) -> Checked
     requires { ⌜ Small k end trees ⌝ }
     ensures { λ r. ⌜ Ordered (now (flat .entry)) k end trees pending r ⌝ }

@@ -142,7 +142,7 @@ verdicts = refl
 
 -- ---- what a part is decides what is said of it
 
--- The record of this kind at record 3, entered as part 0 of this sort of a record of which a tree is expected, with tree 0 alone named.
+-- What is said on entering a record of this kind, record 3, as part 0 of another, of which a tree is expected; tree 0 alone is named around it.
 unfoldable pub as-part : Kind → Part → Result (Unit {0})
 as-part kind p = atEntry [] (entry (partScope p 0 (scope 0 1 0 Tree⁺)) 3 kind)
 

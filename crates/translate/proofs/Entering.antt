@@ -1,13 +1,13 @@
 -- Expressions that are entered, and their parts: what a walk over records knows of them.
 use Prim.Native.Nat.{ℕ, zero, suc, _+_, _-_, _≤_, _<_}
 use mathlib.Core.List.{List, _∷_}
-use mathlib.Core.Path.{_≡_, refl, sym, ap, ap₂, subst, _∙_}
+use mathlib.Core.Path.{_≡_, refl, sym, ap, ap₂, _∙_}
 use native.Mathlib.Numerals.{add-one}
 use native.Mathlib.Omega.{arith}
 use lib.ListN.{length}
 use Rattle.formats.specs.CodeColumn.{templateOf}
 use Rattle.formats.specs.Results.{done, onValue}
-use Rattle.formats.specs.Records.{Kind, Case, Part, aNumber, aTree, asWhole, underNumber, underTrees, nth, partsOf, nthPart, partCount}
+use Rattle.formats.specs.Records.{Case, Part, aNumber, aTree, asWhole, underNumber, underTrees, nth, partsOf, nthPart, partCount}
 use Rattle.formats.specs.Programs.{Expr, const, var, add, ifZero, letIn, leafOf, nodeOf, caseOf, call, size, Placed, behind, partsAt, Applied, Signature, arityOf}
 use Rattle.formats.specs.Rows.{arityIn, nodeIn}
 use Rattle.formats.proofs.Results.{done-injective, then-inv}

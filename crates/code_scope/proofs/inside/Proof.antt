@@ -1,4 +1,4 @@
--- `code_scope::inside` meets its contract: a law for each sort of part.
+-- `code_scope::inside` meets its contract: a law for each case of a part.
 use borrow.Author.Needs.{needs}
 use Rattle.code_scope.proofs.Scopes.{insides}
 use Rattle.code_scope.proofs.inside.Statement.{statement}

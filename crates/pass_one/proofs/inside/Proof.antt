@@ -1,4 +1,4 @@
--- `pass_one::inside` meets its contract: a law for each sort of part.
+-- `pass_one::inside` meets its contract: a law for each case of a part.
 use borrow.Author.Needs.{needs}
 use Rattle.pass_one.proofs.PartScopes.{part-scopes}
 use Rattle.pass_one.proofs.inside.Statement.{statement}

@@ -1,6 +1,6 @@
 -- The whole call: a law for each way out of it.
 use Prim.Native.Nat.{ℕ, zero, suc, _+_, _*_, _≤_, _<_}
-use mathlib.Core.Bool.{true}
+use mathlib.Core.Bool.{true, false, false≢true}
 use mathlib.Core.List.{List}
 use mathlib.Core.Logic.{_⊎_, inl, inr}
 use mathlib.Core.Path.{_≡_, refl, sym, ap, _∙_}
@@ -40,6 +40,7 @@ use Rattle.meaning.specs.OpenCalls.{Outcome, gives, stops, begins, next, within
 use Rattle.meaning.specs.Evaluation.{Value as Val}
 use Rattle.meaning.specs.SourceRun.{SourceRan, Checked, refusedAfter, checkSource, sourceRun, told as toldValue, tellFrom}
 use Rattle.meaning.specs.Meaning.{PassesOne}
+use Rattle.meaning.specs.WorkWords.{beforeSource, WorkWords}
 use Rattle.meaning.proofs.SourceChecks.{file-stops, pass-one-stops, space-stops, tree-left}
 use Rattle.stepwise.specs.Rows.{tabled}
 use Rattle.stepwise.specs.Comes.{Told, told, toldOf}
@@ -64,6 +65,23 @@ tell-same (begins o) (suc fuel) begun output = tell-same o fuel (suc begun) outp
 as-always : (T U input : List ℕ) (first start : ℕ) (o : Outcome Told) → T ≡ U → start ≡ first → Always U input start o → Always T input first o
 as-always T U input first start o e f a = rw (e, ← f) a
 
+-- work words that nothing touched
+untouched : (outcome : Result (Unit {0})) (values places : List ℕ) → WorkWords beforeSource outcome values values places places
+untouched outcome values places =
+    record { values-length = refl; returns-length = refl; values-kept = λ number place e b. refl; returns-kept = λ number place e b. refl }
+
+-- work words of an evaluation
+used : (outcome : Result (Unit {0})) (values values′ places places′ : List ℕ) → length values′ ≡ length values → length places′ ≡ length places
+    → ((number place : ℕ) → outcome ≡ refusal number place → beforeSource number ≡ false)
+    → WorkWords beforeSource outcome values values′ places places′
+used outcome values values′ places places′ v p late =
+    record {
+      values-length = v;
+      returns-length = p;
+      values-kept = λ number place e b. absurd (false≢true (sym (late number place e) ∙ b));
+      returns-kept = λ number place e b. absurd (false≢true (sym (late number place e) ∙ b));
+    }
+
 -- a call that is refused before the evaluation
 module _ (file input output values places : List ℕ) (fuel : ℕ) where
   -- What the call gives.
@@ -76,7 +94,7 @@ module _ (file input output values places : List ℕ) (fuel : ℕ) where
   unfolding sourceRun
   refused-before number place r e told =
       let gives-it : due ≡ refusedAfter 0 number place output = rw (sourceRun, e) in
-      rw gives-it (record { answer = told; output = refl; values-length = refl; places-length = refl })
+      rw gives-it (record { answer = told; output = refl; words = untouched (refusal number place) values places })
 
   -- a call whose checks pass
   ran : (c : Checked) → checkSource file input (length values) (length places) ≡ done c
@@ -241,7 +259,7 @@ records-run s after input output values places first fuel end t output′ values
           (ready .value-words) (ready .return-words) in
           let same = ran file input output values places fuel (record { program = ready .program; tree = tree .it }) (left ∙ then-done _ (tree .is))
           ∙ sym (tell-same outcome fuel 0 output) in
-          rw same (record { answer = g .answer; output = g .output; values-length = e .long-values; places-length = e .long-places });
+          rw same (record { answer = g .answer; output = g .output; words = used _ values values′ places places′ (e .long-values) (e .long-places) (g .late) });
     }
 
 pub ruleset records-ways = (records-refused, records-few-values, records-few-places, records-no-tree, records-run)

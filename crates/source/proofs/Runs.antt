@@ -1,16 +1,18 @@
 -- The run: a law for each way out of the functions that tell an answer.
 use Prim.Native.Nat.{ℕ, zero, suc, _+_, _≤_, _<_}
 use mathlib.Core.List.{List, [], _∷_}
-use mathlib.Core.Logic.{_≢_, _⊎_, ⊎-elim}
+use mathlib.Core.Bool.{false}
+use mathlib.Core.Logic.{_≢_, _⊎_, inl, inr, ⊎-elim}
 use mathlib.Core.Path.{_≡_, refl, sym, ap, _∙_}
 use native.Mathlib.Decide.{decLe}
 use native.Mathlib.Nat.{zero-add}
 use native.Mathlib.Omega.{arith}
 use borrow.Author.Tests.{le-leb, lt-leb}
 use lib.ListN.{length}
-use Rattle.formats.specs.Refusals.{fuelUsedUp, outputFull}
-use Rattle.formats.specs.Results.{done, refusal}
+use Rattle.formats.specs.Refusals.{fuelUsedUp, outputFull, tooManyCalls}
+use Rattle.formats.specs.Results.{Result as Reading, done, refusal}
 use Rattle.formats.specs.Written.{written}
+use Rattle.formats.proofs.Results.{done-not}
 use Rattle.formats.proofs.Written.{written-none}
 use Rattle.refusal.specs.Number.{number as numberOf}
 use Rattle.refusal.specs.declared.Refusal.{Refusal}
@@ -19,6 +21,7 @@ use Rattle.refusal.specs.declared.Verdict.the-variants.{Passed}
 use Rattle.meaning.specs.Running.{valueWords, returnWords}
 use Rattle.meaning.specs.OpenCalls.{Outcome, gives, stops, after, within}
 use Rattle.meaning.specs.SourceRun.{refusedAfter}
+use Rattle.meaning.specs.WorkWords.{beforeSource}
 use Rattle.meaning.proofs.Outcomes.{given, comes-value, gives-not}
 use Rattle.stepwise.specs.Comes.{Told, told}
 use Rattle.source.specs.declared.SourceAnswer.{SourceAnswer}
@@ -36,6 +39,28 @@ pub stop-calls : (stop : ℕ) → stop ≢ fuelUsedUp → Named stop TooManyCall
 stop-calls stop h = record { is = ⊎-elim (λ e. absurd (h e)) (λ e. sym e) }
 
 pub ruleset stopping = (stop-fuel, stop-calls)
+
+-- ---- the refusals of an evaluation
+
+-- one number is not among those that come before it
+late-stop : (why n number place : ℕ) → beforeSource why ≡ false → _≡_ {A = Reading (Unit {0})} (refusal why n) (refusal number place) → beforeSource number ≡ false
+late-stop why n number place late e = let same : why ≡ number = cc in rw (← same) late
+
+fuel-late : beforeSource fuelUsedUp ≡ false
+unfolding beforeSource
+fuel-late = refl
+
+calls-late : beforeSource tooManyCalls ≡ false
+unfolding beforeSource
+calls-late = refl
+
+full-late : beforeSource outputFull ≡ false
+unfolding beforeSource
+full-late = refl
+
+stop-late : (stop : ℕ) → (stop ≡ fuelUsedUp) ⊎ (stop ≡ tooManyCalls) → beforeSource stop ≡ false
+stop-late stop (inl e) = rw e fuel-late
+stop-late stop (inr e) = rw e calls-late
 
 -- ---- what an outcome is told as
 
@@ -96,7 +121,11 @@ module _ (T input : List ℕ) (first fuel : ℕ) (output values values₁ places
         by o (tells-value out is stop counts wrote) = absurd (some stop)
         by o (tells-stop at is which) =
             rw (told-stop output (c .begun) (c .stop) at (within fuel o) is)
-            (record { answer = e ∙ ap (λ n. refusedAfter (c .begun) n 0 output .answer) (named .is which); output = refl })
+            (record {
+              answer = e ∙ ap (λ n. refusedAfter (c .begun) n 0 output .answer) (named .is which);
+              output = refl;
+              late = λ number place. late-stop (c .stop) 0 number place (stop-late (c .stop) which);
+            })
 
     module _ (ended : c .stop ≡ 0) where
       -- The result: its bytes, as many as were counted.
@@ -121,7 +150,7 @@ module _ (T input : List ℕ) (first fuel : ℕ) (output values values₁ places
                 let long : length output < length (t .bytes) =
                 elim (decLe countLimit (c .written)) [ yes h ↦ let m = t .counts .many h in omega arith | no h ↦ let f = t .counts .few (omega arith) in omega arith ] in
                 rw (told-value output (c .begun) (c .number) (within fuel o) (t .bytes) (t .is), told-full output (c .begun) (c .number) (t .bytes) long)
-                (record { answer = e; output = refl });
+                (record { answer = e; output = refl; late = λ number place. late-stop outputFull 0 number place full-late });
             long-values = counted .long-values;
             long-places = counted .long-places;
           }
@@ -142,7 +171,7 @@ module _ (T input : List ℕ) (first fuel : ℕ) (output values values₁ places
         gives-it o t output′ w =
             let all = exact o t in
             rw (told-value output (c .begun) (c .number) (within fuel o) (t .bytes) (t .is), told-fits output (c .begun) (c .number) (t .bytes) (fits o t))
-            (record { answer = rw all refl; output = w })
+            (record { answer = rw all refl; output = w; late = λ number place. done-not refl })
 
         -- no bytes, and so nothing to write
         pub evaluate-none : c .written ≡ 0 → Evaluates T input first fuel output output values values₁ places places₁ ends

@@ -7,7 +7,7 @@ use mathlib.Core.Path.{_≡_}
 use lib.Dec.{leb}
 use lib.ListN.{length}
 use Rattle.formats.specs.Refusals.{fuelUsedUp, outputFull, tooManyCalls}
-use Rattle.formats.specs.Results.{done}
+use Rattle.formats.specs.Results.{done, refusal}
 use Rattle.formats.specs.Blocks.{flatIn}
 use Rattle.formats.specs.Written.{written}
 use Rattle.refusal.specs.Said.{said}
@@ -17,6 +17,7 @@ use Rattle.meaning.specs.Running.{valueWords, returnWords}
 use Rattle.meaning.specs.OpenCalls.{Outcome, gives, stops, begins, within}
 use Rattle.meaning.specs.SourceRun.{SourceRan, refusedAfter, sourceRun}
 use Rattle.meaning.specs.SourceRun.{SourceAnswer as Due}
+use Rattle.meaning.specs.WorkWords.{beforeSource, WorkWords}
 use Rattle.stepwise.specs.Steps.{begin}
 use Rattle.stepwise.specs.Comes.{Told, Comes}
 use Rattle.source.specs.Stages.{countLimit}
@@ -26,10 +27,11 @@ use Rattle.source.specs.declared.SourceAnswer.{SourceAnswer}
 abbrev pub answered : SourceAnswer → Due
 answered a = record { outcome = said (a .verdict); begun = a .begun; bytesWritten = a .written; number = a .number }
 
--- A call that should give this: its answer, and every byte of the output.
+-- An evaluation that should give this: its answer, and every byte of the output. Its refusals are none of those that come before it.
 pub record Gave (due : SourceRan) (output′ : List ℕ) (r : SourceAnswer) : Type 0 where
   pub answer : answered r ≡ due .answer
   pub output : output′ ≡ due .output
+  pub late : (number place : ℕ) → due .answer .outcome ≡ refusal number place → beforeSource number ≡ false
 
 -- The refusal of a walk that stops with this number.
 pub record Named (stop : ℕ) (why : Refusal) : Type 0 where
@@ -73,12 +75,11 @@ pub record Evaluates (T input : List ℕ) (first fuel : ℕ) (output output′ v
 
 -- ---- the call
 
--- A call: its answer, every byte of the output, and the lengths of the work words, which are otherwise free.
+-- A call: its answer, every byte of the output, and the work words, which are free after a run and untouched where the call is refused before it.
 pub record Sourced (due : SourceRan) (output′ values values′ places places′ : List ℕ) (r : SourceAnswer) : Type 0 where
   pub answer : answered r ≡ due .answer
   pub output : output′ ≡ due .output
-  pub values-length : length values′ ≡ length values
-  pub places-length : length places′ ≡ length places
+  pub words : WorkWords beforeSource (due .answer .outcome) values values′ places places′
 
 -- Of the flat records that a file has.
 pub record OfFile (flat input output output′ values values′ places places′ : List ℕ) (fuel : ℕ) (r : SourceAnswer) : Type 0 where

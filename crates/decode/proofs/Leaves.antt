@@ -21,7 +21,8 @@ use Rattle.records.specs.declared.Constant.{Constant}
 use Rattle.records.specs.declared.NumberName.{NumberName}
 use Rattle.records.specs.declared.TreeName.{TreeName}
 use Rattle.records.specs.declared.Called.{Called}
-use Rattle.stepwise.specs.Rows.{kindNumber, codeOf, operandOf, treeOf, moreOf}
+use Rattle.stepwise.specs.Rows.{givesConstant, givesNamed, entersPart, tagsNode, looksAtTree, callsFunction}
+use Rattle.stepwise.specs.Rows.{actionOf, codeOf, operandOf, treeOf, moreOf}
 use Rattle.decode.specs.declared.Own.{Own}
 use Rattle.decode.specs.declared.Place.{Place}
 use Rattle.decode.specs.Walk.{placeOf, firstIn, Agrees, Stacked, Told, Owns}
@@ -108,52 +109,52 @@ module _ (s cases : List ℕ) (p : Place) (node : Record) (o : Own) where
   plainly : (kind : Kind) (there : Own) → meant node ≡ kind → o ≡ there → ((entry arity : ℕ → ℕ) → Told entry arity (placeOf p cases) kind there) → Owns s cases p node o
   plainly kind there is same holds = of-kind kind there is same (λ entry arity more agrees low few stacked. holds entry arity)
 
-  pub owns-const : (c : Constant) → node ≡ Const c → o ≡ record { kind = 0; operand = c .i % 65536; tree = 0; more = c .i / 65536 } → Owns s cases p node o
-  unfolding kindNumber operandOf treeOf moreOf
-  owns-const c case e = plainly (aConst (c .i)) _ (ap meant case) e (λ entry arity. record { kind-is = refl; operand = refl; tree = refl; more = refl })
+  pub owns-const : (c : Constant) → node ≡ Const c → o ≡ record { action = givesConstant; operand = c .i % 65536; tree = 0; more = c .i / 65536 } → Owns s cases p node o
+  unfolding actionOf operandOf treeOf moreOf
+  owns-const c case e = plainly (aConst (c .i)) _ (ap meant case) e (λ entry arity. record { action = refl; operand = refl; tree = refl; more = refl })
 
-  pub owns-var : (v : NumberName) → node ≡ Var v → o ≡ record { kind = 1; operand = v .a; tree = 0; more = 0 } → Owns s cases p node o
-  unfolding kindNumber operandOf treeOf moreOf
-  owns-var v case e = plainly (aVar (v .a)) _ (ap meant case) e (λ entry arity. record { kind-is = refl; operand = refl; tree = refl; more = refl })
+  pub owns-var : (v : NumberName) → node ≡ Var v → o ≡ record { action = givesNamed; operand = v .a; tree = 0; more = 0 } → Owns s cases p node o
+  unfolding actionOf operandOf treeOf moreOf
+  owns-var v case e = plainly (aVar (v .a)) _ (ap meant case) e (λ entry arity. record { action = refl; operand = refl; tree = refl; more = refl })
 
-  pub owns-add : node ≡ Add → o ≡ record { kind = 2; operand = 0; tree = 0; more = 0 } → Owns s cases p node o
-  unfolding kindNumber operandOf treeOf moreOf
-  owns-add case e = plainly anAdd _ (ap meant case) e (λ entry arity. record { kind-is = refl; operand = refl; tree = refl; more = refl })
+  pub owns-add : node ≡ Add → o ≡ record { action = entersPart; operand = 0; tree = 0; more = 0 } → Owns s cases p node o
+  unfolding actionOf operandOf treeOf moreOf
+  owns-add case e = plainly anAdd _ (ap meant case) e (λ entry arity. record { action = refl; operand = refl; tree = refl; more = refl })
 
-  pub owns-if : node ≡ IfZero → o ≡ record { kind = 3; operand = 0; tree = 0; more = 0 } → Owns s cases p node o
-  unfolding kindNumber operandOf treeOf moreOf
-  owns-if case e = plainly anIfZero _ (ap meant case) e (λ entry arity. record { kind-is = refl; operand = refl; tree = refl; more = refl })
+  pub owns-if : node ≡ IfZero → o ≡ record { action = entersPart; operand = 0; tree = 0; more = 0 } → Owns s cases p node o
+  unfolding actionOf operandOf treeOf moreOf
+  owns-if case e = plainly anIfZero _ (ap meant case) e (λ entry arity. record { action = refl; operand = refl; tree = refl; more = refl })
 
-  pub owns-let : node ≡ Let → o ≡ record { kind = 4; operand = 0; tree = 0; more = 0 } → Owns s cases p node o
-  unfolding kindNumber operandOf treeOf moreOf
-  owns-let case e = plainly aLet _ (ap meant case) e (λ entry arity. record { kind-is = refl; operand = refl; tree = refl; more = refl })
+  pub owns-let : node ≡ Let → o ≡ record { action = entersPart; operand = 0; tree = 0; more = 0 } → Owns s cases p node o
+  unfolding actionOf operandOf treeOf moreOf
+  owns-let case e = plainly aLet _ (ap meant case) e (λ entry arity. record { action = refl; operand = refl; tree = refl; more = refl })
 
-  pub owns-leaf : node ≡ Leaf → o ≡ record { kind = 5; operand = 0; tree = 0; more = 0 } → Owns s cases p node o
-  unfolding kindNumber operandOf treeOf moreOf
-  owns-leaf case e = plainly aLeaf _ (ap meant case) e (λ entry arity. record { kind-is = refl; operand = refl; tree = refl; more = refl })
+  pub owns-leaf : node ≡ Leaf → o ≡ record { action = entersPart; operand = 0; tree = 0; more = 0 } → Owns s cases p node o
+  unfolding actionOf operandOf treeOf moreOf
+  owns-leaf case e = plainly aLeaf _ (ap meant case) e (λ entry arity. record { action = refl; operand = refl; tree = refl; more = refl })
 
-  pub owns-node : node ≡ Node → o ≡ record { kind = 6; operand = 0; tree = 0; more = 0 } → Owns s cases p node o
-  unfolding kindNumber operandOf treeOf moreOf
-  owns-node case e = plainly aNode _ (ap meant case) e (λ entry arity. record { kind-is = refl; operand = refl; tree = refl; more = refl })
+  pub owns-node : node ≡ Node → o ≡ record { action = tagsNode; operand = 0; tree = 0; more = 0 } → Owns s cases p node o
+  unfolding actionOf operandOf treeOf moreOf
+  owns-node case e = plainly aNode _ (ap meant case) e (λ entry arity. record { action = refl; operand = refl; tree = refl; more = refl })
 
   pub owns-case : (t : TreeName) (tree : ℕ) → node ≡ Case t → tree ≡ codeOf (take (p .depth) cases) (t .a) % 65536
-      → o ≡ record { kind = 7; operand = p .names % 65536; tree = tree; more = 0 } → Owns s cases p node o
-  unfolding kindNumber operandOf treeOf moreOf
+      → o ≡ record { action = looksAtTree; operand = p .names % 65536; tree = tree; more = 0 } → Owns s cases p node o
+  unfolding actionOf operandOf treeOf moreOf
   owns-case t tree case et e = of-kind (aCase (t .a)) _ (ap meant case) e (λ entry arity more agrees low few stacked. record {
-    kind-is = refl;
+    action = refl;
     operand = low-word (p .names) 4000 few (omega arith);
     tree = et ∙ code-low stacked (t .a);
     more = refl;
   })
 
   pub owns-call : (c : Called) (tree first many : ℕ) → node ≡ Call c → tree ≡ codeOf (take (p .depth) cases) (c .a) % 65536 → first ≡ firstIn s (c .b) → many ≡ arityIn s (c .b)
-      → o ≡ record { kind = 8; operand = first % 65536; tree = tree; more = many } → Owns s cases p node o
-  unfolding kindNumber operandOf treeOf moreOf below
+      → o ≡ record { action = callsFunction; operand = first % 65536; tree = tree; more = many } → Owns s cases p node o
+  unfolding actionOf operandOf treeOf moreOf below
   owns-call c tree first many case et ef em e = of-kind (aCall (c .a) (c .b)) _ (ap meant case) e (λ entry arity more agrees low few stacked.
       let there : c .b < headerIn s .functions = ltb-true (c .b) (headerIn s .functions) low in
       let same : first ≡ entry (c .b) = ef ∙ sym (agrees .entries (c .b) there) in
       record {
-        kind-is = refl;
+        action = refl;
         operand = ap (λ n. n % 65536) same ∙ low-word (entry (c .b)) 2000 (agrees .low (c .b) there) (omega arith);
         tree = et ∙ code-low stacked (c .a);
         more = em ∙ sym (agrees .arities (c .b) there);

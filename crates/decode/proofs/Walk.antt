@@ -46,7 +46,7 @@ row-is entry arity cases k end p kind own next told small inside =
     let slot : p .slot % 65536 ≡ p .slot = omega (arith, small .slot) in
     let after : next % 65536 ≡ next = omega (arith, small .few) in
     let rest = ap₂ _∷_ role (ap₂ _∷_ parent (ap₂ _∷_ slot (ap (λ n. n ∷ []) after))) in
-    ap₂ _∷_ (told .kind-is) (ap₂ _∷_ (told .operand) (ap₂ _∷_ (told .tree) (ap₂ _∷_ (told .more) rest)))
+    ap₂ _∷_ (told .action) (ap₂ _∷_ (told .operand) (ap₂ _∷_ (told .tree) (ap₂ _∷_ (told .more) rest)))
 
 module _ (s table cases : List ℕ) (k end : ℕ) (p : Place) where
   -- nothing is filled

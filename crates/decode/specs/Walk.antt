@@ -14,7 +14,7 @@ use Rattle.functions.specs.Counts.{countsFrom}
 use Rattle.records.specs.Read.{meant}
 use Rattle.records.specs.declared.Record.{Record}
 use Rattle.rules.proofs.Parts.{Known, Holds, Row}
-use Rattle.stepwise.specs.Rows.{whole, kindNumber, roleOf, slotOf, namesIn, keepsIn, partPlace, operandOf, treeOf, moreOf, rowsOf, rowWords, tabled}
+use Rattle.stepwise.specs.Rows.{whole, actionOf, roleOf, slotOf, namesIn, keepsIn, partPlace, operandOf, treeOf, moreOf, rowsOf, rowWords, tabled}
 use Rattle.stepwise.specs.Rows.{Place as PlaceThere}
 use Rattle.decode.specs.Decoding.{tableWords}
 use Rattle.decode.specs.declared.Own.{Own}
@@ -90,7 +90,7 @@ pub record Stacked (cases : List ℕ) (depth more : ℕ) : Type 0 where
 
 -- The first half of a row.
 pub record Told (entry arity : ℕ → ℕ) (p : PlaceThere) (kind : Kind) (o : Own) : Type 0 where
-  pub kind-is : o .kind ≡ kindNumber kind
+  pub action : o .action ≡ actionOf kind
   pub operand : o .operand ≡ operandOf entry arity p kind
   pub tree : o .tree ≡ treeOf entry arity p kind
   pub more : o .more ≡ moreOf entry arity kind
@@ -102,7 +102,7 @@ pub record Owns (s cases : List ℕ) (p : Place) (node : Record) (o : Own) : Typ
 -- A row's words.
 abbrev pub rowIn : Own → Place → ℕ → List ℕ
 rowIn o p behind =
-    o .kind ∷ o .operand ∷ o .tree ∷ o .more ∷ (p .role % 65536) ∷ (p .parent % 65536) ∷ (p .slot % 65536) ∷ (behind % 65536) ∷ []
+    o .action ∷ o .operand ∷ o .tree ∷ o .more ∷ (p .role % 65536) ∷ (p .parent % 65536) ∷ (p .slot % 65536) ∷ (behind % 65536) ∷ []
 
 -- ---- an expression
 

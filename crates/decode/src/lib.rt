@@ -24,6 +24,19 @@ const TABLE_WORDS: usize = 8456;
 // The last word of a frame.
 const LAST_WORD: usize = 15;
 
+// What a record does when it begins.
+const GIVES_CONSTANT: u16 = 0;
+
+const GIVES_NAMED: u16 = 1;
+
+const ENTERS_PART: u16 = 2;
+
+const TAGS_NODE: u16 = 3;
+
+const LOOKS_AT_TREE: u16 = 4;
+
+const CALLS_FUNCTION: u16 = 5;
+
 // What a part is to the record that it is part of.
 const WHOLE: usize = 0;
 
@@ -54,7 +67,7 @@ struct Place {
 
 // The first half of a row: what the record's kind and its operands say.
 struct Own {
-    kind: u16,
+    action: u16,
     operand: u16,
     tree: u16,
     more: u16,
@@ -105,22 +118,27 @@ fn own_of(flat: &[u8], cases: &[u16], node: Record, place: Place) -> Own
     ensures { λ r. ⌜ Owns (now (flat .entry)) (now (cases .entry)) place node r ⌝ }
 {
     match node {
-        Record::Const(c) => own_words(0, (c.i % 65536) as u16, 0, (c.i / 65536) as u16),
-        Record::Var(v) => own_words(1, v.a as u16, 0, 0),
-        Record::Add => own_words(2, 0, 0, 0),
-        Record::IfZero => own_words(3, 0, 0, 0),
-        Record::Let => own_words(4, 0, 0, 0),
-        Record::Leaf => own_words(5, 0, 0, 0),
-        Record::Node => own_words(6, 0, 0, 0),
+        Record::Const(c) => own_words(
+            GIVES_CONSTANT,
+            (c.i % 65536) as u16,
+            0,
+            (c.i / 65536) as u16,
+        ),
+        Record::Var(v) => own_words(GIVES_NAMED, v.a as u16, 0, 0),
+        Record::Add => own_words(ENTERS_PART, 0, 0, 0),
+        Record::IfZero => own_words(ENTERS_PART, 0, 0, 0),
+        Record::Let => own_words(ENTERS_PART, 0, 0, 0),
+        Record::Leaf => own_words(ENTERS_PART, 0, 0, 0),
+        Record::Node => own_words(TAGS_NODE, 0, 0, 0),
         Record::Case(t) => {
             let tree = code_of(cases, place.depth, t.a);
-            own_words(7, (place.names % 65536) as u16, tree, 0)
+            own_words(LOOKS_AT_TREE, (place.names % 65536) as u16, tree, 0)
         }
         Record::Call(c) => {
             let tree = code_of(cases, place.depth, c.a);
             let entry = first_record(flat, c.b);
             own_words(
-                8,
+                CALLS_FUNCTION,
                 (entry % 65536) as u16,
                 tree,
                 signatures::parameters(flat, c.b) as u16,
@@ -130,11 +148,11 @@ fn own_of(flat: &[u8], cases: &[u16], node: Record, place: Place) -> Own
 }
 
 // These four words.
-fn own_words(kind: u16, operand: u16, tree: u16, more: u16) -> Own
-    ensures { λ r. ⌜ r ≡ record { kind = kind; operand = operand; tree = tree; more = more } ⌝ }
+fn own_words(action: u16, operand: u16, tree: u16, more: u16) -> Own
+    ensures { λ r. ⌜ r ≡ record { action = action; operand = operand; tree = tree; more = more } ⌝ }
 {
     Own {
-        kind: kind,
+        action: action,
         operand: operand,
         tree: tree,
         more: more,
@@ -149,7 +167,7 @@ fn write_row(table: &mut [u16], k: usize, own: Own, place: Place, behind: usize)
         return;
     }
     let p = ROW_WORDS * k;
-    table[p] = own.kind;
+    table[p] = own.action;
     table[p + 1] = own.operand;
     table[p + 2] = own.tree;
     table[p + 3] = own.more;

@@ -13,8 +13,9 @@ use lib.ListN.{length, getD, set, length-set}
 use Rattle.formats.specs.Numbers.{sum32, numberAt}
 use Rattle.formats.specs.Refusals.{tooManyCalls}
 use Rattle.formats.specs.Tokens.{leafTag, nodeTag, leafBytes}
+use Rattle.stepwise.specs.Rows.{givesConstant, givesNamed, looksAtTree, callsFunction}
 use Rattle.stepwise.specs.Rows.{whole, kept, added, tested, passed, labelled, followed}
-use Rattle.stepwise.specs.Steps.{begin, through, opens, ended, deep, stuck, kindAt, operandAt, treeAt, moreAt, roleAt, parentAt, slotAt, behindAt}
+use Rattle.stepwise.specs.Steps.{begin, through, opens, ended, deep, stuck, actionAt, operandAt, treeAt, moreAt, roleAt, parentAt, slotAt, behindAt}
 use Rattle.stepwise.specs.Steps.{frameWords, mostRecords, mostWaiting, Found, copied, onRight, knownAfter, beginning}
 use Rattle.stepwise.proofs.Steps.{off, looks-leaf, looks-node, looks-past, begins-const, begins-var, begins-case, begins-bare, begins-args, begins-first, closes-first, closes-waiting}
 use Rattle.stepwise.proofs.Steps.{rises-whole, rises-kept, rises-added, rises-zero, rises-other, rises-on, follows-passed, follows-labelled, follows-followed, follows-last, opens-deep, opens-frame}
@@ -285,10 +286,10 @@ module _ (T input values : List ℕ) (s : Stage) where
   pub begin-past : (r : Stage) → mostRecords ≤ s .node → r ≡ staged s isStuck (s .node) 0 → Begins T input values values s r
   begin-past r past e = rw e (record { is = λ places p few. absurd (omega arith); quiet = quiet-same values s isStuck (s .node) 0 })
 
-  module _ (k : ℕ) (kind : k ≡ kindAt T (s .node)) where
+  module _ (k : ℕ) (kind : k ≡ actionAt T (s .node)) where
     pub begin-const :
         (x : ℕ) (r : Stage)
-        → k ≡ 0
+        → k ≡ givesConstant
         → x ≡ operandAt T (s .node) + 65536 * moreAt T (s .node)
         → r ≡ staged s isThrough (s .node) x
         → Begins T input values values s r
@@ -303,7 +304,7 @@ module _ (T input values : List ℕ) (s : Stage) where
 
     pub begin-var :
         (x : ℕ) (r : Stage)
-        → k ≡ 1
+        → k ≡ givesNamed
         → x ≡ getD values (frameWords * s .calls + operandAt T (s .node)) 0
         → r ≡ staged s isThrough (s .node) x
         → Begins T input values values s r
@@ -316,7 +317,7 @@ module _ (T input values : List ℕ) (s : Stage) where
           quiet = quiet-same values s isThrough (s .node) _;
         })
 
-    pub begin-case : (values′ : List ℕ) (r : Stage) → k ≡ 7 → Looks T input values values′ s r → Begins T input values values′ s r
+    pub begin-case : (values′ : List ℕ) (r : Stage) → k ≡ looksAtTree → Looks T input values values′ s r → Begins T input values values′ s r
     begin-case values′ r is looked =
         record {
           is = λ places p few f. looked .is places p f ∙ sym (begins-case T input p (s .node) (stateOf values places s) (sym kind ∙ is));
@@ -325,7 +326,7 @@ module _ (T input values : List ℕ) (s : Stage) where
 
     pub begin-bare :
         (m : ℕ) (r : Stage)
-        → k ≡ 8
+        → k ≡ callsFunction
         → m ≡ moreAt T (s .node)
         → m ≡ 0
         → r ≡ staged s toOpen (s .node) 0
@@ -353,7 +354,7 @@ module _ (T input values : List ℕ) (s : Stage) where
 
     pub begin-args :
         (m : ℕ) (r : Stage)
-        → k ≡ 8
+        → k ≡ callsFunction
         → m ≡ moreAt T (s .node)
         → m ≢ 0
         → r ≡ staged s toBegin (s .node + 1) 0
@@ -365,10 +366,10 @@ module _ (T input values : List ℕ) (s : Stage) where
 
     pub begin-first :
         (r : Stage)
-        → k ≢ 0
-        → k ≢ 1
-        → k ≢ 7
-        → k ≢ 8
+        → k ≢ givesConstant
+        → k ≢ givesNamed
+        → k ≢ looksAtTree
+        → k ≢ callsFunction
         → r ≡ staged s toBegin (s .node + 1) 0
         → Begins T input values values s r
     begin-first r a b c d e =

@@ -15,8 +15,8 @@ use Rattle.formats.specs.Tokens.{leaf, leafTag, nodeTag, leafBytes, tokens}
 use Rattle.formats.specs.Written.{written}
 use Rattle.formats.proofs.Numbers.{length-bytesOf}
 use Rattle.formats.proofs.Written.{written-one, written-append, written-none, written-short}
-use Rattle.stepwise.specs.Rows.{labelled}
-use Rattle.stepwise.specs.Steps.{frameWords, kindAt, moreAt, roleAt, slotAt, copied, saidFirst, saidLast}
+use Rattle.stepwise.specs.Rows.{tagsNode, labelled}
+use Rattle.stepwise.specs.Steps.{frameWords, actionAt, moreAt, roleAt, slotAt, copied, saidFirst, saidLast}
 use Rattle.stepwise.proofs.Steps.{said-node, said-nothing, said-leaf, said-none}
 use Rattle.stepwise.proofs.Words.{copied-length}
 use Rattle.words.proofs.Bytes.{byte-cut}
@@ -119,12 +119,12 @@ pub ruleset leaves = (leaf-fits, leaf-too-long, leaf-too-near)
 -- ---- `say_first`, `say_last`
 
 module _ (T output : List ℕ) (r at : ℕ) where
-  pub first-nothing : (k : ℕ) → k ≡ kindAt T r → k ≢ 6 → Says (saidFirst T r) output output at at
+  pub first-nothing : (k : ℕ) → k ≡ actionAt T r → k ≢ tagsNode → Says (saidFirst T r) output output at at
   first-nothing k e h =
       let none : saidFirst T r ≡ [] = said-nothing T r (rw (← e) h) in
       record { wrote = rw none (sym (written-none output at)); count = rw none (sym (counted-none at)) }
 
-  pub first-node : (k n : ℕ) (output′ : List ℕ) → k ≡ kindAt T r → k ≡ 6 → output′ ≡ written output at (nodeTag ∷ []) → n ≡ counted at 1
+  pub first-node : (k n : ℕ) (output′ : List ℕ) → k ≡ actionAt T r → k ≡ tagsNode → output′ ≡ written output at (nodeTag ∷ []) → n ≡ counted at 1
       → Says (saidFirst T r) output output′ at n
   first-node k n output′ e h w c =
       let one : saidFirst T r ≡ nodeTag ∷ [] = said-node T r (sym e ∙ h) in

@@ -22,7 +22,7 @@ ghost use Rattle.source.specs.Walks.{FoundAt, Looks, Begins, Knows, Clos
 // Words of a row, and its fields.
 const ROW_WORDS: usize = 8;
 
-const KIND: u16 = 0;
+const ACTION: u16 = 0;
 
 const OPERAND: u16 = 1;
 
@@ -38,11 +38,31 @@ const SLOT: u16 = 6;
 
 const BEHIND: u16 = 7;
 
-// The kind of Node.
-const NODE: u16 = 6;
+// What a record does when it begins, where that is not to enter its first part alone.
+const GIVES_CONSTANT: u16 = 0;
 
-// What a leaf's number is to its record.
+const GIVES_NAMED: u16 = 1;
+
+const TAGS_NODE: u16 = 3;
+
+const LOOKS_AT_TREE: u16 = 4;
+
+const CALLS_FUNCTION: u16 = 5;
+
+// What a part is to the record that it is part of; the last argument of a call is none of these.
+const WHOLE: u16 = 0;
+
+const KEPT: u16 = 1;
+
+const ADDED: u16 = 2;
+
+const TESTED: u16 = 3;
+
+const PASSED: u16 = 4;
+
 const LABELLED: u16 = 5;
+
+const FOLLOWED: u16 = 6;
 
 // Words of a frame.
 const FRAME_WORDS: usize = 16;
@@ -270,8 +290,8 @@ fn named_number(table: &[u16], values: &[u32], s: Stage) -> u32
     frame_word(values, s.calls, field(table, s.node, OPERAND))
 }
 
-// What comes of a record that begins, by its kind: Const (0) and Var (1) are through; a Case (7) looks at its tree; a Call (8) without arguments opens; else
-// the first part begins.
+// What comes of a record that begins, by its action: a number is given; a tree is looked at; a call without arguments opens; else the first part
+// begins.
 fn begin(table: &[u16], input: &[u8], values: &mut [u32], s: Stage) -> Stage
     ensures { λ r. ⌜ Begins (now (table .entry)) (now (input .entry)) (now (values .entry)) (now (values .exit)) s r ⌝ }
 {
@@ -279,11 +299,11 @@ fn begin(table: &[u16], input: &[u8], values: &mut [u32], s: Stage) -> Stage
     if MOST_RECORDS <= r {
         return staged_at(s, STUCK, r, 0);
     }
-    match field(table, r, KIND) {
-        0 => staged_at(s, THROUGH, r, constant(table, r)),
-        1 => staged_at(s, THROUGH, r, named_number(table, values, s)),
-        7 => look(table, input, values, s),
-        8 => {
+    match field(table, r, ACTION) {
+        GIVES_CONSTANT => staged_at(s, THROUGH, r, constant(table, r)),
+        GIVES_NAMED => staged_at(s, THROUGH, r, named_number(table, values, s)),
+        LOOKS_AT_TREE => look(table, input, values, s),
+        CALLS_FUNCTION => {
             if field(table, r, MORE) == 0 {
                 return staged_at(s, OPEN, r, 0);
             }
@@ -378,16 +398,16 @@ fn picked(table: &[u16], s: Stage) -> u16
     field(table, zero_part, BEHIND)
 }
 
-// What comes of a part whose value is the whole's (4), a leaf's label (5) or Node's left tree, behind which the next part begins (6); the last argument else,
-// behind which the call opens.
+// What comes of a part whose value is the whole's, a leaf's label, or Node's left tree, after which the next part begins; the last argument else, after which
+// the call opens.
 fn follow(table: &[u16], values: &mut [u32], s: Stage) -> Stage
     ensures { λ r. ⌜ Follows (now (table .entry)) (now (values .entry)) (now (values .exit)) s r ⌝ }
 {
     let parent = field(table, s.node, PARENT);
     match field(table, s.node, ROLE) {
-        4 => staged_at(s, THROUGH, parent, s.number),
-        5 => staged_at(s, THROUGH, parent, 0),
-        6 => staged_at(s, BEGIN, field(table, s.node, BEHIND), 0),
+        PASSED => staged_at(s, THROUGH, parent, s.number),
+        LABELLED => staged_at(s, THROUGH, parent, 0),
+        FOLLOWED => staged_at(s, BEGIN, field(table, s.node, BEHIND), 0),
         _ => {
             keep(table, values, s);
             staged_at(s, OPEN, parent, 0)
@@ -395,22 +415,22 @@ fn follow(table: &[u16], values: &mut [u32], s: Stage) -> Stage
     }
 }
 
-// What comes of a record that is through, by what it is to its parent: a function's body (0), a number that is put on a word before the next part begins (1), Add's
-// second part (2), IfZero's test (3), or one of those that `follow` has.
+// What comes of a record that is through, by what it is to its parent: a function's body, a number that is put on a word before the next part begins, Add's
+// second part, IfZero's test, or one of those that `follow` has.
 fn rise(table: &[u16], input: &[u8], values: &mut [u32], places: &[u64], s: Stage) -> Stage
     ensures { λ r. ⌜ Rises (now (table .entry)) (now (input .entry)) (now (values .entry)) (now (values .exit)) (now (places .entry)) s r ⌝ }
 {
     match field(table, s.node, ROLE) {
-        0 => close(table, input, places, s),
-        1 => {
+        WHOLE => close(table, input, places, s),
+        KEPT => {
             keep(table, values, s);
             staged_at(s, BEGIN, field(table, s.node, BEHIND), 0)
         }
-        2 => {
+        ADDED => {
             let sum = sum_kept(table, values, s);
             staged_at(s, THROUGH, field(table, s.node, PARENT), sum)
         }
-        3 => staged_at(s, BEGIN, picked(table, s), 0),
+        TESTED => staged_at(s, BEGIN, picked(table, s), 0),
         _ => follow(table, values, s),
     }
 }
@@ -524,7 +544,7 @@ fn write_leaf(output: &mut [u8], at: usize, label: u32)
 fn say_first(table: &[u16], output: &mut [u8], s: Stage) -> usize
     ensures { λ r. ⌜ Says (saidFirst (now (table .entry)) (s .node)) (now (output .entry)) (now (output .exit)) (s .written) r ⌝ }
 {
-    if field(table, s.node, KIND) != NODE {
+    if field(table, s.node, ACTION) != TAGS_NODE {
         return s.written;
     }
     put_byte(output, s.written, NODE_TAG);

@@ -21,7 +21,7 @@ use Rattle.meaning.specs.Evaluation.{resultBytes, resultNumber}
 use Rattle.meaning.specs.OpenCalls.{gives, after, next, numberOr, treeOr, resultTree, evaluate, evaluateArgs, firstRecord, called, evaluation}
 use Rattle.meaning.specs.Meaning.{PassesOne}
 use Rattle.meaning.proofs.MeaningCases.{two-leaves}
-use Rattle.stepwise.specs.Rows.{kindNumber, codeOf, roleOf, slotOf, namesIn, keepsIn, casesIn, operandOf, treeOf, moreOf, rowsOf, rowsOfArgs, behindArgs}
+use Rattle.stepwise.specs.Rows.{actionOf, codeOf, roleOf, slotOf, namesIn, keepsIn, casesIn, operandOf, treeOf, moreOf, rowsOf, rowsOfArgs, behindArgs}
 use Rattle.stepwise.specs.Rows.{rowsOfAll, rowWords, rowsIn, tabled}
 use Rattle.stepwise.specs.Steps.{begin, State, deep, beginning, opening}
 use Rattle.stepwise.specs.Comes.{told, toldOf, Comes}
@@ -29,18 +29,18 @@ use Rattle.stepwise.proofs.Whole.{comes}
 
 -- ---- rows
 
--- Grow: kind, operand, tree, the rest; role, parent, slot, the record behind. Case at record 2, Leaf at 3, Add at 4, Node at 7.
+-- Grow: action, operand, tree, the rest; role, parent, slot, the record behind. Case at record 2, Leaf at 3, Add at 4, Node at 7.
 grow-rows : rowsIn grow
-    ≡ 7 ∷ 0 ∷ 0 ∷ 0 ∷ 0 ∷ 0 ∷ 0 ∷ 10
-    ∷ 5 ∷ 0 ∷ 0 ∷ 0 ∷ 4 ∷ 2 ∷ 0 ∷ 7
+    ≡ 4 ∷ 0 ∷ 0 ∷ 0 ∷ 0 ∷ 0 ∷ 0 ∷ 10
+    ∷ 2 ∷ 0 ∷ 0 ∷ 0 ∷ 4 ∷ 2 ∷ 0 ∷ 7
     ∷ 2 ∷ 0 ∷ 0 ∷ 0 ∷ 5 ∷ 3 ∷ 0 ∷ 7
     ∷ 1 ∷ 0 ∷ 0 ∷ 0 ∷ 1 ∷ 4 ∷ 15 ∷ 6
     ∷ 0 ∷ 1 ∷ 0 ∷ 0 ∷ 2 ∷ 4 ∷ 15 ∷ 7
-    ∷ 6 ∷ 0 ∷ 0 ∷ 0 ∷ 4 ∷ 2 ∷ 0 ∷ 10
-    ∷ 8 ∷ 2 ∷ 5 ∷ 0 ∷ 6 ∷ 7 ∷ 0 ∷ 9
-    ∷ 8 ∷ 2 ∷ 6 ∷ 0 ∷ 4 ∷ 7 ∷ 0 ∷ 10
+    ∷ 3 ∷ 0 ∷ 0 ∷ 0 ∷ 4 ∷ 2 ∷ 0 ∷ 10
+    ∷ 5 ∷ 2 ∷ 5 ∷ 0 ∷ 6 ∷ 7 ∷ 0 ∷ 9
+    ∷ 5 ∷ 2 ∷ 6 ∷ 0 ∷ 4 ∷ 7 ∷ 0 ∷ 10
     ∷ []
-unfolding grow rowsOfAll rowsOf kindNumber codeOf roleOf slotOf namesIn keepsIn casesIn operandOf treeOf moreOf firstRecord arityOf nth total signatureOf size prefix
+unfolding grow rowsOfAll rowsOf actionOf codeOf roleOf slotOf namesIn keepsIn casesIn operandOf treeOf moreOf firstRecord arityOf nth total signatureOf size prefix
 grow-rows = refl
 
 -- A Call of two arguments behind a number kept, the first one's word below that; a Let over two parameters, an IfZero in its body.
@@ -52,19 +52,19 @@ pair = programOf
 pair-rows : rowsIn pair
     ≡ 2 ∷ 0 ∷ 0 ∷ 0 ∷ 0 ∷ 0 ∷ 0 ∷ 8
     ∷ 0 ∷ 4464 ∷ 0 ∷ 1 ∷ 1 ∷ 3 ∷ 15 ∷ 5
-    ∷ 8 ∷ 8 ∷ 0 ∷ 2 ∷ 2 ∷ 3 ∷ 15 ∷ 8
+    ∷ 5 ∷ 8 ∷ 0 ∷ 2 ∷ 2 ∷ 3 ∷ 15 ∷ 8
     ∷ 0 ∷ 3 ∷ 0 ∷ 0 ∷ 1 ∷ 5 ∷ 14 ∷ 7
     ∷ 0 ∷ 4 ∷ 0 ∷ 0 ∷ 7 ∷ 5 ∷ 13 ∷ 8
-    ∷ 4 ∷ 0 ∷ 0 ∷ 0 ∷ 0 ∷ 0 ∷ 0 ∷ 16
+    ∷ 2 ∷ 0 ∷ 0 ∷ 0 ∷ 0 ∷ 0 ∷ 0 ∷ 16
     ∷ 2 ∷ 0 ∷ 0 ∷ 0 ∷ 1 ∷ 8 ∷ 2 ∷ 12
     ∷ 1 ∷ 0 ∷ 0 ∷ 0 ∷ 1 ∷ 9 ∷ 15 ∷ 11
     ∷ 1 ∷ 1 ∷ 0 ∷ 0 ∷ 2 ∷ 9 ∷ 15 ∷ 12
-    ∷ 3 ∷ 0 ∷ 0 ∷ 0 ∷ 4 ∷ 8 ∷ 2 ∷ 16
+    ∷ 2 ∷ 0 ∷ 0 ∷ 0 ∷ 4 ∷ 8 ∷ 2 ∷ 16
     ∷ 1 ∷ 2 ∷ 0 ∷ 0 ∷ 3 ∷ 12 ∷ 0 ∷ 14
     ∷ 1 ∷ 0 ∷ 0 ∷ 0 ∷ 4 ∷ 12 ∷ 0 ∷ 15
     ∷ 1 ∷ 1 ∷ 0 ∷ 0 ∷ 4 ∷ 12 ∷ 0 ∷ 16
     ∷ []
-unfolding pair programOf numbered rowsOfAll rowsOf rowsOfArgs behindArgs kindNumber codeOf roleOf slotOf namesIn keepsIn casesIn operandOf treeOf moreOf firstRecord arityOf nth total signatureOf size prefix prefixes
+unfolding pair programOf numbered rowsOfAll rowsOf rowsOfArgs behindArgs actionOf codeOf roleOf slotOf namesIn keepsIn casesIn operandOf treeOf moreOf firstRecord arityOf nth total signatureOf size prefix prefixes
 pair-rows = refl
 
 -- the names of trees inside two Cases, at records 2 and 5: the frame's tree, the first Case's left and right tree, then the second's

@@ -11,7 +11,8 @@ use Rattle.formats.specs.Tokens.{leaf, leafTag, nodeTag, leafBytes, tokens}
 use Rattle.meaning.specs.OpenCalls.{Outcome, gives, stops, begins, next}
 use Rattle.stepwise.specs.Rows.{whole, kept, added, tested, passed, labelled, followed, lastArgument}
 use Rattle.stepwise.specs.Steps.{State, Turn, begin, through, opens, ended, mostRecords, mostWaiting}
-use Rattle.stepwise.specs.Steps.{kindAt, treeAt, operandAt, moreAt, roleAt, parentAt, slotAt, behindAt}
+use Rattle.stepwise.specs.Rows.{givesConstant, givesNamed, entersPart, tagsNode, looksAtTree, callsFunction}
+use Rattle.stepwise.specs.Steps.{actionAt, treeAt, operandAt, moreAt, roleAt, parentAt, slotAt, behindAt}
 use Rattle.stepwise.specs.Steps.{Found, the-own, wordAt, withWord, withEnd, framed, beginning, closing, rising, weight}
 use Rattle.stepwise.specs.Comes.{Told, told, Comes, at-begin, at-through, at-open, at-end, at-deep}
 use Rattle.stepwise.proofs.Steps.{begins-const, begins-var, begins-leaf, begins-node, begins-bare, begins-args, begins-first, said-node, said-nothing}
@@ -34,13 +35,13 @@ module _ (T input : List ℕ) {out : List ℕ} {o : Outcome Told} where
 
   module _ (p r : ℕ) (s : State) (low : r < mostRecords) (found : Found T input s (treeAt T r) p) where
     -- nothing is written, but by a Node
-    begin-quiet : (t : Turn) → kindAt T r ≢ 6 → beginning T input p r s ≡ t → Comes T input out t o → Comes T input out (begin r s) (begins o)
+    begin-quiet : (t : Turn) → actionAt T r ≢ tagsNode → beginning T input p r s ≡ t → Comes T input out t o → Comes T input out (begin r s) (begins o)
     begin-quiet t kind is c = at-begin {out = out} {r = r} {s = s} {o = o} p low found (rw (said-nothing T r kind, append-nil, is) c)
 
     -- a Case on a leaf
     pub begin-leaf :
         (slot x : ℕ)
-        → kindAt T r ≡ 7
+        → actionAt T r ≡ looksAtTree
         → operandAt T r ≡ slot
         → p < length input
         → getD input p 0 ≡ leafTag
@@ -53,7 +54,7 @@ module _ (T input : List ℕ) {out : List ℕ} {o : Outcome Told} where
     -- a Case on a node
     pub begin-node :
         (behind : ℕ)
-        → kindAt T r ≡ 7
+        → actionAt T r ≡ looksAtTree
         → p < length input
         → getD input p 0 ≢ leafTag
         → behindAt T (suc r) ≡ behind
@@ -63,10 +64,10 @@ module _ (T input : List ℕ) {out : List ℕ} {o : Outcome Told} where
         begin-quiet _ (λ e. absurd (omega arith)) (begins-node T input p r s kind within tag) (rw is c)
 
     -- a Call without arguments, and with some
-    pub begin-bare : kindAt T r ≡ 8 → moreAt T r ≡ 0 → Comes T input out (opens r s) o → Comes T input out (begin r s) (begins o)
+    pub begin-bare : actionAt T r ≡ callsFunction → moreAt T r ≡ 0 → Comes T input out (opens r s) o → Comes T input out (begin r s) (begins o)
     begin-bare kind none c = begin-quiet _ (λ e. absurd (omega arith)) (begins-bare T input p r s kind none) c
 
-    pub begin-args : kindAt T r ≡ 8 → moreAt T r ≢ 0 → Comes T input out (begin (suc r) s) o → Comes T input out (begin r s) (begins o)
+    pub begin-args : actionAt T r ≡ callsFunction → moreAt T r ≢ 0 → Comes T input out (begin (suc r) s) o → Comes T input out (begin r s) (begins o)
     begin-args kind some c = begin-quiet _ (λ e. absurd (omega arith)) (begins-args T input p r s kind some) c
 
     -- a Call one too many, and one that opens
@@ -83,26 +84,26 @@ module _ (T input : List ℕ) {out : List ℕ} {o : Outcome Told} where
 
   -- the other kinds name no tree
   module _ (r : ℕ) (s : State) (low : r < mostRecords) (none : treeAt T r ≡ 0) where
-    pub begin-const : (i : ℕ) → kindAt T r ≡ 0 → operandAt T r + 65536 * moreAt T r ≡ i → Comes T input out (through r i s) o
+    pub begin-const : (i : ℕ) → actionAt T r ≡ givesConstant → operandAt T r + 65536 * moreAt T r ≡ i → Comes T input out (through r i s) o
         → Comes T input out (begin r s) (begins o)
     begin-const i kind is c =
         begin-quiet _ r s low (own T input r s none) _ (λ e. absurd (omega arith)) (begins-const T input (s .tree) r s kind) (rw is c)
 
-    pub begin-var : (a : ℕ) → kindAt T r ≡ 1 → operandAt T r ≡ a → Comes T input out (through r (wordAt s a) s) o
+    pub begin-var : (a : ℕ) → actionAt T r ≡ givesNamed → operandAt T r ≡ a → Comes T input out (through r (wordAt s a) s) o
         → Comes T input out (begin r s) (begins o)
     begin-var a kind is c =
         begin-quiet _ r s low (own T input r s none) _ (λ e. absurd (omega arith)) (begins-var T input (s .tree) r s kind) (rw is c)
 
     -- Add, IfZero, Let, Leaf: the first part begins
-    pub begin-first : (k : ℕ) → kindAt T r ≡ k → 2 ≤ k → k ≤ 5 → Comes T input out (begin (suc r) s) o → Comes T input out (begin r s) (begins o)
-    begin-first k kind least most c =
+    pub begin-first : actionAt T r ≡ entersPart → Comes T input out (begin (suc r) s) o → Comes T input out (begin r s) (begins o)
+    begin-first kind c =
         begin-quiet _ r s low (own T input r s none) _ (λ e. absurd (omega arith))
         (begins-first T input (s .tree) r s
         (λ e. absurd (omega arith)) (λ e. absurd (omega arith))
         (λ e. absurd (omega arith)) (λ e. absurd (omega arith))) c
 
     -- so does a Node's, with the tag written
-    pub begin-pair : kindAt T r ≡ 6 → Comes T input (out ++ (nodeTag ∷ [])) (begin (suc r) s) o → Comes T input out (begin r s) (begins o)
+    pub begin-pair : actionAt T r ≡ tagsNode → Comes T input (out ++ (nodeTag ∷ [])) (begin (suc r) s) o → Comes T input out (begin r s) (begins o)
     begin-pair kind c =
         at-begin {out = out} {r = r} {s = s} {o = o} (s .tree) low (own T input r s none)
         (rw (

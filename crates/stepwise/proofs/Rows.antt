@@ -14,8 +14,8 @@ use Rattle.formats.specs.Programs.{arityOf, total, Function, signatureOf, Progr
 use Rattle.formats.proofs.Written.{wrote}
 use Rattle.meaning.specs.OpenCalls.{firstRecord}
 use Rattle.rules.proofs.Parts.{headOf}
-use Rattle.stepwise.specs.Rows.{Place, rowWords, kindNumber, operandOf, treeOf, moreOf, rowOf, partPlace, rowsOf, rowsOfArgs, behindArgs, bodyPlace, rowsOfAll, rowsIn, tabled}
-use Rattle.stepwise.specs.Steps.{kindAt, operandAt, treeAt, moreAt, roleAt, parentAt, slotAt, behindAt}
+use Rattle.stepwise.specs.Rows.{Place, rowWords, actionOf, operandOf, treeOf, moreOf, rowOf, partPlace, rowsOf, rowsOfArgs, behindArgs, bodyPlace, rowsOfAll, rowsIn, tabled}
+use Rattle.stepwise.specs.Steps.{actionAt, operandAt, treeAt, moreAt, roleAt, parentAt, slotAt, behindAt}
 
 -- ---- words in a table
 
@@ -196,7 +196,7 @@ module _ (entry arity : ℕ → ℕ) where
 
     -- a record's row, field by field
     pub record HasRow (p : Place) (r end : ℕ) (k : Kind) : Type 0 where
-      pub kind : kindAt T r ≡ kindNumber k
+      pub action : actionAt T r ≡ actionOf k
       pub operand : operandAt T r ≡ operandOf entry arity p k
       pub tree : treeAt T r ≡ treeOf entry arity p k
       pub more : moreAt T r ≡ moreOf entry arity k
@@ -209,7 +209,7 @@ module _ (entry arity : ℕ → ℕ) where
     row-fields : (p : Place) (r end : ℕ) (k : Kind) → Shows T (rowWords * r) (rowOf entry arity p end k) → HasRow p r end k
     row-fields p r end k h =
         record {
-          kind = h .there 0 (lit< tt);
+          action = h .there 0 (lit< tt);
           operand = h .there 1 (lit< tt);
           tree = h .there 2 (lit< tt);
           more = h .there 3 (lit< tt);

@@ -32,9 +32,9 @@ use Rattle.meaning.proofs.Proper.{Proper, proper-const, proper-var, proper-add,
 use Rattle.meaning.proofs.Proper.{proper-node, proper-case, proper-call, ProperArgs, proper-none, proper-arg}
 use Rattle.meaning.proofs.Sorts.{ValuesOf, valueOf}
 use Rattle.stepwise.specs.Rows.{Place, passed, lastWord, codeOf, partPlace}
-use Rattle.stepwise.specs.Rows.{kindNumber, roleOf, slotOf, namesIn, keepsIn, casesIn, operandOf, treeOf, moreOf}
+use Rattle.stepwise.specs.Rows.{callsFunction, actionOf, roleOf, slotOf, namesIn, keepsIn, casesIn, operandOf, treeOf, moreOf}
 use Rattle.stepwise.specs.Steps.{State, Turn, begin, through, opens, frameWords, mostRecords, mostWaiting, wordAt, withWord, withEnd}
-use Rattle.stepwise.specs.Steps.{kindAt, operandAt, treeAt, moreAt, roleAt, parentAt, slotAt, Found}
+use Rattle.stepwise.specs.Steps.{actionAt, operandAt, treeAt, moreAt, roleAt, parentAt, slotAt, Found}
 use Rattle.stepwise.specs.Comes.{Told, Comes}
 use Rattle.stepwise.proofs.Words.{Leaves, leaves-all, leaves-both, leaves-less, leaves-word, leaves-end, word-named, word-kept, word-set, word-other}
 use Rattle.stepwise.proofs.Moves.{next-next, begin-leaf, begin-node, begin-bare, begin-args, begin-const, begin-var, begin-first, begin-pair}
@@ -290,25 +290,25 @@ module _ (program : Program) (T input : List ℕ) (k : ℕ) where
 
   -- a constant is through at once
   sim-const : {g n : ℕ} (i : ℕ) → Sim g n numberValued (const i)
-  unfolding evaluate headOf kindNumber treeOf operandOf moreOf
+  unfolding evaluate headOf actionOf treeOf operandOf moreOf
   sim-const i p r w E s stands inside names words few agrees out κ follow =
       let row = own-row entry arity T p r (const i) stands in
-      comes-begun κ _ (begin-const T input r s (omega (arith, size-const i)) (row .tree) i (row .kind) (omega (arith, row .operand, row .more))
+      comes-begun κ _ (begin-const T input r s (omega (arith, size-const i)) (row .tree) i (row .action) (omega (arith, row .operand, row .more))
       (comes-value κ _ (number-given follow i s (leaves-all _ _ s))))
 
   -- so is a name, with the number on its word
   sim-var : {g n : ℕ} (a : ℕ) → a < g → Sim g n numberValued (var a)
-  unfolding evaluate numberOr headOf kindNumber treeOf operandOf
+  unfolding evaluate numberOr headOf actionOf treeOf operandOf
   sim-var a bound p r w E s stands inside names words few agrees out κ follow =
       let row = own-row entry arity T p r (var a) stands in
       let found = level-found (E .numbers) a (omega (arith, agrees .numbers)) in
       rw (found .is)
-      (comes-begun κ _ (begin-var T input r s (omega (arith, size-var a)) (row .tree) a (row .kind) (row .operand)
+      (comes-begun κ _ (begin-var T input r s (omega (arith, size-var a)) (row .tree) a (row .action) (row .operand)
       (rw (agrees .held .each a (found .entry) (found .is)) (comes-value κ _ (number-given follow (found .entry) s (leaves-all _ _ s))))))
 
   -- the first number is kept while the second is found
   sim-add : {g n : ℕ} (x y : Expr) → Sim g n numberValued x → Sim g n numberValued y → Sim g n numberValued (add x y)
-  unfolding evaluate resultNumber wordsOf headOf kindNumber treeOf roleOf slotOf namesIn keepsIn casesIn
+  unfolding evaluate resultNumber wordsOf headOf actionOf treeOf roleOf slotOf namesIn keepsIn casesIn
   sim-add {g} x y sim-x sim-y p r w E s stands inside names words few agrees out κ follow =
       let row = own-row entry arity T p r (add x y) stands in
       let parts = add-parts entry arity T stands in
@@ -318,7 +318,7 @@ module _ (program : Program) (T input : List ℕ) (k : ℕ) where
       let least = words-least gs (suc w) y in
       let slot : ℕ = lastWord - p .keeps in
       comes-begun κ _
-      (begin-first T input r s (omega arith) (row .tree) 2 (row .kind) (omega arith) (omega arith)
+      (begin-first T input r s (omega arith) (row .tree) (row .action)
       (comes-next κ _ _
       (sim-x _ (suc r) w E s (parts .0) (omega arith) names words (omega arith) (agrees-left agrees (suc r) (omega arith) (leaves-all g 0 s)) out _
       (follows-number λ i s₁ left₁.
@@ -339,7 +339,7 @@ module _ (program : Program) (T input : List ℕ) (k : ℕ) where
 
   -- the test's number picks a part
   sim-ifZero : {g n : ℕ} {sort : Sort} (t z o : Expr) → Sim g n numberValued t → Sim g n sort z → Sim g n sort o → Sim g n sort (ifZero t z o)
-  unfolding evaluate resultNumber wordsOf headOf kindNumber treeOf roleOf namesIn keepsIn casesIn
+  unfolding evaluate resultNumber wordsOf headOf actionOf treeOf roleOf namesIn keepsIn casesIn
   sim-ifZero {g} {sort = sort} t z o sim-t sim-z sim-o p r w E s stands inside names words few agrees out κ follow =
       let row = own-row entry arity T p r (ifZero t z o) stands in
       let parts = ifZero-parts entry arity T stands in
@@ -369,14 +369,14 @@ module _ (program : Program) (T input : List ℕ) (k : ℕ) where
             (follows-passed sort (suc r + size t + size z) g (p .keeps) s₁ (row-o .role) (row-o .parent) (omega arith) (le-refl _) (le-refl _) left₁ follow))
       ] in
       comes-begun κ _
-      (begin-first T input r s (omega arith) (row .tree) 3 (row .kind) (omega arith) (omega arith)
+      (begin-first T input r s (omega arith) (row .tree) (row .action)
       (comes-next κ _ _
       (sim-t _ (suc r) w E s (parts .0) (omega arith) names words (omega arith) (agrees-left agrees (suc r) (omega arith) (leaves-all g 0 s)) out _
       (follows-number picks))))
 
   -- the number is named by the next word
   sim-let : {g n : ℕ} {sort : Sort} (x body : Expr) → Sim g n numberValued x → Sim (suc g) n sort body → Sim g n sort (letIn x body)
-  unfolding evaluate resultNumber wordsOf headOf kindNumber treeOf roleOf slotOf namesIn keepsIn casesIn
+  unfolding evaluate resultNumber wordsOf headOf actionOf treeOf roleOf slotOf namesIn keepsIn casesIn
   sim-let {g} {sort = sort} x body sim-x sim-body p r w E s stands inside names words few agrees out κ follow =
       let row = own-row entry arity T p r (letIn x body) stands in
       let parts = let-parts entry arity T stands in
@@ -385,7 +385,7 @@ module _ (program : Program) (T input : List ℕ) (k : ℕ) where
       let long = size-let x body in
       let least = words-least gs (suc w) body in
       comes-begun κ _
-      (begin-first T input r s (omega arith) (row .tree) 4 (row .kind) (omega arith) (omega arith)
+      (begin-first T input r s (omega arith) (row .tree) (row .action)
       (comes-next κ _ _
       (sim-x _ (suc r) w E s (parts .0) (omega arith) names words (omega arith) (agrees-left agrees (suc r) (omega arith) (leaves-all g 0 s)) out _
       (follows-number λ i s₁ left₁.
@@ -398,14 +398,14 @@ module _ (program : Program) (T input : List ℕ) (k : ℕ) where
 
   -- a leaf is written once its number is found
   sim-leaf : {g n : ℕ} (x : Expr) → Sim g n numberValued x → Sim g n treeValued (leafOf x)
-  unfolding evaluate resultNumber resultBytes wordsOf headOf kindNumber treeOf roleOf namesIn keepsIn casesIn
+  unfolding evaluate resultNumber resultBytes wordsOf headOf actionOf treeOf roleOf namesIn keepsIn casesIn
   sim-leaf {g} x sim-x p r w E s stands inside names words few agrees out κ follow =
       let row = own-row entry arity T p r (leafOf x) stands in
       let part = leaf-part entry arity T stands in
       let row-x = own-row entry arity T _ (suc r) x part in
       let long = size-leaf x in
       comes-begun κ _
-      (begin-first T input r s (omega arith) (row .tree) 5 (row .kind) (omega arith) (omega arith)
+      (begin-first T input r s (omega arith) (row .tree) (row .action)
       (comes-next κ _ _
       (sim-x _ (suc r) w E s part (omega arith) names words few (agrees-left agrees (suc r) (omega arith) (leaves-all g 0 s)) out _
       (follows-number λ i s₁ left₁.
@@ -413,7 +413,7 @@ module _ (program : Program) (T input : List ℕ) (k : ℕ) where
 
   -- the tag, then the two trees in order
   sim-node : {g n : ℕ} (x y : Expr) → Sim g n treeValued x → Sim g n treeValued y → Sim g n treeValued (nodeOf x y)
-  unfolding evaluate resultNumber resultTree resultBytes wordsOf headOf kindNumber treeOf roleOf namesIn keepsIn casesIn
+  unfolding evaluate resultNumber resultTree resultBytes wordsOf headOf actionOf treeOf roleOf namesIn keepsIn casesIn
   sim-node {g} x y sim-x sim-y p r w E s stands inside names words few agrees out κ follow =
       let row = own-row entry arity T p r (nodeOf x y) stands in
       let parts = node-parts entry arity T stands in
@@ -421,7 +421,7 @@ module _ (program : Program) (T input : List ℕ) (k : ℕ) where
       let row-y = own-row entry arity T _ (suc r + size x) y (parts .1) in
       let long = size-node x y in
       comes-begun κ _
-      (begin-pair T input r s (omega arith) (row .tree) (row .kind)
+      (begin-pair T input r s (omega arith) (row .tree) (row .action)
       (comes-next κ _ _
       (sim-x _ (suc r) w E s (parts .0) (omega arith) names words (omega arith) (agrees-left agrees (suc r) (omega arith) (leaves-all g 0 s))
       (out ++ (nodeTag ∷ [])) _
@@ -441,7 +441,7 @@ module _ (program : Program) (T input : List ℕ) (k : ℕ) where
   -- by the tree that is looked at: a leaf's label is named by the next word; a node's trees are named
   sim-case :
       {g n : ℕ} {sort : Sort} (a : ℕ) (x y : Expr) → a < n → Sim (suc g) n sort x → Sim g (suc (suc n)) sort y → Sim g n sort (caseOf a x y)
-  unfolding evaluate treeOr wordsOf headOf kindNumber treeOf operandOf roleOf namesIn keepsIn casesIn
+  unfolding evaluate treeOr wordsOf headOf actionOf treeOf operandOf roleOf namesIn keepsIn casesIn
   sim-case {g} {sort = sort} a x y bound sim-x sim-y p r w E s stands inside names words few agrees out κ follow =
       let found = level-found (E .trees) a (omega (arith, agrees .trees)) in
       on-tree (found .entry) (found .is)
@@ -474,7 +474,7 @@ module _ (program : Program) (T input : List ℕ) (k : ℕ) where
           (leaves-less g (p .keeps) (suc g) (p .keeps) s₁ s₂ (omega arith) (le-refl _) end-known) in
           rw is
           (comes-begun κ _
-          (begin-leaf T input (looked .place) r s (omega arith) (rw (row .tree) (looked .found s refl (agrees .cached))) g i (row .kind) (row .operand ∙ names)
+          (begin-leaf T input (looked .place) r s (omega arith) (rw (row .tree) (looked .found s refl (agrees .cached))) g i (row .action) (row .operand ∙ names)
           (there .within) (there .tag) (there .label)
           (sim-x _ (suc r) (suc w) (withNumber i E) s₂ (parts .0) (omega arith) (ap suc names) (omega arith) (omega arith)
           (agrees-left (agrees-number agrees i (suc r) (omega arith) (omega arith)) (suc r) (le-refl _) end-known) out κ
@@ -485,7 +485,7 @@ module _ (program : Program) (T input : List ℕ) (k : ℕ) where
           let long = size-case x y a in
           rw is
           (comes-begun κ _
-          (begin-node T input (looked .place) r s (omega arith) (rw (row .tree) (looked .found s refl (agrees .cached))) (suc r + size x) (row .kind)
+          (begin-node T input (looked .place) r s (omega arith) (rw (row .tree) (looked .found s refl (agrees .cached))) (suc r + size x) (row .action)
           (there .0) (there .1) (row-x .behind)
           (sim-y _ (suc r + size x) w (withTrees l u E) s (parts .1) (omega arith) names words (omega arith)
           (agrees-trees agrees a l u (suc r + size x) (omega arith) (row .tree) is) out κ
@@ -555,7 +555,7 @@ module _ (program : Program) (T input : List ℕ) (k : ℕ) where
       {out : List ℕ} {o : Outcome Told} (place r : ℕ) (xs : Args) (s : State)
       → r < mostRecords
       → Found T input s (treeAt T r) place
-      → kindAt T r ≡ 8
+      → actionAt T r ≡ callsFunction
       → moreAt T r ≡ countArgs xs
       → Comes T input out (turnOf xs r (suc r) s) o
       → Comes T input out (begin r s) (begins o)
@@ -579,7 +579,7 @@ module _ (program : Program) (T input : List ℕ) (k : ℕ) where
       → countArgs xs ≡ f .parameters
       → SimArgs g n (f .parameters) xs
       → Sim g n (f .sort) (call a b xs)
-  unfolding evaluate treeOr headOf kindNumber treeOf operandOf moreOf
+  unfolding evaluate treeOr headOf actionOf treeOf operandOf moreOf
   sim-call {g} a b f xs calls bound known counted sim-xs p r w E s stands inside names words few agrees out κ follow =
       let row = own-row entry arity T p r (call a b xs) stands in
       let args = call-args entry arity T stands in
@@ -595,7 +595,7 @@ module _ (program : Program) (T input : List ℕ) (k : ℕ) where
       let slots : 0 < f .parameters → slotAt T (suc r) ≡ lastWord - (p .keeps + 0) = λ some-there. first-slot p a b r xs (omega arith) args in
       rw (named .is)
       (comes-begun κ _
-      (call-begins (looked .place) r xs s (omega arith) (found s refl (agrees .cached)) (row .kind) (row .more ∙ its ∙ sym counted)
+      (call-begins (looked .place) r xs s (omega arith) (found s refl (agrees .cached)) (row .action) (row .more ∙ its ∙ sym counted)
       (comes-next κ _ _
       (sim-xs p a b r 0 (suc r) w E s [] args (omega arith) names (omega arith) (omega arith) (omega arith) refl (record { each = λ c i e. none-there c i e })
       (agrees-left agrees (suc r) (omega arith) (leaves-all g 0 s)) out _

@@ -9,8 +9,9 @@ use lib.Dec.{eqb}
 use lib.ListN.{length, getD}
 use Rattle.formats.specs.Numbers.{sum32, numberAt}
 use Rattle.formats.specs.Tokens.{leaf, leafTag, nodeTag, leafBytes, tokens}
+use Rattle.stepwise.specs.Rows.{givesConstant, givesNamed, tagsNode, looksAtTree, callsFunction}
 use Rattle.stepwise.specs.Rows.{whole, kept, added, tested, passed, labelled, followed, lastArgument}
-use Rattle.stepwise.specs.Steps.{State, begin, through, opens, ended, deep, stuck, kindAt, operandAt, moreAt, roleAt, parentAt, slotAt, behindAt}
+use Rattle.stepwise.specs.Steps.{State, begin, through, opens, ended, deep, stuck, actionAt, operandAt, moreAt, roleAt, parentAt, slotAt, behindAt}
 use Rattle.stepwise.specs.Steps.{wordAt, withWord, withEnd, framed, mostWaiting, looking, beginning, saidFirst, knownAfter, closing, following, rising}
 use Rattle.stepwise.specs.Steps.{saidLast, opening}
 
@@ -21,18 +22,18 @@ off k m n e h = ap (λ i. eqb i n) e ∙ h
 -- ---- a record begins
 
 module _ (T input : List ℕ) (p r : ℕ) (s : State) where
-  pub begins-const : kindAt T r ≡ 0 → beginning T input p r s ≡ through r (operandAt T r + 65536 * moreAt T r) s
+  pub begins-const : actionAt T r ≡ givesConstant → beginning T input p r s ≡ through r (operandAt T r + 65536 * moreAt T r) s
   unfolding beginning
   begins-const k = simp (beginning, eq-eqb _ _ k)
 
-  pub begins-var : kindAt T r ≡ 1 → beginning T input p r s ≡ through r (wordAt s (operandAt T r)) s
+  pub begins-var : actionAt T r ≡ givesNamed → beginning T input p r s ≡ through r (wordAt s (operandAt T r)) s
   unfolding beginning
   begins-var k = simp (beginning, off _ 1 0 k refl, eq-eqb _ _ k)
 
   -- a Case looks at its tree
-  pub begins-case : kindAt T r ≡ 7 → beginning T input p r s ≡ looking T input p r s
+  pub begins-case : actionAt T r ≡ looksAtTree → beginning T input p r s ≡ looking T input p r s
   unfolding beginning
-  begins-case k = simp (beginning, off _ 7 0 k refl, off _ 7 1 k refl, eq-eqb _ _ k)
+  begins-case k = simp (beginning, off _ 4 0 k refl, off _ 4 1 k refl, eq-eqb _ _ k)
 
   pub looks-leaf : p < length input → getD input p 0 ≡ leafTag
       → looking T input p r s ≡ begin (suc r) (withEnd (withWord s (operandAt T r) (numberAt 4 input (suc p))) p (p + leafBytes))
@@ -47,32 +48,32 @@ module _ (T input : List ℕ) (p r : ℕ) (s : State) where
   unfolding looking
   looks-past past = simp (looking, le-ltb _ _ past)
 
-  pub begins-leaf : kindAt T r ≡ 7 → p < length input → getD input p 0 ≡ leafTag
+  pub begins-leaf : actionAt T r ≡ looksAtTree → p < length input → getD input p 0 ≡ leafTag
       → beginning T input p r s ≡ begin (suc r) (withEnd (withWord s (operandAt T r) (numberAt 4 input (suc p))) p (p + leafBytes))
   begins-leaf k there tag = rw (begins-case k) (looks-leaf there tag)
 
-  pub begins-node : kindAt T r ≡ 7 → p < length input → getD input p 0 ≢ leafTag → beginning T input p r s ≡ begin (behindAt T (suc r)) s
+  pub begins-node : actionAt T r ≡ looksAtTree → p < length input → getD input p 0 ≢ leafTag → beginning T input p r s ≡ begin (behindAt T (suc r)) s
   begins-node k there tag = rw (begins-case k) (looks-node there tag)
 
-  pub begins-bare : kindAt T r ≡ 8 → moreAt T r ≡ 0 → beginning T input p r s ≡ opens r s
+  pub begins-bare : actionAt T r ≡ callsFunction → moreAt T r ≡ 0 → beginning T input p r s ≡ opens r s
   unfolding beginning
-  begins-bare k none = simp (beginning, off _ 8 0 k refl, off _ 8 1 k refl, off _ 8 7 k refl, eq-eqb _ _ k, eq-eqb _ _ none)
+  begins-bare k none = simp (beginning, off _ 5 0 k refl, off _ 5 1 k refl, off _ 5 4 k refl, eq-eqb _ _ k, eq-eqb _ _ none)
 
-  pub begins-args : kindAt T r ≡ 8 → moreAt T r ≢ 0 → beginning T input p r s ≡ begin (suc r) s
+  pub begins-args : actionAt T r ≡ callsFunction → moreAt T r ≢ 0 → beginning T input p r s ≡ begin (suc r) s
   unfolding beginning
-  begins-args k some = simp (beginning, off _ 8 0 k refl, off _ 8 1 k refl, off _ 8 7 k refl, eq-eqb _ _ k, ne-eqb _ _ some)
+  begins-args k some = simp (beginning, off _ 5 0 k refl, off _ 5 1 k refl, off _ 5 4 k refl, eq-eqb _ _ k, ne-eqb _ _ some)
 
-  -- the five kinds whose first part begins
-  pub begins-first : kindAt T r ≢ 0 → kindAt T r ≢ 1 → kindAt T r ≢ 7 → kindAt T r ≢ 8 → beginning T input p r s ≡ begin (suc r) s
+  -- all else: the first part begins
+  pub begins-first : actionAt T r ≢ givesConstant → actionAt T r ≢ givesNamed → actionAt T r ≢ looksAtTree → actionAt T r ≢ callsFunction → beginning T input p r s ≡ begin (suc r) s
   unfolding beginning
   begins-first a b c d = simp (beginning, ne-eqb _ _ a, ne-eqb _ _ b, ne-eqb _ _ c, ne-eqb _ _ d)
 
 -- what is written
-pub said-node : (T : List ℕ) (r : ℕ) → kindAt T r ≡ 6 → saidFirst T r ≡ nodeTag ∷ []
+pub said-node : (T : List ℕ) (r : ℕ) → actionAt T r ≡ tagsNode → saidFirst T r ≡ nodeTag ∷ []
 unfolding saidFirst
 said-node T r k = simp (saidFirst, eq-eqb _ _ k)
 
-pub said-nothing : (T : List ℕ) (r : ℕ) → kindAt T r ≢ 6 → saidFirst T r ≡ []
+pub said-nothing : (T : List ℕ) (r : ℕ) → actionAt T r ≢ tagsNode → saidFirst T r ≡ []
 unfolding saidFirst
 said-nothing T r k = simp (saidFirst, ne-eqb _ _ k)
 

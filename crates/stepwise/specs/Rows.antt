@@ -64,17 +64,42 @@ pub record Place : Type 0 where
 abbrev pub lastWord : ℕ
 lastWord = 15
 
--- The kind's number in document 01's table.
-unfoldable pub kindNumber : Kind → ℕ
-kindNumber (Const i) = 0
-kindNumber (Var a) = 1
-kindNumber Add = 2
-kindNumber IfZero = 3
-kindNumber Let = 4
-kindNumber Leaf = 5
-kindNumber Node = 6
-kindNumber (Case a) = 7
-kindNumber (Call a b) = 8
+-- ---- what a record does when it begins
+
+-- It gives its constant: Const.
+abbrev pub givesConstant : ℕ
+givesConstant = 0
+
+-- It gives a named number: Var.
+abbrev pub givesNamed : ℕ
+givesNamed = 1
+
+-- Its first part begins: Add, IfZero, Let, Leaf.
+abbrev pub entersPart : ℕ
+entersPart = 2
+
+-- A node's tag is written, and its first part begins: Node.
+abbrev pub tagsNode : ℕ
+tagsNode = 3
+
+-- It looks at a tree, and the part for that kind of tree begins: Case.
+abbrev pub looksAtTree : ℕ
+looksAtTree = 4
+
+-- Its first argument begins, or the call opens where there is none: Call.
+abbrev pub callsFunction : ℕ
+callsFunction = 5
+
+unfoldable pub actionOf : Kind → ℕ
+actionOf (Const i) = givesConstant
+actionOf (Var a) = givesNamed
+actionOf Add = entersPart
+actionOf IfZero = entersPart
+actionOf Let = entersPart
+actionOf Leaf = entersPart
+actionOf Node = tagsNode
+actionOf (Case a) = looksAtTree
+actionOf (Call a b) = callsFunction
 
 -- What stands in place of a tree name: 0 for the frame's own tree, 2c + 1 for the left tree and 2c + 2 for the right one of the tree that the Case at
 -- record c looks at. Names count along the path: the frame's tree, then two for each Case in whose node part the record stands.
@@ -204,7 +229,7 @@ module _ (entry arity : ℕ → ℕ) where
   -- The row of a record whose expression ends before record `behind`.
   abbrev pub rowOf : Place → ℕ → Kind → List ℕ
   rowOf p behind kind =
-      kindNumber kind ∷ operandOf p kind ∷ treeOf p kind ∷ moreOf kind ∷ p .role ∷ p .parent ∷ p .slot ∷ behind ∷ []
+      actionOf kind ∷ operandOf p kind ∷ treeOf p kind ∷ moreOf kind ∷ p .role ∷ p .parent ∷ p .slot ∷ behind ∷ []
 
   -- The rows of the expression at record r, in prefix order.
   unfoldable mutual

@@ -12,6 +12,7 @@ use lib.ListN.{length, getD, set, drop}
 use Rattle.formats.specs.Numbers.{sum32, numberAt}
 use Rattle.formats.specs.Results.{done}
 use Rattle.formats.specs.Tokens.{leaf, leafTag, nodeTag, leafBytes, tokens, firstEnd}
+use Rattle.stepwise.specs.Rows.{givesConstant, givesNamed, tagsNode, looksAtTree, callsFunction}
 use Rattle.stepwise.specs.Rows.{rowWords, whole, kept, added, tested, passed, labelled, followed}
 
 -- Words of a frame.
@@ -55,8 +56,8 @@ pub data Turn : Type 0 where
 abbrev pub field : List ℕ → ℕ → ℕ → ℕ
 field T r f = getD T (rowWords * r + f) 0
 
-abbrev pub kindAt : List ℕ → ℕ → ℕ
-kindAt T r = field T r 0
+abbrev pub actionAt : List ℕ → ℕ → ℕ
+actionAt T r = field T r 0
 
 abbrev pub operandAt : List ℕ → ℕ → ℕ
 operandAt T r = field T r 1
@@ -143,19 +144,19 @@ looking T input p r s =
       | false ↦ stuck
     ]
 
--- Const and Var are through; a Case looks at its tree, at place p; a Call without arguments opens; else the first part begins.
+-- By the record's action: a number is given; a tree is looked at, at place p; a call without arguments opens; else the first part begins.
 unfoldable pub beginning : List ℕ → List ℕ → ℕ → ℕ → State → Turn
 beginning T input p r s =
-    elim (eqb (kindAt T r) 0) [
+    elim (eqb (actionAt T r) givesConstant) [
       | true ↦ through r (operandAt T r + 65536 * moreAt T r) s
       | false ↦
-          elim (eqb (kindAt T r) 1) [
+          elim (eqb (actionAt T r) givesNamed) [
             | true ↦ through r (wordAt s (operandAt T r)) s
             | false ↦
-                elim (eqb (kindAt T r) 7) [
+                elim (eqb (actionAt T r) looksAtTree) [
                   | true ↦ looking T input p r s
                   | false ↦
-                      elim (eqb (kindAt T r) 8) [
+                      elim (eqb (actionAt T r) callsFunction) [
                         | true ↦ elim (eqb (moreAt T r) 0) [ true ↦ opens r s | false ↦ begin (suc r) s ]
                         | false ↦ begin (suc r) s
                       ]
@@ -165,7 +166,7 @@ beginning T input p r s =
 
 -- A node's tag is written when it begins.
 unfoldable pub saidFirst : List ℕ → ℕ → List ℕ
-saidFirst T r = elim (eqb (kindAt T r) 6) [ true ↦ nodeTag ∷ [] | false ↦ [] ]
+saidFirst T r = elim (eqb (actionAt T r) tagsNode) [ true ↦ nodeTag ∷ [] | false ↦ [] ]
 
 -- ---- a record is through
 

@@ -26,7 +26,8 @@ use Rattle.meaning.proofs.Outcomes.{given, comes-value, gives-not}
 use Rattle.stepwise.specs.Comes.{Told, told}
 use Rattle.source.specs.declared.SourceAnswer.{SourceAnswer}
 use Rattle.source.specs.declared.Walked.{Walked}
-use Rattle.source.specs.Stages.{countLimit, Counts}
+use Rattle.result_bytes.specs.Bytes.{countLimit}
+use Rattle.source.specs.Stages.{Counts}
 use Rattle.source.specs.Walks.{Tells, tells-value, tells-stop, Walks}
 use Rattle.source.specs.Answers.{answered, Gave, Named, toldResult, tellSteps, Room, Always, Evaluates}
 

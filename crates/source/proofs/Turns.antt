@@ -1,7 +1,7 @@
 -- Turns: what holds of a stage goes on holding, step after step. A law for each way out of the functions that take several steps.
 use Prim.Native.Nat.{ℕ, _+_, _-_, _*_, _≤_, _<_}
 use mathlib.Core.Bool.{Bool, true, false}
-use mathlib.Core.List.{List, _++_}
+use mathlib.Core.List.{List, [], _++_}
 use mathlib.Core.Logic.{_≢_}
 use mathlib.Core.Path.{_≡_, refl, sym, ap, _∙_}
 use native.Mathlib.Decide.{decLe}
@@ -15,10 +15,17 @@ use Rattle.meaning.specs.OpenCalls.{Outcome, begins}
 use Rattle.stepwise.specs.Steps.{State, begin, through, opens, ended, deep, stuck, Found, mostRecords, treeAt, beginning, saidFirst, rising, saidLast, weight, opening}
 use Rattle.stepwise.proofs.Steps.{off}
 use Rattle.stepwise.specs.Comes.{Told, Comes, at-begin, at-through, at-open}
-use Rattle.source.specs.declared.Stage.{Stage}
-use Rattle.source.specs.Stages.{isThrough, toOpen, isStuck, stateOf, turnOf, staged, withWritten, weightOf, countLimit, counted, Counts}
-use Rattle.source.specs.Walks.{Begins, Rises, Opens, Says, Holding, Leads, Climbs, BeginsOne, OpensOne, Turns}
-use Rattle.source.proofs.Stages.{turn-begin, turn-through, turn-open}
+use Rattle.stages.specs.declared.Stage.{Stage}
+use Rattle.stages.specs.Stages.{isThrough, toOpen, isStuck, stateOf, turnOf, staged, withWritten}
+use Rattle.stages.proofs.Stages.{turn-begin, turn-through, turn-open, turn-written, reached-turn, reached-written}
+use Rattle.begin_record.specs.Begins.{Begins}
+use Rattle.begin_record.proofs.Begins.{begins-turn}
+use Rattle.finish_record.specs.Rises.{Rises}
+use Rattle.open_call.specs.Opens.{Opens}
+use Rattle.open_call.proofs.Opens.{opens-turn, opens-settled}
+use Rattle.result_bytes.specs.Bytes.{countLimit, counted, Says}
+use Rattle.source.specs.Stages.{weightOf, Counts}
+use Rattle.source.specs.Walks.{Holding, Leads, Climbs, BeginsOne, OpensOne, Turns}
 
 -- ---- what a turn comes to
 
@@ -91,11 +98,6 @@ wrote-more output₀ output output′ at out bytes c short before w fits =
 long-written : (s s′ : List ℕ) (p : ℕ) (vs : List ℕ) → s′ ≡ written s p vs → length s′ ≡ length s
 long-written s s′ p vs e = ap length e ∙ wrote s p vs .same-length
 
--- the bytes written are no matter of what is to be done next
-turn-written : (values places : List ℕ) (s : Stage) (at : ℕ) → turnOf values places (withWritten s at) ≡ turnOf values places s
-unfolding turnOf
-turn-written values places s at = refl
-
 -- with these bytes more, the next turn comes to what is left
 module _ (T input output₀ output output′ values values′ places places′ : List ℕ) (s n : Stage) (at : ℕ) (bytes : List ℕ) where
   held : (o rest : Outcome Told) (h : Holding T input output₀ output values places s o)
@@ -128,9 +130,9 @@ begin-one T input output output′ values values′ s n at said b₁ =
             begun = b .begun;
             holds =
                 held T input output₀ output output′ values values′ places places s n at (saidFirst T (s .node)) o (b .rest) h said
-                (rw (b₁ .is places (b .place) (b .few) (b .found)) (b .comes));
+                (rw (begins-turn T input values values′ places s n (b .place) b₁ (b .few) (b .found)) (b .comes));
           };
-      long-values = b₁ .quiet .long;
+      long-values = b₁ .is [] .words-long;
       long-output = long-written output output′ (s .written) (saidFirst T (s .node)) (said .wrote);
     }
 
@@ -175,6 +177,10 @@ module _ (T input places : List ℕ) where
       (said : Says (saidLast T (s .node) (s .number)) output output′ (s .written) at)
       (rises : Rises T input values values′ places s n)
     where
+      -- the turn after
+      after-it : turnOf values′ places n ≡ rising T input (s .node) (s .number) (stateOf values places s)
+      after-it = reached-turn _ values values′ places places s n (rises .is)
+
       -- the turn before
       before : (output₀ : List ℕ) (o : Outcome Told) (h : Holding T input output₀ output values places s o)
           → RisesFrom T input (h .out) (s .node) (s .number) (stateOf values places s) o
@@ -186,8 +192,8 @@ module _ (T input places : List ℕ) where
             holds = λ output₀ o h₁.
                 let h = leads .holds output₀ o h₁ in
                 held T input output₀ output output′ values values′ places places s n at (saidLast T (s .node) (s .number)) o o h said
-                (rw (rises .is) (before output₀ o h .comes));
-            long-values = rises .quiet .long ∙ leads .long-values;
+                (rw after-it (before output₀ o h .comes));
+            long-values = rises .is .words-long ∙ leads .long-values;
             long-output = long-written output output′ (s .written) (saidLast T (s .node) (s .number)) (said .wrote) ∙ leads .long-output;
           }
 
@@ -206,7 +212,7 @@ module _ (T input places : List ℕ) where
                       let old : weight (through (s .node) (s .number) (stateOf values places s)) ≡ weightOf s =
                       ap weight (sym (turn-through values places s through-it)) ∙ weight-turn values places s in
                       let new : weight (rising T input (s .node) (s .number) (stateOf values places s)) ≡ weightOf n =
-                      ap weight (sym (rises .is)) ∙ weight-turn values′ places n in
+                      ap weight (sym after-it) ∙ weight-turn values′ places n in
                       absurd (omega arith);
                   long-values = climb-more .long-values;
                   long-output = climb-more .long-output;
@@ -230,7 +236,7 @@ pub climb-long-values : (T input places output₁ output values₁ values values
     → Leads T input places output₁ output values₁ values start s
     → Rises T input values values′ places s n
     → length values′ ≡ length values₁
-climb-long-values T input places output₁ output values₁ values values′ start s n leads rises = rises .quiet .long ∙ leads .long-values
+climb-long-values T input places output₁ output values₁ values values′ start s n leads rises = rises .is .words-long ∙ leads .long-values
 
 pub ruleset climb-lengths = (climb-long-output, climb-long-values)
 
@@ -247,15 +253,15 @@ module _ (T input values places : List ℕ) (s : Stage) where
             let c = comes-open T input (rw (turn-open values places s mode) at (h .comes)) in
             record {
               out = h .out;
-              comes = rw (o .is (c .place) (c .few) (c .found)) (c .comes);
-              counts = rw (o .quiet .written) (h .counts);
+              comes = rw (opens-turn T input values values′ places places′ s r (c .place) o (c .few) (c .found)) (c .comes);
+              counts = rw (reached-written _ values values′ places places′ s r (o .is)) (h .counts);
               wrote = h .wrote;
               long = h .long;
               short = h .short;
             };
-        long-values = o .quiet .long;
-        long-places = o .long;
-        settled = λ m. o .settled;
+        long-values = o .is .words-long;
+        long-places = o .is .returns-long;
+        settled = λ m. opens-settled T input values values′ places places′ s r o;
       }
 
   pub open-none : s .mode ≢ toOpen → OpensOne T input values values places places s s

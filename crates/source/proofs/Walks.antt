@@ -15,11 +15,13 @@ use Rattle.formats.proofs.Written.{written-none}
 use Rattle.meaning.specs.OpenCalls.{Outcome, gives, stops, begins, after, within}
 use Rattle.stepwise.specs.Steps.{State, Turn, begin, ended, deep, stuck}
 use Rattle.stepwise.specs.Comes.{Told, told, Comes, at-begin, at-end, at-deep}
-use Rattle.source.specs.declared.Stage.{Stage}
+use Rattle.stages.specs.declared.Stage.{Stage}
+use Rattle.stages.specs.Stages.{toBegin, isThrough, toOpen, hasEnded, tooDeep, turnOf}
+use Rattle.stages.proofs.Stages.{turn-begin, turn-ended, turn-deep, turn-none}
+use Rattle.result_bytes.specs.Bytes.{countLimit}
 use Rattle.source.specs.declared.Walked.{Walked}
-use Rattle.source.specs.Stages.{toBegin, isThrough, toOpen, hasEnded, tooDeep, turnOf, countLimit, Counts, finished}
+use Rattle.source.specs.Stages.{Counts, finished}
 use Rattle.source.specs.Walks.{Holding, Turns, Tells, tells-value, tells-stop, Walks}
-use Rattle.source.proofs.Stages.{turn-begin, turn-ended, turn-deep, turn-none}
 
 -- ---- fuel
 

@@ -20,7 +20,7 @@ use Rattle.meaning.specs.SourceRun.{SourceAnswer as Due}
 use Rattle.meaning.specs.WorkWords.{beforeSource, WorkWords}
 use Rattle.stepwise.specs.Steps.{begin}
 use Rattle.stepwise.specs.Comes.{Told, Comes}
-use Rattle.source.specs.Stages.{countLimit}
+use Rattle.result_bytes.specs.Bytes.{countLimit}
 use Rattle.source.specs.declared.SourceAnswer.{SourceAnswer}
 
 -- The answer, as document 01 has it.

@@ -7,63 +7,13 @@ use lib.ListN.{length}
 use Rattle.formats.specs.Refusals.{fuelUsedUp, tooManyCalls}
 use Rattle.formats.specs.Written.{written}
 use Rattle.meaning.specs.OpenCalls.{Outcome, gives, stops, begins, after, within}
-use Rattle.stepwise.specs.Steps.{State, Found, begin, mostRecords, treeAt, behindAt, looking, beginning, knownAfter, closing, following, rising, opening}
+use Rattle.stepwise.specs.Steps.{begin}
 use Rattle.stepwise.specs.Comes.{Told, told, Comes}
-use Rattle.source.specs.declared.Stage.{Stage}
+use Rattle.stages.specs.declared.Stage.{Stage}
+use Rattle.stages.specs.Stages.{turnOf, toBegin, isThrough, toOpen}
+use Rattle.result_bytes.specs.Bytes.{countLimit}
 use Rattle.source.specs.declared.Walked.{Walked}
-use Rattle.source.specs.Stages.{stateOf, turnOf, counted, countLimit, Counts, toBegin, isThrough, toOpen}
-
--- The place of the tree of a code, in every state with this own tree and this known end.
-pub record FoundAt (T input : List ℕ) (own known end code r : ℕ) : Type 0 where
-  pub is : (s : State) → s .tree ≡ own → s .known ≡ known → s .end ≡ end → (p : ℕ) → Found T input s code p → r ≡ p
-
--- ---- one step
-
--- The value words keep their length, and nothing is written.
-pub record Quiet (values values′ : List ℕ) (s r : Stage) : Type 0 where
-  pub long : length values′ ≡ length values
-  pub written : r .written ≡ s .written
-
-pub record Looks (T input values values′ : List ℕ) (s r : Stage) : Type 0 where
-  pub is : (places : List ℕ) (p : ℕ) → Found T input (stateOf values places s) (treeAt T (s .node)) p
-      → turnOf values′ places r ≡ looking T input p (s .node) (stateOf values places s)
-  pub quiet : Quiet values values′ s r
-
-pub record Begins (T input values values′ : List ℕ) (s r : Stage) : Type 0 where
-  pub is : (places : List ℕ) (p : ℕ) → s .node < mostRecords → Found T input (stateOf values places s) (treeAt T (s .node)) p
-      → turnOf values′ places r ≡ beginning T input p (s .node) (stateOf values places s)
-  pub quiet : Quiet values values′ s r
-
-pub record Knows (T input : List ℕ) (r own : ℕ) (s : Stage) (k : ℕ) : Type 0 where
-  pub is : (values places : List ℕ) → k ≡ knownAfter T input r own (stateOf values places s)
-
-pub record Closes (T input places : List ℕ) (s r : Stage) : Type 0 where
-  pub is : (values : List ℕ) → turnOf values places r ≡ closing T input (s .number) (stateOf values places s)
-  pub written : r .written ≡ s .written
-
-pub record Picks (T : List ℕ) (s : Stage) (r : ℕ) : Type 0 where
-  pub zero-part : s .number ≡ 0 → r ≡ behindAt T (s .node)
-  pub other-part : s .number ≢ 0 → r ≡ behindAt T (behindAt T (s .node))
-
-pub record Follows (T values values′ : List ℕ) (s r : Stage) : Type 0 where
-  pub is : (places : List ℕ) → turnOf values′ places r ≡ following T (s .node) (s .number) (stateOf values places s)
-  pub quiet : Quiet values values′ s r
-
-pub record Rises (T input values values′ places : List ℕ) (s r : Stage) : Type 0 where
-  pub is : turnOf values′ places r ≡ rising T input (s .node) (s .number) (stateOf values places s)
-  pub quiet : Quiet values values′ s r
-
-pub record Opens (T input values values′ places places′ : List ℕ) (s r : Stage) : Type 0 where
-  pub is : (p : ℕ) → s .node < mostRecords → Found T input (stateOf values places s) (treeAt T (s .node)) p
-      → turnOf values′ places′ r ≡ opening T p (s .node) (stateOf values places s)
-  pub quiet : Quiet values values′ s r
-  pub long : length places′ ≡ length places
-  pub settled : (r .mode ≢ isThrough) × (r .mode ≢ toOpen)
-
--- These bytes are written at a place, where they fit, and counted.
-pub record Says (bytes output output′ : List ℕ) (at r : ℕ) : Type 0 where
-  pub wrote : output′ ≡ written output at bytes
-  pub count : r ≡ counted at (length bytes)
+use Rattle.source.specs.Stages.{Counts}
 
 -- ---- turns
 

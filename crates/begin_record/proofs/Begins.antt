@@ -1,0 +1,218 @@
+-- A record begins: a law for each way out of the functions, and what it is to the steps.
+use Prim.Native.Nat.{ℕ, suc, _+_, _*_, _≤_, _<_}
+use mathlib.Core.List.{List}
+use mathlib.Core.Logic.{_≢_}
+use mathlib.Core.Path.{_≡_, refl, sym, ap, ap₂, _∙_}
+use native.Mathlib.Numerals.{add-one}
+use borrow.Author.Tests.{lt-ltb, le-ltb}
+use lib.ListN.{length, getD, set, length-set}
+use Rattle.formats.specs.Numbers.{numberAt}
+use Rattle.formats.specs.Tokens.{leafTag, leafBytes}
+use Rattle.stepwise.specs.Rows.{givesConstant, givesNamed, looksAtTree, callsFunction}
+use Rattle.stepwise.specs.Steps.{State, begin, stuck, actionAt, operandAt, treeAt, moreAt, behindAt, frameWords, mostRecords, Found, beginning}
+use Rattle.stepwise.proofs.Steps.{looks-leaf, looks-node, looks-past, begins-const, begins-var, begins-case, begins-bare, begins-args, begins-first}
+use Rattle.stages.specs.declared.Stage.{Stage}
+use Rattle.stages.specs.Stages.{toBegin, isThrough, toOpen, isStuck, stateOf, turnOf, staged, stageOf, wordsOf, placesOf, Reaches}
+use Rattle.stages.proofs.Stages.{reached-turn, reach-begin, reach-through, reach-open, reach-stuck}
+use Rattle.named_trees.specs.Places.{placeOf, namedBy}
+use Rattle.named_trees.proofs.Places.{found-place}
+use Rattle.begin_record.specs.Begins.{begun, Begins, Looks}
+
+-- ---- `put_label`, `named_number`
+
+module _ (l : List ℕ) (base slot f : ℕ) (is : f ≡ slot) where
+  pub label-put : (k : List ℕ) (x y : ℕ) → x ≡ y → k ≡ set l (base + f) x → k ≡ set l (base + slot) y
+  label-put k x y same e = e ∙ ap₂ (λ j z. set l (base + j) z) is same
+
+  pub slot-there : (x : ℕ) → x ≡ getD l (base + f) 0 → x ≡ getD l (base + slot) 0
+  slot-there x e = e ∙ ap (λ j. getD l (base + j) 0) is
+
+pub ruleset slots = (label-put, slot-there)
+
+-- ---- `look`
+
+module _ (T input values : List ℕ) (s : Stage) (q : ℕ) (found : q ≡ placeOf T input (s .tree) (s .known) (s .end) (treeAt T (s .node))) where
+  -- The next record begins, and the end of the leaf at q is known.
+  abbrev leafStage : ℕ → Stage
+  leafStage r =
+      record {
+        mode = toBegin;
+        node = r;
+        number = 0;
+        calls = s .calls;
+        tree = s .tree;
+        known = q;
+        end = q + leafBytes;
+        written = s .written;
+      }
+
+  pub look-past : (r : Stage) → length input ≤ q → r ≡ staged s isStuck (s .node) 0 → Looks T input values values s r
+  look-past r past e =
+      rw e (record { is = λ places. rw (← found, looks-past T input q (s .node) (stateOf values places s) past) (reach-stuck values places s) })
+
+  pub look-leaf :
+      (values′ : List ℕ)
+      → q < length input
+      → getD input q 0 ≡ leafTag
+      → values′ ≡ set values (frameWords * s .calls + operandAt T (s .node)) (numberAt 4 input (q + 1))
+      → Looks T input values values′ s (leafStage (s .node + 1))
+  unfolding stageOf wordsOf placesOf
+  look-leaf values′ there tag put =
+      rw (put, add-one (s .node), add-one q)
+      (record {
+        is = λ places.
+            rw (← found, looks-leaf T input q (s .node) (stateOf values places s) there tag)
+            (record {
+              stage = refl;
+              words = refl;
+              returns = refl;
+              words-long = length-set values (frameWords * s .calls + operandAt T (s .node)) (numberAt 4 input (suc q));
+              returns-long = refl;
+            });
+      })
+
+  pub look-node :
+      (b : ℕ) (r : Stage)
+      → q < length input
+      → getD input q 0 ≢ leafTag
+      → b ≡ behindAt T (s .node + 1)
+      → r ≡ staged s toBegin b 0
+      → Looks T input values values s r
+  look-node b r there tag eb e =
+      rw (e, eb, add-one (s .node))
+      (record {
+        is = λ places.
+            rw (← found, looks-node T input q (s .node) (stateOf values places s) there tag)
+            (reach-begin values places s (behindAt T (suc (s .node))));
+      })
+
+pub ruleset looks = (look-past, look-leaf, look-node)
+
+-- ---- `begin`
+
+module _ (T input : List ℕ) (r : ℕ) (s : State) where
+  begun-in : r < mostRecords → begun T input r s ≡ beginning T input (namedBy T input r s) r s
+  unfolding begun
+  begun-in few = simp (begun, lt-ltb _ _ few)
+
+  begun-past : mostRecords ≤ r → begun T input r s ≡ stuck
+  unfolding begun
+  begun-past past = simp (begun, le-ltb _ _ past)
+
+module _ (T input values : List ℕ) (s : Stage) where
+  pub begin-past : (r : Stage) → mostRecords ≤ s .node → r ≡ staged s isStuck (s .node) 0 → Begins T input values values s r
+  begin-past r past e =
+      rw e (record { is = λ places. rw (begun-past T input (s .node) (stateOf values places s) past) (reach-stuck values places s) })
+
+  module _ (few : s .node < mostRecords) (k : ℕ) (action : k ≡ actionAt T (s .node)) where
+    -- The place in front of the record, whatever the return words hold.
+    abbrev at : List ℕ → ℕ
+    at places = namedBy T input (s .node) (stateOf values places s)
+
+    pub begin-const :
+        (x : ℕ) (r : Stage)
+        → k ≡ givesConstant
+        → x ≡ operandAt T (s .node) + 65536 * moreAt T (s .node)
+        → r ≡ staged s isThrough (s .node) x
+        → Begins T input values values s r
+    begin-const x r is ex e =
+        rw (e, ex)
+        (record {
+          is = λ places.
+              rw (begun-in T input (s .node) (stateOf values places s) few, begins-const T input (at places) (s .node) (stateOf values places s) (sym action ∙ is))
+              (reach-through values places s (s .node) (operandAt T (s .node) + 65536 * moreAt T (s .node)));
+        })
+
+    pub begin-var :
+        (x : ℕ) (r : Stage)
+        → k ≡ givesNamed
+        → x ≡ getD values (frameWords * s .calls + operandAt T (s .node)) 0
+        → r ≡ staged s isThrough (s .node) x
+        → Begins T input values values s r
+    begin-var x r is ex e =
+        rw (e, ex)
+        (record {
+          is = λ places.
+              rw (begun-in T input (s .node) (stateOf values places s) few, begins-var T input (at places) (s .node) (stateOf values places s) (sym action ∙ is))
+              (reach-through values places s (s .node) (getD values (frameWords * s .calls + operandAt T (s .node)) 0));
+        })
+
+    pub begin-case : (values′ : List ℕ) (r : Stage) → k ≡ looksAtTree → Looks T input values values′ s r → Begins T input values values′ s r
+    begin-case values′ r is looked =
+        record {
+          is = λ places.
+              rw (begun-in T input (s .node) (stateOf values places s) few, begins-case T input (at places) (s .node) (stateOf values places s) (sym action ∙ is))
+              (looked .is places);
+        }
+
+    pub begin-bare :
+        (m : ℕ) (r : Stage)
+        → k ≡ callsFunction
+        → m ≡ moreAt T (s .node)
+        → m ≡ 0
+        → r ≡ staged s toOpen (s .node) 0
+        → Begins T input values values s r
+    begin-bare m r is em none e =
+        rw e
+        (record {
+          is = λ places.
+              rw (
+                begun-in T input (s .node) (stateOf values places s) few,
+                begins-bare T input (at places) (s .node) (stateOf values places s) (sym action ∙ is) (sym em ∙ none),
+              )
+              (reach-open values places s (s .node));
+        })
+
+    -- the first part begins
+    first-part : (r : Stage)
+        → ((places : List ℕ) → beginning T input (at places) (s .node) (stateOf values places s) ≡ begin (suc (s .node)) (stateOf values places s))
+        → r ≡ staged s toBegin (s .node + 1) 0
+        → Begins T input values values s r
+    first-part r begins e =
+        rw (e, add-one (s .node))
+        (record {
+          is = λ places.
+              rw (begun-in T input (s .node) (stateOf values places s) few, begins places) (reach-begin values places s (suc (s .node)));
+        })
+
+    pub begin-args :
+        (m : ℕ) (r : Stage)
+        → k ≡ callsFunction
+        → m ≡ moreAt T (s .node)
+        → m ≢ 0
+        → r ≡ staged s toBegin (s .node + 1) 0
+        → Begins T input values values s r
+    begin-args m r is em some e =
+        first-part r
+        (λ places. begins-args T input (at places) (s .node) (stateOf values places s) (sym action ∙ is) (rw em at some))
+        e
+
+    pub begin-first :
+        (r : Stage)
+        → k ≢ givesConstant
+        → k ≢ givesNamed
+        → k ≢ looksAtTree
+        → k ≢ callsFunction
+        → r ≡ staged s toBegin (s .node + 1) 0
+        → Begins T input values values s r
+    begin-first r a b c d e =
+        first-part r
+        (λ places.
+        begins-first T input (at places) (s .node) (stateOf values places s) (rw action at a) (rw action at b) (rw action at c) (rw action at d))
+        e
+
+pub ruleset beginnings = (begin-past, begin-const, begin-var, begin-case, begin-bare, begin-args, begin-first)
+
+-- ---- the steps
+
+-- where the steps find the tree, the record begins as they say
+pub begins-turn :
+    (T input values values′ places : List ℕ) (s n : Stage) (p : ℕ)
+    → Begins T input values values′ s n
+    → s .node < mostRecords
+    → Found T input (stateOf values places s) (treeAt T (s .node)) p
+    → turnOf values′ places n ≡ beginning T input p (s .node) (stateOf values places s)
+begins-turn T input values values′ places s n p b few found =
+    reached-turn _ values values′ places places s n (b .is places)
+    ∙ begun-in T input (s .node) (stateOf values places s) few
+    ∙ ap (λ q. beginning T input q (s .node) (stateOf values places s)) (found-place T input (stateOf values places s) found)

@@ -1,0 +1,2 @@
+-- Laws for the functions by which a record begins.
+pub mod Begins

@@ -1,0 +1,118 @@
+// A record of a program begins, in the source run: what comes of it.
+use stages::Stage;
+ghost use Prim.Native.Nat.{_+_, _*_, _<_};
+ghost use mathlib.Core.Path.{_≡_};
+ghost use lib.ListN.{getD, set};
+ghost use Rattle.formats.specs.Numbers.{numberAt};
+ghost use Rattle.stepwise.specs.Steps.{operandAt, moreAt, frameWords, mostRecords};
+ghost use Rattle.begin_record.specs.Begins.{Looks, Begins};
+
+// Fields of a row.
+const ACTION: u16 = 0;
+
+const OPERAND: u16 = 1;
+
+const MORE: u16 = 3;
+
+const BEHIND: u16 = 7;
+
+// What a record does when it begins, where that is not to enter its first part alone.
+const GIVES_CONSTANT: u16 = 0;
+
+const GIVES_NAMED: u16 = 1;
+
+const LOOKS_AT_TREE: u16 = 4;
+
+const CALLS_FUNCTION: u16 = 5;
+
+// Records are numbered below.
+const MOST_RECORDS: u16 = 2048;
+
+// What is to be done next.
+const BEGIN: u32 = 0;
+
+const THROUGH: u32 = 1;
+
+const OPEN: u32 = 2;
+
+const STUCK: u32 = 5;
+
+const LEAF_TAG: u8 = 1;
+
+const LEAF_BYTES: usize = 5;
+
+// The number of a Const.
+fn constant(table: &[u16], r: u16) -> u32
+    ensures { λ x. ⌜ x ≡ operandAt (now (table .entry)) r + 65536 * moreAt (now (table .entry)) r ⌝ }
+{
+    (frames::field(table, r, OPERAND) as u32) + 65536 * (frames::field(table, r, MORE) as u32)
+}
+
+// Puts the label that begins at a place on the word that the stage's Case names it by.
+fn put_label(table: &[u16], input: &[u8], at: usize, values: &mut [u32], s: Stage)
+    ensures { λ _. ⌜ now (values .exit) ≡ set (now (values .entry)) (frameWords * s .calls + operandAt (now (table .entry)) (s .node)) (numberAt 4 (now (input .entry)) at) ⌝ }
+{
+    let label = words32::read32(input, at);
+    frames::put_frame(
+        values,
+        s.calls,
+        frames::field(table, s.node, OPERAND),
+        label,
+    )
+}
+
+// A Case looks at its tree: a label is put on its word, and the leaf part begins; or the node part does.
+fn look(table: &[u16], input: &[u8], values: &mut [u32], s: Stage) -> Stage
+    requires { ⌜ s .node < mostRecords ⌝ }
+    ensures { λ r. ⌜ Looks (now (table .entry)) (now (input .entry)) (now (values .entry)) (now (values .exit)) s r ⌝ }
+{
+    let r = s.node;
+    let p = named_trees::named_place(table, input, s);
+    if input.len() <= p {
+        return stages::staged_at(s, STUCK, r, 0);
+    }
+    if input[p] == LEAF_TAG {
+        put_label(table, input, p + 1, values, s);
+        return Stage {
+            mode: BEGIN,
+            node: r + 1,
+            number: 0,
+            calls: s.calls,
+            tree: s.tree,
+            known: p,
+            end: p + LEAF_BYTES,
+            written: s.written,
+        };
+    }
+    stages::staged_at(s, BEGIN, frames::field(table, r + 1, BEHIND), 0)
+}
+
+// The number that a Var names.
+fn named_number(table: &[u16], values: &[u32], s: Stage) -> u32
+    ensures { λ r. ⌜ r ≡ getD (now (values .entry)) (frameWords * s .calls + operandAt (now (table .entry)) (s .node)) 0 ⌝ }
+{
+    frames::frame_word(values, s.calls, frames::field(table, s.node, OPERAND))
+}
+
+// What comes of a record that begins, by its action: a number is given; a tree is looked at; a call without arguments opens; else the first part
+// begins.
+pub fn begin(table: &[u16], input: &[u8], values: &mut [u32], s: Stage) -> Stage
+    ensures { λ r. ⌜ Begins (now (table .entry)) (now (input .entry)) (now (values .entry)) (now (values .exit)) s r ⌝ }
+{
+    let r = s.node;
+    if MOST_RECORDS <= r {
+        return stages::staged_at(s, STUCK, r, 0);
+    }
+    match frames::field(table, r, ACTION) {
+        GIVES_CONSTANT => stages::staged_at(s, THROUGH, r, constant(table, r)),
+        GIVES_NAMED => stages::staged_at(s, THROUGH, r, named_number(table, values, s)),
+        LOOKS_AT_TREE => look(table, input, values, s),
+        CALLS_FUNCTION => {
+            if frames::field(table, r, MORE) == 0 {
+                return stages::staged_at(s, OPEN, r, 0);
+            }
+            stages::staged_at(s, BEGIN, r + 1, 0)
+        }
+        _ => stages::staged_at(s, BEGIN, r + 1, 0),
+    }
+}

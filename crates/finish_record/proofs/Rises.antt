@@ -1,0 +1,287 @@
+-- A record is through: a law for each way out of the functions.
+use Prim.Native.Nat.{ℕ, suc, _+_, _-_, _*_, _/_, _%_, _≤_, _<_}
+use mathlib.Core.Bool.{Bool, true, false, _&&_}
+use mathlib.Core.List.{List}
+use mathlib.Core.Logic.{_≢_}
+use mathlib.Core.Path.{_≡_, refl, sym, ap, _∙_}
+use native.Mathlib.Numerals.{add-one}
+use native.Mathlib.Decide.{decLe}
+use native.Mathlib.Omega.{arith}
+use borrow.Author.Tests.{eq-eqb, ne-eqb, lt-ltb, le-ltb}
+use lib.Dec.{eqb, ltb}
+use lib.ListN.{length, getD, set}
+use Rattle.formats.specs.Numbers.{sum32}
+use Rattle.formats.specs.Tokens.{nodeTag}
+use Rattle.stepwise.specs.Rows.{whole, kept, added, tested, passed, labelled, followed}
+use Rattle.stepwise.specs.Steps.{begin, treeAt, roleAt, parentAt, slotAt, behindAt, frameWords, onRight, knownAfter}
+use Rattle.stepwise.proofs.Steps.{closes-first, closes-waiting, rises-whole, rises-kept, rises-added, rises-zero, rises-other, rises-on}
+use Rattle.stepwise.proofs.Steps.{follows-passed, follows-labelled, follows-followed, follows-last}
+use Rattle.words.proofs.Bytes.{byte-cut}
+use Rattle.stages.specs.declared.Stage.{Stage}
+use Rattle.stages.specs.Stages.{toBegin, isThrough, toOpen, hasEnded, stateOf, staged, stageOf, wordsOf, placesOf, Reaches}
+use Rattle.stages.proofs.Stages.{reach-begin, reach-through, reach-open, reach-ended, put-begin, put-open}
+use Rattle.finish_record.specs.Rises.{Knows, Closes, Picks, Follows, Rises}
+
+-- ---- `return_at`
+
+pub ruleset words = (byte-cut)
+
+-- ---- `on_right`, `known_after`
+
+-- both hold, or not
+both-true : {a b : Bool} → a ≡ true → b ≡ true → (a && b) ≡ true
+both-true e f = rw (e, f)
+
+first-false : (a b : Bool) → a ≡ false → (a && b) ≡ false
+first-false a b e = rw e
+
+then-false : (a b : Bool) → b ≡ false → (a && b) ≡ false
+then-false true b e = e
+then-false false b e = refl
+
+module _ (T input : List ℕ) (r own code : ℕ) (is : code ≡ treeAt T r) where
+  -- the tests behind the first and the second
+  abbrev deeper : Bool
+  deeper = ltb own (length input) && eqb (getD input own 0) nodeTag
+
+  pub right-odd : code % 2 ≢ 0 → false ≡ onRight T input r own
+  unfolding onRight
+  right-odd h = sym (rw (onRight, ← is) (first-false (eqb (code % 2) 0) _ (ne-eqb _ _ h)))
+
+  pub right-own : code ≡ 0 → false ≡ onRight T input r own
+  unfolding onRight
+  right-own e =
+      sym (rw (onRight, ← is) (then-false (eqb (code % 2) 0) _ (first-false (ltb 0 code) _ (le-ltb 0 code (omega arith)))))
+
+  module _ (outer : ℕ) (inner : outer ≡ treeAt T ((code - 1) / 2)) where
+    pub right-deeper : outer ≢ 0 → false ≡ onRight T input r own
+    unfolding onRight
+    right-deeper h =
+        sym
+        (rw (onRight, ← is, ← inner)
+        (then-false (eqb (code % 2) 0) _ (then-false (ltb 0 code) _ (first-false (eqb outer 0) deeper (ne-eqb _ _ h)))))
+
+    pub right-past : length input ≤ own → false ≡ onRight T input r own
+    unfolding onRight
+    right-past h =
+        sym
+        (rw (onRight, ← is, ← inner)
+        (then-false (eqb (code % 2) 0) _ (then-false (ltb 0 code) _ (then-false (eqb outer 0) deeper (first-false (ltb own (length input)) _ (le-ltb _ _ h))))))
+
+    pub right-tag : code % 2 ≡ 0 → code ≢ 0 → outer ≡ 0 → own < length input → eqb (getD input own 0) nodeTag ≡ onRight T input r own
+    unfolding onRight
+    right-tag even some none there =
+        let first : eqb (code % 2) 0 ≡ true = eq-eqb _ _ even in
+        let second : ltb 0 code ≡ true = lt-ltb 0 code (omega arith) in
+        let third : eqb outer 0 ≡ true = eq-eqb _ _ none in
+        let fourth : ltb own (length input) ≡ true = lt-ltb _ _ there in
+        sym (rw (onRight, ← is, ← inner, first, second, third, fourth))
+
+pub ruleset rights = (right-odd, right-own, right-deeper, right-past, right-tag)
+
+module _ (T input : List ℕ) (r own : ℕ) (s : Stage) where
+  pub knows-other : s .known ≢ s .tree → Knows T input r own s (s .known)
+  unfolding knownAfter
+  knows-other h =
+      record {
+        is = λ values places.
+            let none : (eqb (s .known) (s .tree) && onRight T input r own) ≡ false = first-false _ (onRight T input r own) (ne-eqb _ _ h) in
+            sym (rw (knownAfter, none));
+      }
+
+  module _ (same : s .known ≡ s .tree) (b : Bool) (is : b ≡ onRight T input r own) where
+    pub knows-node : b ≡ true → Knows T input r own s own
+    unfolding knownAfter
+    knows-node e =
+        record {
+          is = λ values places.
+              let both : (eqb (s .known) (s .tree) && onRight T input r own) ≡ true = both-true (eq-eqb _ _ same) (sym is ∙ e) in
+              sym (rw (knownAfter, both));
+        }
+
+    pub knows-still : b ≡ false → Knows T input r own s (s .known)
+    unfolding knownAfter
+    knows-still e =
+        record {
+          is = λ values places.
+              let none : (eqb (s .known) (s .tree) && onRight T input r own) ≡ false = then-false (eqb (s .known) (s .tree)) _ (sym is ∙ e) in
+              sym (rw (knownAfter, none));
+        }
+
+pub ruleset knowing = (knows-other, knows-node, knows-still)
+
+-- ---- `close`
+
+module _ (T input places : List ℕ) (s : Stage) where
+  pub close-first : (r : Stage) → s .calls ≡ 0 → r ≡ staged s hasEnded 0 (s .number) → Closes T input places s r
+  close-first r none e =
+      rw e
+      (record { is = λ values. rw (closes-first T input (s .number) (stateOf values places s) none) (reach-ended values places s (s .number)) })
+
+  pub close-waiting :
+      (a b k : ℕ)
+      → s .calls ≢ 0
+      → a ≡ getD places (2 * (s .calls - 1)) 0
+      → b ≡ getD places (2 * (s .calls - 1) + 1) 0
+      → Knows T input (a % 65536) b s k
+      → Closes T input places s
+      (record {
+        mode = isThrough;
+        node = a % 65536;
+        number = s .number;
+        calls = s .calls - 1;
+        tree = b;
+        known = k;
+        end = s .end;
+        written = s .written;
+      })
+  unfolding stageOf wordsOf placesOf
+  close-waiting a b k some ea eb knows =
+      let n = s .calls - 1 in
+      let later : s .calls ≡ suc n = omega arith in
+      let there : b ≡ getD places (suc (2 * n)) 0 = eb ∙ ap (λ i. getD places i 0) (add-one (2 * n)) in
+      record {
+        is = λ values.
+            rw (knows .is values places, there, ea, closes-waiting T input (s .number) n (stateOf values places s) later)
+            (record { stage = refl; words = refl; returns = refl; words-long = refl; returns-long = refl });
+      }
+
+pub ruleset closes = (close-first, close-waiting)
+
+-- ---- `keep`, `sum_kept`
+
+module _ (l : List ℕ) (base slot f : ℕ) (is : f ≡ slot) where
+  pub slot-put : (k : List ℕ) (x : ℕ) → k ≡ set l (base + f) x → k ≡ set l (base + slot) x
+  slot-put k x e = e ∙ ap (λ j. set l (base + j) x) is
+
+  pub slot-summed : (left x sum : ℕ) → left ≡ getD l (base + f) 0 → sum ≡ sum32 left x → sum ≡ sum32 (getD l (base + slot) 0) x
+  slot-summed left x sum e s = s ∙ ap (λ j. sum32 j x) (e ∙ ap (λ j. getD l (base + j) 0) is)
+
+pub ruleset slots = (slot-put, slot-summed)
+
+-- ---- `picked`
+
+module _ (T : List ℕ) (s : Stage) where
+  pub pick-zero : (b : ℕ) → b ≡ behindAt T (s .node) → s .number ≡ 0 → Picks T s b
+  pick-zero b eb z = record { zero-part = λ z. eb; other-part = λ o. absurd (o z) }
+
+  pub pick-other : (b c : ℕ) → b ≡ behindAt T (s .node) → s .number ≢ 0 → c ≡ behindAt T b → Picks T s c
+  pick-other b c eb o ec = record { zero-part = λ z. absurd (o z); other-part = λ o. ec ∙ ap (behindAt T) eb }
+
+pub ruleset picks = (pick-zero, pick-other)
+
+-- ---- `follow`, `rise`
+
+module _ (T values : List ℕ) (s : Stage) (k : ℕ) (role : k ≡ roleAt T (s .node)) where
+  pub follow-passed : (p : ℕ) (r : Stage) → k ≡ passed → p ≡ parentAt T (s .node) → r ≡ staged s isThrough p (s .number) → Follows T values values s r
+  follow-passed p r is ep e =
+      rw (e, ep)
+      (record {
+        is = λ places.
+            rw (follows-passed T (s .node) (s .number) (stateOf values places s) (sym role ∙ is)) (reach-through values places s (parentAt T (s .node)) (s .number));
+      })
+
+  pub follow-labelled : (p : ℕ) (r : Stage) → k ≡ labelled → p ≡ parentAt T (s .node) → r ≡ staged s isThrough p 0 → Follows T values values s r
+  follow-labelled p r is ep e =
+      rw (e, ep)
+      (record {
+        is = λ places.
+            rw (follows-labelled T (s .node) (s .number) (stateOf values places s) (sym role ∙ is)) (reach-through values places s (parentAt T (s .node)) 0);
+      })
+
+  pub follow-followed : (b : ℕ) (r : Stage) → k ≡ followed → b ≡ behindAt T (s .node) → r ≡ staged s toBegin b 0 → Follows T values values s r
+  follow-followed b r is eb e =
+      rw (e, eb)
+      (record {
+        is = λ places.
+            rw (follows-followed T (s .node) (s .number) (stateOf values places s) (sym role ∙ is)) (reach-begin values places s (behindAt T (s .node)));
+      })
+
+  pub follow-last :
+      (p : ℕ) (values′ : List ℕ) (r : Stage)
+      → k ≢ passed
+      → k ≢ labelled
+      → k ≢ followed
+      → p ≡ parentAt T (s .node)
+      → values′ ≡ set values (frameWords * s .calls + slotAt T (s .node)) (s .number)
+      → r ≡ staged s toOpen p 0
+      → Follows T values values′ s r
+  follow-last p values′ r a b c ep put e =
+      rw (e, ep, put)
+      (record {
+        is = λ places.
+            rw (follows-last T (s .node) (s .number) (stateOf values places s) (rw role at a) (rw role at b) (rw role at c))
+            (put-open values places s (frameWords * s .calls + slotAt T (s .node)) (s .number) (parentAt T (s .node)));
+      })
+
+  module _ (input places : List ℕ) where
+    pub rise-whole : (r : Stage) → k ≡ whole → Closes T input places s r → Rises T input values values places s r
+    rise-whole r is closed =
+        record { is = rw (rises-whole T input (s .node) (s .number) (stateOf values places s) (sym role ∙ is)) (closed .is values) }
+
+    pub rise-kept :
+        (b : ℕ) (values′ : List ℕ) (r : Stage)
+        → k ≡ kept
+        → values′ ≡ set values (frameWords * s .calls + slotAt T (s .node)) (s .number)
+        → b ≡ behindAt T (s .node)
+        → r ≡ staged s toBegin b 0
+        → Rises T input values values′ places s r
+    rise-kept b values′ r is put eb e =
+        rw (e, eb, put)
+        (record {
+          is =
+              rw (rises-kept T input (s .node) (s .number) (stateOf values places s) (sym role ∙ is))
+              (put-begin values places s (frameWords * s .calls + slotAt T (s .node)) (s .number) (behindAt T (s .node)));
+        })
+
+    pub rise-added :
+        (p x : ℕ) (r : Stage)
+        → k ≡ added
+        → x ≡ sum32 (getD values (frameWords * s .calls + slotAt T (s .node)) 0) (s .number)
+        → p ≡ parentAt T (s .node)
+        → r ≡ staged s isThrough p x
+        → Rises T input values values places s r
+    rise-added p x r is ex ep e =
+        rw (e, ep, ex)
+        (record {
+          is =
+              rw (rises-added T input (s .node) (s .number) (stateOf values places s) (sym role ∙ is))
+              (reach-through values places s (parentAt T (s .node)) (sum32 (getD values (frameWords * s .calls + slotAt T (s .node)) 0) (s .number)));
+        })
+
+    pub rise-tested : (b : ℕ) (r : Stage) → k ≡ tested → Picks T s b → r ≡ staged s toBegin b 0 → Rises T input values values places s r
+    rise-tested b r is picks e =
+        let at : roleAt T (s .node) ≡ tested = sym role ∙ is in
+        rw e
+        (record {
+          is =
+              elim (decLe (s .number) 0) [
+                | yes z ↦
+                    let none : s .number ≡ 0 = omega arith in
+                    rw (picks .zero-part none, rises-zero T input (s .node) (s .number) (stateOf values places s) at none)
+                    (reach-begin values places s (behindAt T (s .node)))
+                | no o ↦
+                    let some : s .number ≢ 0 = λ e. absurd (omega arith) in
+                    rw (picks .other-part some, rises-other T input (s .node) (s .number) (stateOf values places s) at some)
+                    (reach-begin values places s (behindAt T (behindAt T (s .node))))
+              ];
+        })
+
+    pub rise-on :
+        (values′ : List ℕ) (r : Stage)
+        → k ≢ whole
+        → k ≢ kept
+        → k ≢ added
+        → k ≢ tested
+        → Follows T values values′ s r
+        → Rises T input values values′ places s r
+    rise-on values′ r a b c d follows =
+        record {
+          is =
+              rw (rises-on T input (s .node) (s .number) (stateOf values places s) (rw role at a) (rw role at b) (rw role at c) (rw role at d))
+              (follows .is places);
+        }
+
+pub ruleset followings = (follow-passed, follow-labelled, follow-followed, follow-last)
+
+pub ruleset risings = (rise-whole, rise-kept, rise-added, rise-tested, rise-on)

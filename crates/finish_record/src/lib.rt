@@ -1,0 +1,180 @@
+// A record of a program is through, in the source run: what comes of its value.
+use stages::Stage;
+ghost use Prim.Native.Nat.{_+_, _*_};
+ghost use mathlib.Core.Path.{_≡_};
+ghost use lib.ListN.{getD, set};
+ghost use Rattle.formats.specs.Numbers.{sum32};
+ghost use Rattle.stepwise.specs.Steps.{slotAt, frameWords, onRight};
+ghost use Rattle.finish_record.specs.Rises.{Knows, Closes, Picks, Follows, Rises};
+
+// Fields of a row.
+const TREE: u16 = 2;
+
+const ROLE: u16 = 4;
+
+const PARENT: u16 = 5;
+
+const SLOT: u16 = 6;
+
+const BEHIND: u16 = 7;
+
+// What a part is to the record that it is part of; the last argument of a call is none of these.
+const WHOLE: u16 = 0;
+
+const KEPT: u16 = 1;
+
+const ADDED: u16 = 2;
+
+const TESTED: u16 = 3;
+
+const PASSED: u16 = 4;
+
+const LABELLED: u16 = 5;
+
+const FOLLOWED: u16 = 6;
+
+// What is to be done next.
+const BEGIN: u32 = 0;
+
+const THROUGH: u32 = 1;
+
+const OPEN: u32 = 2;
+
+const ENDED: u32 = 3;
+
+const NODE_TAG: u8 = 2;
+
+// A return word; 0 where there is none.
+fn return_at(places: &[u64], i: usize) -> u64
+    ensures { λ r. ⌜ r ≡ getD (now (places .entry)) i 0 ⌝ }
+{
+    if i < places.len() {
+        return places[i];
+    }
+    0
+}
+
+// Whether the Call at record r is on the right tree of a node that is its frame's own tree, at place `own`.
+fn on_right(table: &[u16], input: &[u8], r: u16, own: usize) -> bool
+    ensures { λ b. ⌜ b ≡ onRight (now (table .entry)) (now (input .entry)) r own ⌝ }
+{
+    let code = frames::field(table, r, TREE);
+    if code % 2 != 0 {
+        return false;
+    }
+    if code == 0 {
+        return false;
+    }
+    if frames::field(table, (code - 1) / 2, TREE) != 0 {
+        return false;
+    }
+    if input.len() <= own {
+        return false;
+    }
+    input[own] == NODE_TAG
+}
+
+// The place of the tree whose end is known once the call closes that the Call at record r opened, in a frame whose own tree is at `own`: with the end of
+// a node's right tree the node's is known.
+fn known_after(table: &[u16], input: &[u8], r: u16, own: usize, s: Stage) -> usize
+    ensures { λ k. ⌜ Knows (now (table .entry)) (now (input .entry)) r own s k ⌝ }
+{
+    if s.known != s.tree {
+        return s.known;
+    }
+    if on_right(table, input, r, own) {
+        return own;
+    }
+    s.known
+}
+
+// The call that waits goes on, with the number of the one that closes; the first frame is the last.
+fn close(table: &[u16], input: &[u8], places: &[u64], s: Stage) -> Stage
+    ensures { λ r. ⌜ Closes (now (table .entry)) (now (input .entry)) (now (places .entry)) s r ⌝ }
+{
+    if s.calls == 0 {
+        return stages::staged_at(s, ENDED, 0, s.number);
+    }
+    let n = s.calls - 1;
+    let i = 2 * (n as usize);
+    let r = (return_at(places, i) % 65536) as u16;
+    let own = return_at(places, i + 1) as usize;
+    Stage {
+        mode: THROUGH,
+        node: r,
+        number: s.number,
+        calls: n,
+        tree: own,
+        known: known_after(table, input, r, own, s),
+        end: s.end,
+        written: s.written,
+    }
+}
+
+// The number of a record that is through, put on its word.
+fn keep(table: &[u16], values: &mut [u32], s: Stage)
+    ensures { λ _. ⌜ now (values .exit) ≡ set (now (values .entry)) (frameWords * s .calls + slotAt (now (table .entry)) (s .node)) (s .number) ⌝ }
+{
+    frames::put_frame(
+        values,
+        s.calls,
+        frames::field(table, s.node, SLOT),
+        s.number,
+    )
+}
+
+// The number of a record that is through, added to the one kept.
+fn sum_kept(table: &[u16], values: &[u32], s: Stage) -> u32
+    ensures { λ r. ⌜ r ≡ sum32 (getD (now (values .entry)) (frameWords * s .calls + slotAt (now (table .entry)) (s .node)) 0) (s .number) ⌝ }
+{
+    let left = frames::frame_word(values, s.calls, frames::field(table, s.node, SLOT));
+    numbers::add32(left, s.number)
+}
+
+// The record of the part that IfZero takes: the zero part is behind the test, the other part behind that.
+fn picked(table: &[u16], s: Stage) -> u16
+    ensures { λ r. ⌜ Picks (now (table .entry)) s r ⌝ }
+{
+    let zero_part = frames::field(table, s.node, BEHIND);
+    if s.number == 0 {
+        return zero_part;
+    }
+    frames::field(table, zero_part, BEHIND)
+}
+
+// What comes of a part whose value is the whole's, a leaf's label, or Node's left tree, after which the next part begins; the last argument else, after which
+// the call opens.
+fn follow(table: &[u16], values: &mut [u32], s: Stage) -> Stage
+    ensures { λ r. ⌜ Follows (now (table .entry)) (now (values .entry)) (now (values .exit)) s r ⌝ }
+{
+    let parent = frames::field(table, s.node, PARENT);
+    match frames::field(table, s.node, ROLE) {
+        PASSED => stages::staged_at(s, THROUGH, parent, s.number),
+        LABELLED => stages::staged_at(s, THROUGH, parent, 0),
+        FOLLOWED => stages::staged_at(s, BEGIN, frames::field(table, s.node, BEHIND), 0),
+        _ => {
+            keep(table, values, s);
+            stages::staged_at(s, OPEN, parent, 0)
+        }
+    }
+}
+
+// What comes of a record that is through, by what it is to its parent: a function's body, a number that is put on a word before the next part begins, Add's
+// second part, IfZero's test, or one of those that `follow` has.
+pub fn rise(table: &[u16], input: &[u8], values: &mut [u32], places: &[u64], s: Stage) -> Stage
+    ensures { λ r. ⌜ Rises (now (table .entry)) (now (input .entry)) (now (values .entry)) (now (values .exit)) (now (places .entry)) s r ⌝ }
+{
+    match frames::field(table, s.node, ROLE) {
+        WHOLE => close(table, input, places, s),
+        KEPT => {
+            keep(table, values, s);
+            stages::staged_at(s, BEGIN, frames::field(table, s.node, BEHIND), 0)
+        }
+        ADDED => {
+            let sum = sum_kept(table, values, s);
+            stages::staged_at(s, THROUGH, frames::field(table, s.node, PARENT), sum)
+        }
+        TESTED => stages::staged_at(s, BEGIN, picked(table, s), 0),
+        _ => follow(table, values, s),
+    }
+}

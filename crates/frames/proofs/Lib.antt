@@ -1,0 +1,2 @@
+-- Laws for the functions over fields and words.
+pub mod Laws

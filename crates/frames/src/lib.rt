@@ -1,0 +1,50 @@
+// The fields of a program's rows, and the words of frames, for the source run.
+ghost use Prim.Native.Nat.{_+_, _*_};
+ghost use mathlib.Core.Path.{_≡_};
+ghost use lib.ListN.{getD, set};
+ghost use Rattle.stepwise.specs.Steps.{field as fieldOf, frameWords};
+
+// Words of a row.
+const ROW_WORDS: usize = 8;
+
+// Words of a frame.
+const FRAME_WORDS: usize = 16;
+
+// A field of a record's row; 0 where the table has none.
+pub fn field(table: &[u16], r: u16, f: u16) -> u16
+    ensures { λ x. ⌜ x ≡ fieldOf (now (table .entry)) r f ⌝ }
+{
+    let i = ROW_WORDS * (r as usize) + (f as usize);
+    if i < table.len() {
+        return table[i];
+    }
+    0
+}
+
+// The place of a frame's word.
+fn word_place(calls: u16, slot: u16) -> usize
+    ensures { λ r. ⌜ r ≡ frameWords * calls + slot ⌝ }
+{
+    FRAME_WORDS * (calls as usize) + (slot as usize)
+}
+
+// A word of a frame; 0 where there is none.
+pub fn frame_word(values: &[u32], calls: u16, slot: u16) -> u32
+    ensures { λ r. ⌜ r ≡ getD (now (values .entry)) (frameWords * calls + slot) 0 ⌝ }
+{
+    let i = word_place(calls, slot);
+    if i < values.len() {
+        return values[i];
+    }
+    0
+}
+
+// Puts a number on a frame's word, if there is one.
+pub fn put_frame(values: &mut [u32], calls: u16, slot: u16, x: u32)
+    ensures { λ _. ⌜ now (values .exit) ≡ set (now (values .entry)) (frameWords * calls + slot) x ⌝ }
+{
+    let i = word_place(calls, slot);
+    if i < values.len() {
+        values[i] = x;
+    }
+}

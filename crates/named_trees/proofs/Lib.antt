@@ -1,0 +1,3 @@
+-- Laws for the function that finds a named tree.
+pub mod Ends
+pub mod Places

@@ -1,0 +1,2 @@
+-- Where named trees begin.
+pub mod Places

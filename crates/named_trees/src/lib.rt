@@ -1,0 +1,62 @@
+// Where the tree begins that a record of a program names, in a frame of the source run.
+use stages::Stage;
+use tree::TreeAnswer;
+ghost use mathlib.Core.Path.{_≡_};
+ghost use Rattle.stepwise.specs.Steps.{treeAt};
+ghost use Rattle.named_trees.specs.Places.{partAt, placeOf};
+
+// The field of a row that has the tree's code.
+const TREE: u16 = 2;
+
+// Where a tree of the node at place `node` begins: the left one for an even j, else the right one. The tree at `known` ends at `end`; of another left tree
+// the end is looked for.
+fn part_of(input: &[u8], known: usize, end: usize, node: usize, j: u16) -> usize
+    ensures { λ r. ⌜ r ≡ partAt (now (input .entry)) known end node j ⌝ }
+{
+    if input.len() <= node {
+        return 0;
+    }
+    let left = node + 1;
+    if j % 2 == 0 {
+        return left;
+    }
+    if left == known {
+        return end;
+    }
+    let bytes = &input[left..];
+    let found = tree::tree_answer(bytes);
+    match found {
+        TreeAnswer::Refused(why, place) => 0,
+        TreeAnswer::Tree(length) => {
+            if bytes.len() < length {
+                return 0;
+            }
+            left + length
+        }
+    }
+}
+
+// Where the tree of this code begins, in a frame whose own tree is at `own`: 0 is that tree, 2c + 1 the left tree and 2c + 2 the right one of the tree
+// that the Case at record c looks at. The code falls at each call, and the Cases are nested.
+fn place_of(table: &[u16], input: &[u8], own: usize, known: usize, end: usize, code: u16) -> usize
+    ensures { λ r. ⌜ r ≡ placeOf (now (table .entry)) (now (input .entry)) own known end code ⌝ }
+{
+    if code == 0 {
+        return own;
+    }
+    let j = code - 1;
+    let outer = frames::field(table, j / 2, TREE);
+    if code <= outer {
+        return 0;
+    }
+    let node = place_of(table, input, own, known, end, outer);
+    part_of(input, known, end, node, j)
+}
+
+// Where the tree begins that the stage's record names.
+pub fn named_place(table: &[u16], input: &[u8], s: Stage) -> usize
+    ensures { λ r. ⌜ r ≡ placeOf (now (table .entry)) (now (input .entry)) (s .tree) (s .known) (s .end) (treeAt (now (table .entry)) (s .node)) ⌝ }
+{
+    let code = frames::field(table, s.node, TREE);
+    place_of(table, input, s.tree, s.known, s.end, code)
+}

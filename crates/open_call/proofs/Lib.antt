@@ -1,0 +1,2 @@
+-- Laws for the functions by which a call opens.
+pub mod Opens

@@ -1,0 +1,152 @@
+-- A call opens: a law for each way out of the functions, and what it is to the steps.
+use Prim.Native.Nat.{ℕ, suc, _+_, _-_, _*_, _≤_, _<_}
+use mathlib.Core.Bool.{Bool, true, false}
+use mathlib.Core.List.{List}
+use mathlib.Core.Logic.{_≢_}
+use mathlib.Core.Path.{_≡_, refl, sym, ap, ap₂, _∙_}
+use native.Mathlib.Numerals.{add-one}
+use native.Mathlib.Omega.{arith}
+use borrow.Author.Tests.{eqb-false, lt-ltb, le-ltb}
+use lib.Dec.{leb, ltb}
+use lib.ListN.{length, getD, set, length-set}
+use Rattle.stepwise.specs.Steps.{State, Turn, begin, deep, stuck, operandAt, treeAt, moreAt, slotAt, frameWords, mostRecords, mostWaiting, Found, copied, framed, opening}
+use Rattle.stepwise.proofs.Steps.{opens-deep, opens-frame}
+use Rattle.stepwise.proofs.Words.{copied-length}
+use Rattle.frames.proofs.Laws.{none-put}
+use Rattle.stages.specs.declared.Stage.{Stage}
+use Rattle.stages.specs.Stages.{toBegin, isThrough, toOpen, tooDeep, isStuck, stateOf, turnOf, staged, stageOf, wordsOf, placesOf, Reaches}
+use Rattle.stages.proofs.Stages.{reached-turn, reach-deep, reach-stuck}
+use Rattle.named_trees.specs.Places.{placeOf, namedBy}
+use Rattle.named_trees.proofs.Places.{found-place}
+use Rattle.open_call.specs.Opens.{opened, Opens}
+
+-- ---- `put_return`
+
+pub ruleset words = (none-put)
+
+-- ---- `copy`
+
+-- So many arguments are copied.
+pub record Copying (values₀ : List ℕ) (calls slot count : ℕ) (values : List ℕ) (n : ℕ) : Type 0 where
+  pub so-far : values ≡ copied values₀ (frameWords * calls) slot n
+  pub few : n ≤ count
+
+module _ (values₀ : List ℕ) (calls slot count : ℕ) where
+  pub copy-first : Copying values₀ calls slot count values₀ 0
+  unfolding copied
+  copy-first = record { so-far = refl; few = omega arith }
+
+  pub copy-more : (values values′ : List ℕ) (n d x : ℕ) → n < count → Copying values₀ calls slot count values n
+      → d ≡ slot - n
+      → x ≡ getD values (frameWords * calls + d) 0
+      → values′ ≡ set values (frameWords * (calls + 1) + n) x
+      → Copying values₀ calls slot count values′ (n + 1)
+  unfolding copied
+  copy-more values values′ n d x more c down is put =
+      let there : frameWords * (calls + 1) + n ≡ frameWords * calls + frameWords + n = omega arith in
+      record { so-far = rw (add-one n, put, there, is, down, c .so-far); few = omega arith }
+
+  pub copy-done : (values : List ℕ) (n : ℕ) → count ≤ n → Copying values₀ calls slot count values n → values ≡ copied values₀ (frameWords * calls) slot count
+  copy-done values n over c = let all : n ≡ count = omega (arith, c .few) in rw (← all) (c .so-far)
+
+  pub copy-long : (values : List ℕ) (n : ℕ) → Copying values₀ calls slot count values n → length values ≡ length values₀
+  copy-long values n c = ap length (c .so-far) ∙ copied-length values₀ (frameWords * calls) slot n
+
+pub ruleset copying = (copy-first, copy-more, copy-done, copy-long)
+
+-- ---- `pass_arguments`, `save`
+
+pub arguments-passed : (T l k : List ℕ) (base node f c : ℕ) → f ≡ slotAt T (node + 1) → c ≡ moreAt T node → k ≡ copied l base f c
+    → k ≡ copied l base (slotAt T (suc node)) (moreAt T node)
+arguments-passed T l k base node f c ef ec e =
+    let slot : f ≡ slotAt T (suc node) = ef ∙ ap (slotAt T) (add-one node) in
+    e ∙ ap₂ (λ i n. copied l base i n) slot ec
+
+pub both-saved : (l k m : List ℕ) (i x y : ℕ) → k ≡ set l i x → m ≡ set k (i + 1) y → m ≡ set (set l i x) (suc i) y
+both-saved l k m i x y e f = rw (← e, ← (add-one i)) f
+
+pub ruleset passing = (arguments-passed, both-saved)
+
+-- ---- `open`
+
+module _ (T input : List ℕ) (r : ℕ) (s : State) where
+  opened-in : r < mostRecords → opened T input r s ≡ opening T (namedBy T input r s) r s
+  unfolding opened
+  opened-in few = simp (opened, lt-ltb _ _ few)
+
+  opened-past : mostRecords ≤ r → opened T input r s ≡ stuck
+  unfolding opened
+  opened-past past = simp (opened, le-ltb _ _ past)
+
+module _ (T input values places : List ℕ) (s : Stage) where
+  pub open-past : (r : Stage) → mostRecords ≤ s .node → r ≡ staged s isStuck (s .node) 0 → Opens T input values values places places s r
+  open-past r past e = rw e (record { is = rw (opened-past T input (s .node) (stateOf values places s) past) (reach-stuck values places s) })
+
+  module _ (few : s .node < mostRecords) where
+    pub open-deep : (r : Stage) → mostWaiting ≤ s .calls → r ≡ staged s tooDeep (s .node) 0 → Opens T input values values places places s r
+    open-deep r full e =
+        rw e
+        (record {
+          is =
+              rw (
+                opened-in T input (s .node) (stateOf values places s) few,
+                opens-deep T (namedBy T input (s .node) (stateOf values places s)) (s .node) (stateOf values places s) full,
+              )
+              (reach-deep values places s (s .node));
+        })
+
+    pub open-frame :
+        (q f : ℕ) (values′ places′ : List ℕ)
+        → s .calls < mostWaiting
+        → q ≡ placeOf T input (s .tree) (s .known) (s .end) (treeAt T (s .node))
+        → values′ ≡ copied values (frameWords * s .calls) (slotAt T (suc (s .node))) (moreAt T (s .node))
+        → places′ ≡ set (set places (2 * s .calls) (s .node)) (suc (2 * s .calls)) (s .tree)
+        → f ≡ operandAt T (s .node)
+        → Opens T input values values′ places places′ s
+        (record { mode = toBegin; node = f; number = 0; calls = s .calls + 1; tree = q; known = s .known; end = s .end; written = s .written })
+    unfolding stageOf wordsOf placesOf
+    open-frame q f values′ places′ room found passed-on saved ef =
+        rw (passed-on, saved, ef, add-one (s .calls))
+        (record {
+          is =
+              rw (opened-in T input (s .node) (stateOf values places s) few, ← found, opens-frame T q (s .node) (stateOf values places s) room)
+              (record {
+                stage = refl;
+                words = refl;
+                returns = refl;
+                words-long = copied-length values _ _ (moreAt T (s .node));
+                returns-long = length-set (set places (2 * s .calls) (s .node)) (suc (2 * s .calls)) (s .tree) ∙ length-set places (2 * s .calls) (s .node);
+              });
+        })
+
+pub ruleset opening-ways = (open-past, open-deep, open-frame)
+
+-- ---- the steps
+
+-- where the steps find the tree, the call opens as they say
+pub opens-turn :
+    (T input values values′ places places′ : List ℕ) (s n : Stage) (p : ℕ)
+    → Opens T input values values′ places places′ s n
+    → s .node < mostRecords
+    → Found T input (stateOf values places s) (treeAt T (s .node)) p
+    → turnOf values′ places′ n ≡ opening T p (s .node) (stateOf values places s)
+opens-turn T input values values′ places places′ s n p o few found =
+    reached-turn _ values values′ places places′ s n (o .is)
+    ∙ opened-in T input (s .node) (stateOf values places s) few
+    ∙ ap (λ q. opening T q (s .node) (stateOf values places s)) (found-place T input (stateOf values places s) found)
+
+-- nothing is through after it, and no other call opens
+module _ (s : Stage) (r f : ℕ) (t : State) where
+  settled-by : (a b : Bool)
+      → (stageOf s (elim a [ true ↦ elim b [ true ↦ deep r | false ↦ begin f t ] | false ↦ stuck ]) .mode ≢ isThrough)
+      × (stageOf s (elim a [ true ↦ elim b [ true ↦ deep r | false ↦ begin f t ] | false ↦ stuck ]) .mode ≢ toOpen)
+  unfolding stageOf
+  settled-by true true = (eqb-false 4 1 refl, eqb-false 4 2 refl)
+  settled-by true false = (eqb-false 0 1 refl, eqb-false 0 2 refl)
+  settled-by false b = (eqb-false 5 1 refl, eqb-false 5 2 refl)
+
+pub opens-settled : (T input values values′ places places′ : List ℕ) (s n : Stage) → Opens T input values values′ places places′ s n
+    → (n .mode ≢ isThrough) × (n .mode ≢ toOpen)
+unfolding opened opening
+opens-settled T input values values′ places places′ s n o =
+    rw (o .is .stage) (settled-by s (s .node) _ _ (ltb (s .node) mostRecords) (leb mostWaiting (s .calls)))

@@ -1,0 +1,2 @@
+-- What comes of a call that opens.
+pub mod Opens

@@ -1,0 +1,103 @@
+// A call of a program opens, in the source run.
+use stages::Stage;
+ghost use Prim.Native.Nat.{suc, _-_, _*_, _<_};
+ghost use mathlib.Core.Path.{_≡_};
+ghost use lib.ListN.{set};
+ghost use Rattle.stepwise.specs.Steps.{slotAt, moreAt, frameWords, mostRecords, mostWaiting, copied};
+ghost use Rattle.open_call.specs.Opens.{Opens};
+
+// Fields of a row.
+const OPERAND: u16 = 1;
+
+const MORE: u16 = 3;
+
+const SLOT: u16 = 6;
+
+// Calls that may wait.
+const MOST_WAITING: u16 = 1023;
+
+// Records are numbered below.
+const MOST_RECORDS: u16 = 2048;
+
+// What is to be done next.
+const BEGIN: u32 = 0;
+
+const DEEP: u32 = 4;
+
+const STUCK: u32 = 5;
+
+// slot - n, and 0 where n is more.
+fn from_down(slot: u16, n: u16) -> u16
+    ensures { λ r. ⌜ r ≡ slot - n ⌝ }
+{
+    if slot < n {
+        return 0;
+    }
+    slot - n
+}
+
+// Puts the arguments of a call, which stand on words from `slot` down of the last frame, on the first words of the next one.
+fn copy(values: &mut [u32], calls: u16, slot: u16, count: u16)
+    requires { ⌜ calls < mostWaiting ⌝ }
+    ensures { λ _. ⌜ now (values .exit) ≡ copied (now (values .entry)) (frameWords * calls) slot count ⌝ }
+{
+    let mut n: u16 = 0;
+    while n < count {
+        let x = frames::frame_word(values, calls, from_down(slot, n));
+        frames::put_frame(values, calls + 1, n, x);
+        n = n + 1;
+    }
+}
+
+// Puts the arguments of the call at the stage's record on the first words of the next frame.
+fn pass_arguments(table: &[u16], values: &mut [u32], s: Stage)
+    requires { ⌜ (s .node < mostRecords) × (s .calls < mostWaiting) ⌝ }
+    ensures { λ _. ⌜ now (values .exit) ≡ copied (now (values .entry)) (frameWords * s .calls) (slotAt (now (table .entry)) (suc (s .node))) (moreAt (now (table .entry)) (s .node)) ⌝ }
+{
+    let slot = frames::field(table, s.node + 1, SLOT);
+    copy(values, s.calls, slot, frames::field(table, s.node, MORE))
+}
+
+// Puts a number on a return word, if there is one.
+fn put_return(places: &mut [u64], i: usize, x: u64)
+    ensures { λ _. ⌜ now (places .exit) ≡ set (now (places .entry)) i x ⌝ }
+{
+    if i < places.len() {
+        places[i] = x;
+    }
+}
+
+// Saves the call's record and its frame's tree on the return words.
+fn save(places: &mut [u64], s: Stage)
+    ensures { λ _. ⌜ now (places .exit) ≡ set (set (now (places .entry)) (2 * s .calls) (s .node)) (suc (2 * s .calls)) (s .tree) ⌝ }
+{
+    let i = 2 * (s.calls as usize);
+    put_return(places, i, s.node as u64);
+    put_return(places, i + 1, s.tree as u64)
+}
+
+// Opens the call at the stage's record: its function's body begins, or it is one too many.
+pub fn open(table: &[u16], input: &[u8], values: &mut [u32], places: &mut [u64], s: Stage) -> Stage
+    ensures { λ r. ⌜ Opens (now (table .entry)) (now (input .entry)) (now (values .entry)) (now (values .exit)) (now (places .entry)) (now (places .exit)) s r ⌝ }
+{
+    let r = s.node;
+    if MOST_RECORDS <= r {
+        return stages::staged_at(s, STUCK, r, 0);
+    }
+    if MOST_WAITING <= s.calls {
+        return stages::staged_at(s, DEEP, r, 0);
+    }
+    let p = named_trees::named_place(table, input, s);
+    pass_arguments(table, values, s);
+    save(places, s);
+    Stage {
+        mode: BEGIN,
+        node: frames::field(table, r, OPERAND),
+        number: 0,
+        calls: s.calls + 1,
+        tree: p,
+        known: s.known,
+        end: s.end,
+        written: s.written,
+    }
+}

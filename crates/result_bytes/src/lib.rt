@@ -1,0 +1,82 @@
+// The bytes of a result, written by the source run as its records begin and are through.
+use stages::Stage;
+ghost use mathlib.Core.List.{[], _∷_};
+ghost use mathlib.Core.Path.{_≡_};
+ghost use Rattle.formats.specs.Tokens.{leaf, tokens};
+ghost use Rattle.formats.specs.Written.{written};
+ghost use Rattle.stepwise.specs.Steps.{saidFirst, saidLast};
+ghost use Rattle.result_bytes.specs.Bytes.{counted, Says};
+
+// Fields of a row.
+const ACTION: u16 = 0;
+
+const ROLE: u16 = 4;
+
+// The action of a Node, and what a leaf's number is to its record.
+const TAGS_NODE: u16 = 3;
+
+const LABELLED: u16 = 5;
+
+const LEAF_TAG: u8 = 1;
+
+const NODE_TAG: u8 = 2;
+
+const LEAF_BYTES: usize = 5;
+
+// 2^63: no buffer is so long, and from there on bytes are not counted.
+const COUNT_LIMIT: usize = 9223372036854775808;
+
+// So many bytes more are written. From 2^63 on they are not counted: no buffer is so long.
+fn count(at: usize, n: u8) -> usize
+    ensures { λ r. ⌜ r ≡ counted at n ⌝ }
+{
+    if at < COUNT_LIMIT {
+        return at + (n as usize);
+    }
+    at
+}
+
+// Writes a byte at a place, if there is one.
+fn put_byte(output: &mut [u8], at: usize, x: u8)
+    ensures { λ _. ⌜ now (output .exit) ≡ written (now (output .entry)) at (x ∷ []) ⌝ }
+{
+    if at < output.len() {
+        output[at] = x;
+    }
+}
+
+// Writes a leaf at a place, or nothing where it does not fit.
+fn write_leaf(output: &mut [u8], at: usize, label: u32)
+    ensures { λ _. ⌜ now (output .exit) ≡ written (now (output .entry)) at (tokens (leaf label)) ⌝ }
+{
+    let len = output.len();
+    if len < LEAF_BYTES {
+        return;
+    }
+    if at <= len - LEAF_BYTES {
+        put_byte(output, at, LEAF_TAG);
+        words32::write32(output, at + 1, label);
+    }
+}
+
+// A node's tag is written when it begins, where it fits. Gives the bytes written.
+pub fn say_first(table: &[u16], output: &mut [u8], s: Stage) -> usize
+    ensures { λ r. ⌜ Says (saidFirst (now (table .entry)) (s .node)) (now (output .entry)) (now (output .exit)) (s .written) r ⌝ }
+{
+    if frames::field(table, s.node, ACTION) != TAGS_NODE {
+        return s.written;
+    }
+    put_byte(output, s.written, NODE_TAG);
+    count(s.written, 1)
+}
+
+// A leaf is written when its number is through, where it fits. Gives the bytes written.
+pub fn say_last(table: &[u16], output: &mut [u8], s: Stage) -> usize
+    ensures { λ r. ⌜ Says (saidLast (now (table .entry)) (s .node) (s .number)) (now (output .entry)) (now (output .exit)) (s .written) r ⌝ }
+{
+    if frames::field(table, s.node, ROLE) != LABELLED {
+        return s.written;
+    }
+    write_leaf(output, s.written, s.number);
+    count(s.written, 5)
+}

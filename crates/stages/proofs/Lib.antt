@@ -1,0 +1,2 @@
+-- Laws of stages and their turns.
+pub mod Stages

@@ -1,0 +1,109 @@
+-- What a stage stands for: a law for each thing that may be done next, and what a step that reaches a turn leaves.
+use Prim.Native.Nat.{ℕ}
+use mathlib.Core.List.{List}
+use mathlib.Core.Logic.{_≢_}
+use mathlib.Core.Path.{_≡_, refl, ap, _∙_}
+use borrow.Author.Tests.{eq-eqb, ne-eqb}
+use lib.ListN.{length, set, length-set}
+use Rattle.stepwise.specs.Steps.{Turn, begin, through, opens, ended, deep, stuck}
+use Rattle.stepwise.proofs.Steps.{off}
+use Rattle.stages.specs.declared.Stage.{Stage}
+use Rattle.stages.specs.Stages.{toBegin, isThrough, toOpen, hasEnded, tooDeep, isStuck, stateOf, turnOf, staged, withWritten, stageOf, wordsOf, placesOf, Reaches}
+
+-- ---- the turn of a stage
+
+module _ (values places : List ℕ) (s : Stage) where
+  pub turn-begin : s .mode ≡ toBegin → turnOf values places s ≡ begin (s .node) (stateOf values places s)
+  unfolding turnOf
+  turn-begin e = rw (turnOf, eq-eqb _ _ e)
+
+  pub turn-through : s .mode ≡ isThrough → turnOf values places s ≡ through (s .node) (s .number) (stateOf values places s)
+  unfolding turnOf
+  turn-through e = rw (turnOf, off _ 1 0 e refl, eq-eqb _ _ e)
+
+  pub turn-open : s .mode ≡ toOpen → turnOf values places s ≡ opens (s .node) (stateOf values places s)
+  unfolding turnOf
+  turn-open e = rw (turnOf, off _ 2 0 e refl, off _ 2 1 e refl, eq-eqb _ _ e)
+
+  pub turn-ended : s .mode ≡ hasEnded → turnOf values places s ≡ ended (s .number)
+  unfolding turnOf
+  turn-ended e = rw (turnOf, off _ 3 0 e refl, off _ 3 1 e refl, off _ 3 2 e refl, eq-eqb _ _ e)
+
+  pub turn-deep : s .mode ≡ tooDeep → turnOf values places s ≡ deep (s .node)
+  unfolding turnOf
+  turn-deep e = rw (turnOf, off _ 4 0 e refl, off _ 4 1 e refl, off _ 4 2 e refl, off _ 4 3 e refl, eq-eqb _ _ e)
+
+  -- no other mode is one of these
+  pub turn-none : s .mode ≢ toBegin → s .mode ≢ isThrough → s .mode ≢ toOpen → s .mode ≢ hasEnded → s .mode ≢ tooDeep → turnOf values places s ≡ stuck
+  unfolding turnOf
+  turn-none a b c d e = rw (turnOf, ne-eqb _ _ a, ne-eqb _ _ b, ne-eqb _ _ c, ne-eqb _ _ d, ne-eqb _ _ e)
+
+-- the bytes written are no matter of what is to be done next
+pub turn-written : (values places : List ℕ) (s : Stage) (at : ℕ) → turnOf values places (withWritten s at) ≡ turnOf values places s
+unfolding turnOf
+turn-written values places s at = refl
+
+-- ---- a step
+
+-- the stage of a turn stands for it
+turn-again : (values places : List ℕ) (s : Stage) (t : Turn) → turnOf (wordsOf values t) (placesOf places t) (stageOf s t) ≡ t
+unfolding turnOf stageOf wordsOf placesOf
+turn-again values places s (begin r t) = refl
+turn-again values places s (through r x t) = refl
+turn-again values places s (opens r t) = refl
+turn-again values places s (ended x) = refl
+turn-again values places s (deep r) = refl
+turn-again values places s stuck = refl
+
+pub reached-turn : (t : Turn) (values values′ places places′ : List ℕ) (s r : Stage) → Reaches t values values′ places places′ s r → turnOf values′ places′ r ≡ t
+reached-turn t values values′ places places′ s r h = rw (h .stage, h .words, h .returns) (turn-again values places s t)
+
+-- the bytes written stay
+same-written : (s : Stage) (t : Turn) → stageOf s t .written ≡ s .written
+unfolding stageOf
+same-written s (begin r t) = refl
+same-written s (through r x t) = refl
+same-written s (opens r t) = refl
+same-written s (ended x) = refl
+same-written s (deep r) = refl
+same-written s stuck = refl
+
+pub reached-written : (t : Turn) (values values′ places places′ : List ℕ) (s r : Stage) → Reaches t values values′ places places′ s r → r .written ≡ s .written
+reached-written t values values′ places places′ s r h = ap (λ (x : Stage). x .written) (h .stage) ∙ same-written s t
+
+-- ---- what a step reaches
+
+module _ (values places : List ℕ) (s : Stage) where
+  -- the words stay
+  pub reach-begin : (r : ℕ) → Reaches (begin r (stateOf values places s)) values values places places s (staged s toBegin r 0)
+  unfolding stageOf wordsOf placesOf
+  reach-begin r = record { stage = refl; words = refl; returns = refl; words-long = refl; returns-long = refl }
+
+  pub reach-through : (r x : ℕ) → Reaches (through r x (stateOf values places s)) values values places places s (staged s isThrough r x)
+  unfolding stageOf wordsOf placesOf
+  reach-through r x = record { stage = refl; words = refl; returns = refl; words-long = refl; returns-long = refl }
+
+  pub reach-open : (r : ℕ) → Reaches (opens r (stateOf values places s)) values values places places s (staged s toOpen r 0)
+  unfolding stageOf wordsOf placesOf
+  reach-open r = record { stage = refl; words = refl; returns = refl; words-long = refl; returns-long = refl }
+
+  pub reach-ended : (x : ℕ) → Reaches (ended x) values values places places s (staged s hasEnded 0 x)
+  unfolding stageOf wordsOf placesOf
+  reach-ended x = record { stage = refl; words = refl; returns = refl; words-long = refl; returns-long = refl }
+
+  pub reach-deep : (r : ℕ) → Reaches (deep r) values values places places s (staged s tooDeep r 0)
+  unfolding stageOf wordsOf placesOf
+  reach-deep r = record { stage = refl; words = refl; returns = refl; words-long = refl; returns-long = refl }
+
+  pub reach-stuck : Reaches stuck values values places places s (staged s isStuck (s .node) 0)
+  unfolding stageOf wordsOf placesOf
+  reach-stuck = record { stage = refl; words = refl; returns = refl; words-long = refl; returns-long = refl }
+
+  -- a number is put on a value word
+  pub put-begin : (i y r : ℕ) → Reaches (begin r (stateOf (set values i y) places s)) values (set values i y) places places s (staged s toBegin r 0)
+  unfolding stageOf wordsOf placesOf
+  put-begin i y r = record { stage = refl; words = refl; returns = refl; words-long = length-set values i y; returns-long = refl }
+
+  pub put-open : (i y r : ℕ) → Reaches (opens r (stateOf (set values i y) places s)) values (set values i y) places places s (staged s toOpen r 0)
+  unfolding stageOf wordsOf placesOf
+  put-open i y r = record { stage = refl; words = refl; returns = refl; words-long = length-set values i y; returns-long = refl }

@@ -1,0 +1,32 @@
+// How far a source run is: the stage of its loop.
+ghost use mathlib.Core.Path.{_≡_};
+ghost use Rattle.stages.specs.Stages.{staged};
+
+// What is to be done next, by its number (`specs/Stages`); the record that it is done to, and the record's number where it is through; how many calls wait, and
+// the place of the frame's tree; a tree that was passed, by its place and its end (0 as long as there is none); and the bytes written.
+pub struct Stage {
+    pub mode: u32,
+    pub node: u16,
+    pub number: u32,
+    pub calls: u16,
+    pub tree: usize,
+    pub known: usize,
+    pub end: usize,
+    pub written: usize,
+}
+
+// The same stage, with something else to be done next.
+pub fn staged_at(s: Stage, mode: u32, r: u16, number: u32) -> Stage
+    ensures { λ n. ⌜ n ≡ staged s mode r number ⌝ }
+{
+    Stage {
+        mode: mode,
+        node: r,
+        number: number,
+        calls: s.calls,
+        tree: s.tree,
+        known: s.known,
+        end: s.end,
+        written: s.written,
+    }
+}

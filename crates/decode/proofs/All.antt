@@ -21,9 +21,11 @@ use Rattle.rules.proofs.Parts.{Known, Holds, Bodies, no-more, one-more}
 use Rattle.rules.proofs.Walks.{program-held, signature-of}
 use Rattle.stepwise.specs.Rows.{rowWords, bodyPlace, rowsOf, rowsOfAll, tabled}
 use Rattle.stepwise.proofs.Rows.{length-rows, length-rows-all}
-use Rattle.decode.specs.declared.Place.{Place}
+use Rattle.part_places.specs.declared.Place.{Place}
+use Rattle.part_places.specs.Parts.{placeOf}
+use Rattle.record_rows.specs.Halves.{firstIn}
 use Rattle.decode.specs.Decoding.{tableWords}
-use Rattle.decode.specs.Walk.{placeOf, firstIn, Agrees, Small, Entering, Filled, Fills, Starts, Ready, FillsAll}
+use Rattle.decode.specs.Walk.{Agrees, Small, Entering, Filled, Fills, Starts, Ready, FillsAll}
 
 -- ---- the first records and the arities of a program's functions
 

@@ -1,161 +1,84 @@
--- Places: a law for each way out of the functions that say where a part stands, and what then holds of it.
+-- Where a part stands, where counts are small, and what then holds of it.
 use Prim.Native.Nat.{ℕ, zero, suc, _+_, _-_, _%_, _≤_, _<_}
 use mathlib.Core.Bool.{Bool, true, false}
 use mathlib.Core.List.{List, [], _∷_, _++_}
-use mathlib.Core.Logic.{_≢_}
 use mathlib.Core.Path.{_≡_, refl, sym, ap, ap₂, _∙_}
 use native.Mathlib.Decide.{decLe}
 use native.Mathlib.Nat.{le-refl}
 use native.Mathlib.Numerals.{add-one}
 use native.Mathlib.Omega.{arith}
-use borrow.Author.Needs.{needs}
-use borrow.Author.Tests.{eq-eqb, ne-eqb}
-use denote.Enum.Declared.{tagOf}
-use types.Run.{OneOf, miss}
 use lib.Dec.{eqb}
 use lib.ListN.{length, getD, set, take, length-set}
-use lib.Seq.{getD-set-same, getD-set-other, getD-take, set-out, take-set-le, take-suc-set, take-take}
+use lib.Seq.{getD-set-same, getD-set-other, getD-take, take-set-le, take-suc-set, take-take}
 use Rattle.formats.specs.Records.{Kind}
 use Rattle.formats.specs.Records.{Const as aConst, Var as aVar, Add as anAdd, IfZero as anIfZero, Let as aLet, Leaf as aLeaf, Node as aNode, Case as aCase, Call as aCall}
 use Rattle.formats.specs.Rows.{arityIn}
-use Rattle.records.proofs.Record as TheRecord
 use Rattle.records.specs.Read.{meant}
 use Rattle.records.specs.declared.Record.{Record}
-use Rattle.records.specs.declared.Record.the-variants.{Const, Var, Add, IfZero, Let, Leaf, Node, Case, Call}
-use Rattle.records.specs.declared.TreeName.{TreeName}
-use Rattle.records.specs.declared.Called.{Called}
 use Rattle.stepwise.specs.Rows.{roleOf, slotOf, namesIn, keepsIn, casesIn, partPlace}
-use Rattle.decode.specs.declared.Place.{Place}
-use Rattle.decode.specs.Walk.{placeOf, deeper, noted, insidePlace, Stacked, Small, SmallParts, Counted, Same, Starts}
+use Rattle.part_places.specs.declared.Place.{Place}
+use Rattle.part_places.specs.Parts.{placeOf, capped, namesInside, keepsInside, depthInside, partIn, noted}
+use Rattle.part_places.proofs.Parts.{cap-low}
+use Rattle.decode.specs.Walk.{deeper, insidePlace, Grows, Stacked, Small, SmallParts, Counted, Same, Starts}
 
 -- a place with these
 abbrev placed : (role parent slot names keeps depth : ℕ) → Place
 placed role parent slot names keeps depth = record { role = role; parent = parent; slot = slot; names = names; keeps = keeps; depth = depth }
 
--- ---- `inside`
+-- ---- `inside`, where counts are small
 
-module _ (node : Record) (r i count : ℕ) (p q : Place) where
-  -- part j of a record of this kind
-  at-part : (kind : Kind) (j : ℕ) → meant node ≡ kind → i ≡ j → q ≡ insidePlace kind r j count p → q ≡ insidePlace (meant node) r i count p
-  at-part kind j is e same = same ∙ sym (ap₂ (λ k n. insidePlace k r n count p) is e)
+-- one more is below the cap
+one-more : (n : ℕ) → n < 4000 → capped (n + 1) ≡ suc n
+one-more n low = cap-low (n + 1) (omega arith) ∙ add-one n
 
-  -- a part behind the first
-  later : i ≢ 0 → i ≡ suc (i - 1)
-  later h = omega arith
+module _ (r count : ℕ) where
+  names-plain : (kind : Kind) (i : ℕ) (p : Place) → p .names < 4000 → namesInside kind i (p .names) ≡ insidePlace kind r i count p .names
+  unfolding insidePlace namesInside namesIn
+  names-plain (aConst c) i p low = refl
+  names-plain (aVar a) i p low = refl
+  names-plain anAdd i p low = refl
+  names-plain anIfZero i p low = refl
+  names-plain aLet zero p low = refl
+  names-plain aLet (suc i) p low = one-more (p .names) low
+  names-plain aLeaf i p low = refl
+  names-plain aNode i p low = refl
+  names-plain (aCase a) zero p low = one-more (p .names) low
+  names-plain (aCase a) (suc i) p low = refl
+  names-plain (aCall a b) i p low = refl
 
-  pub inside-add-first : (slot : ℕ) → node ≡ Add → i ≡ 0 → slot ≡ 15 - p .keeps → q ≡ placed 1 r slot (p .names) (p .keeps) (p .depth) → q ≡ insidePlace (meant node) r i count p
-  unfolding insidePlace roleOf slotOf namesIn keepsIn deeper
-  inside-add-first slot case first es e = at-part anAdd 0 (ap meant case) first (e ∙ ap (λ n. placed 1 r n (p .names) (p .keeps) (p .depth)) es)
+  keeps-plain : (kind : Kind) (i : ℕ) (p : Place) → p .keeps + i < 4000 → keepsInside kind i (p .keeps) ≡ insidePlace kind r i count p .keeps
+  unfolding insidePlace keepsInside keepsIn
+  keeps-plain (aConst c) i p low = refl
+  keeps-plain (aVar a) i p low = refl
+  keeps-plain anAdd zero p low = refl
+  keeps-plain anAdd (suc i) p low = one-more (p .keeps) (omega arith)
+  keeps-plain anIfZero i p low = refl
+  keeps-plain aLet i p low = refl
+  keeps-plain aLeaf i p low = refl
+  keeps-plain aNode i p low = refl
+  keeps-plain (aCase a) i p low = refl
+  keeps-plain (aCall a b) i p low = cap-low (p .keeps + i) (omega arith)
 
-  pub inside-add-second : (slot : ℕ) → node ≡ Add → i ≢ 0 → slot ≡ 15 - p .keeps → q ≡ placed 2 r slot (p .names) (p .keeps + 1) (p .depth) → q ≡ insidePlace (meant node) r i count p
-  unfolding insidePlace roleOf slotOf namesIn keepsIn deeper
-  inside-add-second slot case other es e =
-      at-part anAdd (suc (i - 1)) (ap meant case) (later other) (e ∙ ap₂ (λ n m. placed 2 r n (p .names) m (p .depth)) es (add-one (p .keeps)))
+  depth-plain : (kind : Kind) (i : ℕ) (p : Place) → p .depth < 4000 → depthInside kind i (p .depth) ≡ insidePlace kind r i count p .depth
+  unfolding insidePlace depthInside deeper
+  depth-plain (aConst c) i p low = refl
+  depth-plain (aVar a) i p low = refl
+  depth-plain anAdd i p low = refl
+  depth-plain anIfZero i p low = refl
+  depth-plain aLet i p low = refl
+  depth-plain aLeaf i p low = refl
+  depth-plain aNode i p low = refl
+  depth-plain (aCase a) zero p low = refl
+  depth-plain (aCase a) (suc i) p low = one-more (p .depth) low
+  depth-plain (aCall a b) i p low = refl
 
-  pub inside-if-test : node ≡ IfZero → i ≡ 0 → q ≡ placed 3 r 0 (p .names) (p .keeps) (p .depth) → q ≡ insidePlace (meant node) r i count p
-  unfolding insidePlace roleOf slotOf namesIn keepsIn deeper
-  inside-if-test case first e = at-part anIfZero 0 (ap meant case) first e
-
-  pub inside-if-part : node ≡ IfZero → i ≢ 0 → q ≡ placed 4 r 0 (p .names) (p .keeps) (p .depth) → q ≡ insidePlace (meant node) r i count p
-  unfolding insidePlace roleOf slotOf namesIn keepsIn deeper
-  inside-if-part case other e = at-part anIfZero (suc (i - 1)) (ap meant case) (later other) e
-
-  pub inside-let-first : node ≡ Let → i ≡ 0 → q ≡ placed 1 r (p .names) (p .names) (p .keeps) (p .depth) → q ≡ insidePlace (meant node) r i count p
-  unfolding insidePlace roleOf slotOf namesIn keepsIn deeper
-  inside-let-first case first e = at-part aLet 0 (ap meant case) first e
-
-  pub inside-let-body : node ≡ Let → i ≢ 0 → q ≡ placed 4 r (p .names) (p .names + 1) (p .keeps) (p .depth) → q ≡ insidePlace (meant node) r i count p
-  unfolding insidePlace roleOf slotOf namesIn keepsIn deeper
-  inside-let-body case other e =
-      at-part aLet (suc (i - 1)) (ap meant case) (later other) (e ∙ ap (λ n. placed 4 r (p .names) n (p .keeps) (p .depth)) (add-one (p .names)))
-
-  pub inside-leaf : node ≡ Leaf → q ≡ placed 5 r 0 (p .names) (p .keeps) (p .depth) → q ≡ insidePlace (meant node) r i count p
-  unfolding insidePlace roleOf slotOf namesIn keepsIn deeper
-  inside-leaf case e = at-part aLeaf i (ap meant case) refl e
-
-  pub inside-node-left : node ≡ Node → i ≡ 0 → q ≡ placed 6 r 0 (p .names) (p .keeps) (p .depth) → q ≡ insidePlace (meant node) r i count p
-  unfolding insidePlace roleOf slotOf namesIn keepsIn deeper
-  inside-node-left case first e = at-part aNode 0 (ap meant case) first e
-
-  pub inside-node-right : node ≡ Node → i ≢ 0 → q ≡ placed 4 r 0 (p .names) (p .keeps) (p .depth) → q ≡ insidePlace (meant node) r i count p
-  unfolding insidePlace roleOf slotOf namesIn keepsIn deeper
-  inside-node-right case other e = at-part aNode (suc (i - 1)) (ap meant case) (later other) e
-
-  pub inside-case-leaf : (t : TreeName) → node ≡ Case t → i ≡ 0 → q ≡ placed 4 r 0 (p .names + 1) (p .keeps) (p .depth) → q ≡ insidePlace (meant node) r i count p
-  unfolding insidePlace roleOf slotOf namesIn keepsIn deeper
-  inside-case-leaf t case first e = at-part (aCase (t .a)) 0 (ap meant case) first (e ∙ ap (λ n. placed 4 r 0 n (p .keeps) (p .depth)) (add-one (p .names)))
-
-  pub inside-case-node : (t : TreeName) → node ≡ Case t → i ≢ 0 → q ≡ placed 4 r 0 (p .names) (p .keeps) (p .depth + 1) → q ≡ insidePlace (meant node) r i count p
-  unfolding insidePlace roleOf slotOf namesIn keepsIn deeper
-  inside-case-node t case other e =
-      at-part (aCase (t .a)) (suc (i - 1)) (ap meant case) (later other) (e ∙ ap (placed 4 r 0 (p .names) (p .keeps)) (add-one (p .depth)))
-
-  pub inside-call-last : (c : Called) (slot : ℕ) → node ≡ Call c → i + 1 ≡ count → slot ≡ 15 - (p .keeps + i) → q ≡ placed 7 r slot (p .names) (p .keeps + i) (p .depth)
-      → q ≡ insidePlace (meant node) r i count p
-  unfolding insidePlace roleOf slotOf namesIn keepsIn deeper
-  inside-call-last c slot case last es e =
-      at-part (aCall (c .a) (c .b)) i (ap meant case) refl (rw (insidePlace, roleOf, eq-eqb (suc i) count (omega arith)) (e ∙ ap (λ n. placed 7 r n (p .names) (p .keeps + i) (p .depth)) es))
-
-  pub inside-call-other : (c : Called) (slot : ℕ) → node ≡ Call c → i + 1 ≢ count → slot ≡ 15 - (p .keeps + i) → q ≡ placed 1 r slot (p .names) (p .keeps + i) (p .depth)
-      → q ≡ insidePlace (meant node) r i count p
-  unfolding insidePlace roleOf slotOf namesIn keepsIn deeper
-  inside-call-other c slot case other es e =
-      at-part (aCall (c .a) (c .b)) i (ap meant case) refl (rw (insidePlace, roleOf, ne-eqb (suc i) count (λ same. other (omega arith))) (e ∙ ap (λ n. placed 1 r n (p .names) (p .keeps + i) (p .depth)) es))
-
--- a Const and a Var have no parts
-abbrev bareTags : List ℕ
-bareTags = 0 ∷ 1 ∷ []
-
-pub inside-bare : (node : Record) (r i count : ℕ) (p q : Place) → OneOf bareTags (tagOf TheRecord.the-type node) → q ≡ placed 4 r 0 (p .names) (p .keeps) (p .depth)
-    → q ≡ insidePlace (meant node) r i count p
-unfolding insidePlace roleOf slotOf namesIn keepsIn deeper
-inside-bare (Const k) r i count p q h e = e
-inside-bare (Var v) r i count p q h e = e
-inside-bare Add r i count p q h e = absurd (miss bareTags 2 tt h)
-inside-bare IfZero r i count p q h e = absurd (miss bareTags 3 tt h)
-inside-bare Let r i count p q h e = absurd (miss bareTags 4 tt h)
-inside-bare Leaf r i count p q h e = absurd (miss bareTags 5 tt h)
-inside-bare Node r i count p q h e = absurd (miss bareTags 6 tt h)
-inside-bare (Case t) r i count p q h e = absurd (miss bareTags 7 tt h)
-inside-bare (Call k) r i count p q h e = absurd (miss bareTags 8 tt h)
-
-pub ruleset insides = (inside-add-first, inside-add-second, inside-if-test, inside-if-part, inside-let-first, inside-let-body, inside-leaf, inside-node-left, inside-node-right, inside-case-leaf, inside-case-node, inside-call-last, inside-call-other, inside-bare)
-
--- ---- `note_case`
-
-module _ (node : Record) (r i depth : ℕ) (cases : List ℕ) (t : TreeName) (case : node ≡ Case t) where
-  -- part j of a Case
-  note-part : (j : ℕ) (after : List ℕ) → i ≡ j → after ≡ noted (aCase (t .a)) r j depth cases → after ≡ noted (meant node) r i depth cases
-  note-part j after e same = same ∙ sym (ap₂ (λ k n. noted (meant k) r n depth cases) case e)
-
-  pub note-leaf : i ≡ 0 → cases ≡ noted (meant node) r i depth cases
-  unfolding noted
-  note-leaf first = note-part 0 cases first refl
-
-  pub note-full : i ≢ 0 → length cases ≤ depth → cases ≡ noted (meant node) r i depth cases
-  unfolding noted
-  note-full other full = note-part (suc (i - 1)) cases (omega arith) (sym (set-out cases depth (r % 65536) full))
-
-  pub note-node : i ≢ 0 → set cases depth (r % 65536) ≡ noted (meant node) r i depth cases
-  unfolding noted
-  note-node other = note-part (suc (i - 1)) _ (omega arith) refl
-
-abbrev otherTags : List ℕ
-otherTags = 0 ∷ 1 ∷ 2 ∷ 3 ∷ 4 ∷ 5 ∷ 6 ∷ 8 ∷ []
-
-pub note-other : (node : Record) (r i depth : ℕ) (cases : List ℕ) → OneOf otherTags (tagOf TheRecord.the-type node) → cases ≡ noted (meant node) r i depth cases
-unfolding noted
-note-other (Const k) r i depth cases h = refl
-note-other (Var v) r i depth cases h = refl
-note-other Add r i depth cases h = refl
-note-other IfZero r i depth cases h = refl
-note-other Let r i depth cases h = refl
-note-other Leaf r i depth cases h = refl
-note-other Node r i depth cases h = refl
-note-other (Case t) r i depth cases h = absurd (miss otherTags 7 tt h)
-note-other (Call k) r i depth cases h = refl
-
-pub ruleset notes = (note-leaf, note-full, note-node, note-other, needs)
+  -- no count is cut
+  pub inside-plain : (kind : Kind) (i : ℕ) (p : Place) → Grows i p → partIn kind r i count p ≡ insidePlace kind r i count p
+  unfolding partIn insidePlace
+  inside-plain kind i p g =
+      ap₂ (λ n k. placed (roleOf (λ b. 0) (λ b. count) kind i) r (slotOf (λ b. 0) (λ b. count) (placeOf p []) kind i) n k (depthInside kind i (p .depth)))
+      (names-plain kind i p (g .names)) (keeps-plain kind i p (g .keeps))
+      ∙ ap (placed (roleOf (λ b. 0) (λ b. count) kind i) r (slotOf (λ b. 0) (λ b. count) (placeOf p []) kind i) _ _) (depth-plain kind i p (g .depth))
 
 -- ---- `start`
 
@@ -202,10 +125,14 @@ near (aCase a) r (suc i) count p = near-to r (suc i) p _ _ _ _ _ (omega arith) (
 near (aCall a b) r i count p = near-to r i p _ _ _ _ _ (last-role (eqb (suc i) count)) (omega arith) (omega arith) (omega arith) (omega arith)
 
 -- so its counts are small
-module _ (node : Record) (r i count k end : ℕ) (p q : Place) (small : SmallParts r i k end p) (is : q ≡ insidePlace (meant node) r i count p) where
+-- a part of a record's counts can grow
+pub grows : (r i k end : ℕ) (p : Place) → SmallParts r i k end p → Grows i p
+grows r i k end p small = record { names = omega (arith, small .names); keeps = omega (arith, small .keeps); depth = omega (arith, small .depth) }
+
+module _ (node : Record) (r i count k end : ℕ) (p q : Place) (small : SmallParts r i k end p) (is : q ≡ partIn (meant node) r i count p) where
   pub few-part : Small k end q
   few-part =
-      let n : Near r i p q = rw is (near (meant node) r i count p) in
+      let n : Near r i p q = rw (is, inside-plain r count (meant node) i p (grows r i k end p small)) (near (meant node) r i count p) in
       record {
         before-end = small .before-end;
         few = small .few;

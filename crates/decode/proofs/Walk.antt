@@ -29,10 +29,13 @@ use Rattle.rules.proofs.Parts.{headOf, Row}
 use Rattle.rules.proofs.Walks.{node-held, parts-held, parts-counted, FirstOf, row-first, row-none, row-upto}
 use Rattle.stepwise.specs.Rows.{rowWords, partPlace, rowOf, rowsOf}
 use Rattle.stepwise.proofs.Rows.{length-rows}
-use Rattle.decode.specs.declared.Own.{Own}
-use Rattle.decode.specs.declared.Place.{Place}
-use Rattle.decode.specs.Walk.{placeOf, noted, insidePlace, Grows, Told, Owns, rowIn, Small, Went, Entering, Same, Filled, Fills, rowsOfParts, SmallParts, Counted, EnteringParts, FillsParts}
-use Rattle.decode.proofs.Places.{place-inside, few-part, stacked-less, stacked-same, same-more, stacked-inside, same-inside}
+use Rattle.part_places.specs.declared.Place.{Place}
+use Rattle.part_places.specs.Parts.{placeOf, partIn, noted}
+use Rattle.record_rows.specs.declared.Own.{Own}
+use Rattle.record_rows.specs.Halves.{ownIn}
+use Rattle.decode.specs.Walk.{insidePlace, Told, rowIn, Small, Went, Entering, Same, Filled, Fills, rowsOfParts, SmallParts, Counted, EnteringParts, FillsParts}
+use Rattle.decode.proofs.Leaves.{told}
+use Rattle.decode.proofs.Places.{inside-plain, grows, place-inside, few-part, stacked-less, stacked-same, same-more, stacked-inside, same-inside}
 use Rattle.decode.proofs.Rows.{rows-split, length-parts}
 
 -- ---- `decode_at`
@@ -40,13 +43,13 @@ use Rattle.decode.proofs.Rows.{rows-split, length-parts}
 -- a row's words, where they are small
 row-is : (entry arity : ℕ → ℕ) (cases : List ℕ) (k end : ℕ) (p : Place) (kind : Kind) (own : Own) (next : ℕ) → Told entry arity (placeOf p cases) kind own → Small k end p → next ≤ end
     → rowIn own p next ≡ rowOf entry arity (placeOf p cases) next kind
-row-is entry arity cases k end p kind own next told small inside =
+row-is entry arity cases k end p kind own next half small inside =
     let role : p .role % 65536 ≡ p .role = omega (arith, small .role) in
     let parent : p .parent % 65536 ≡ p .parent = omega (arith, small .parent) in
     let slot : p .slot % 65536 ≡ p .slot = omega (arith, small .slot) in
     let after : next % 65536 ≡ next = omega (arith, small .few) in
     let rest = ap₂ _∷_ role (ap₂ _∷_ parent (ap₂ _∷_ slot (ap (λ n. n ∷ []) after))) in
-    ap₂ _∷_ (told .action) (ap₂ _∷_ (told .operand) (ap₂ _∷_ (told .tree) (ap₂ _∷_ (told .more) rest)))
+    ap₂ _∷_ (half .action) (ap₂ _∷_ (half .operand) (ap₂ _∷_ (half .tree) (ap₂ _∷_ (half .more) rest)))
 
 module _ (s table cases : List ℕ) (k end : ℕ) (p : Place) where
   -- nothing is filled
@@ -57,19 +60,19 @@ module _ (s table cases : List ℕ) (k end : ℕ) (p : Place) where
   pub fill-past : Small k end p → end ≤ k → Fills s table table cases cases k end p k
   fill-past small over = record { went = stayed small; is = λ entry arity e h. absurd (omega (arith, some-record e, h .fits)) }
 
-  module _ (read : RecordRead) (told : described read ≡ onValue shapeOf (nodeIn s k)) where
+  module _ (read : RecordRead) (says : described read ≡ onValue shapeOf (nodeIn s k)) where
     -- no expression begins with a record that is refused
     pub fill-unread : (why : Refusal) (place : ℕ) → Small k end p → read ≡ Refused why place → Fills s table table cases cases k end p k
     fill-unread why place small is = record {
       went = stayed small;
-      is = λ entry arity e h. done-not (told ∙ ap (onValue shapeOf) (node-held s (h .signed) k e (h .holds))) (ap described is);
+      is = λ entry arity e h. done-not (says ∙ ap (onValue shapeOf) (node-held s (h .signed) k e (h .holds))) (ap described is);
     }
 
     module _ (node : Record) (parts : Parts) (template : Template) (count : ℕ) (is : read ≡ Read node parts template) (many : count ≡ partCount (arityIn s) (listed parts)) where
       module _ {entry arity : ℕ → ℕ} {e : Expr} (h : Entering s table cases entry arity k end p e) where
         -- what is read is the expression's own record
         own-shape : shaped node parts template ≡ shapeOf (headOf e)
-        own-shape = done-injective (ap described (sym is) ∙ told ∙ ap (onValue shapeOf) (node-held s (h .signed) k e (h .holds)))
+        own-shape = done-injective (ap described (sym is) ∙ says ∙ ap (onValue shapeOf) (node-held s (h .signed) k e (h .holds)))
 
         own-kind : meant node ≡ headOf e
         own-kind = ap (λ (x : Shape). x .kind) own-shape
@@ -106,7 +109,7 @@ module _ (s table cases : List ℕ) (k end : ℕ) (p : Place) where
         }
 
       -- the own row in front of the parts' rows
-      pub fill-read : (own : Own) (there after cases′ : List ℕ) (next : ℕ) → Small k end p → k < end → Owns s cases p node own
+      pub fill-read : (own : Own) (there after cases′ : List ℕ) (next : ℕ) → Small k end p → k < end → own ≡ ownIn s cases (p .names) (p .depth) (meant node)
           → FillsParts s table there cases cases′ node k 0 count (k + 1) end p next
           → after ≡ written there (rowWords * k) (rowIn own p next)
           → Fills s table after cases cases′ k end p next
@@ -118,7 +121,8 @@ module _ (s table cases : List ℕ) (k end : ℕ) (p : Place) where
             let row = rowOf entry arity P (k + size e) (headOf e) in
             let rows = rowsOfParts entry arity P (headOf e) k 0 (partsAt k e) in
             let own-row : rowIn own p next ≡ row =
-            row-is entry arity cases k end p (meant node) own next (owns .is entry arity (end - k) (h .agrees) (own-below h) (omega (arith, small .names)) (h .stacked)) small (l .went .inside)
+            row-is entry arity cases k end p (meant node) own next
+            (rw owns (told s cases p entry arity (end - k) (h .agrees) (omega (arith, small .names)) (h .stacked) (meant node) (own-below h))) small (l .went .inside)
             ∙ ap₂ (λ n kind. rowOf entry arity P n kind) (f .behind) (own-kind h) in
             let others : there ≡ written table (rowWords * k + length row) rows =
             f .rows ∙ ap₂ (λ n (kind : Kind). written table n (rowsOfParts entry arity P kind k 0 (partsAt k e))) (omega arith) (own-kind h) in
@@ -155,8 +159,12 @@ module _ (s table cases : List ℕ) (node : Record) (r i count k end : ℕ) (p :
         };
   }
 
-  module _ (inner : Place) (noted-cases between cases₁ : List ℕ) (next : ℕ) (is-inner : inner ≡ insidePlace (meant node) r i count p)
+  module _ (inner : Place) (noted-cases between cases₁ : List ℕ) (next : ℕ) (is-part : inner ≡ partIn (meant node) r i count p)
       (is-noted : noted-cases ≡ noted (meant node) r i (p .depth) cases) (f : Fills s table between noted-cases cases₁ k end inner next) (more : i < count) where
+    -- no count is cut
+    is-inner : inner ≡ insidePlace (meant node) r i count p
+    is-inner = is-part ∙ inside-plain r count (meant node) i p (grows r i k end p small)
+
     module _ {entry arity : ℕ → ℕ} {ps : List Placed} {m : ℕ} (h : EnteringParts s table cases entry arity node i count k end p ps m) where
       -- the part that stands here, and those behind it
       first : FirstOf s (h .signed) k ps m
@@ -270,10 +278,6 @@ few-parts k end p small more = record {
   depth = omega (arith, small .depth);
 }
 
--- a part of it
-pub grows : (r i k end : ℕ) (p : Place) → SmallParts r i k end p → Grows i p
-grows r i k end p small = record { names = omega (arith, small .names); keeps = omega (arith, small .keeps); depth = omega (arith, small .depth) }
-
 -- the measure, from a part to those behind it
 pub fall-on : (t k end next : ℕ) → 2 * (end - k) + 1 ≡ t → Went k end next → k < next → 2 * (end - next) + 1 < t
 fall-on t k end next is went on = omega (arith, went .inside)
@@ -289,4 +293,4 @@ few-rest r i k end p next small went on = record {
   depth = omega (arith, small .depth, went .inside);
 }
 
-pub ruleset asked = (few-parts, few-part, grows, fall-on, few-rest, needs)
+pub ruleset asked = (few-parts, few-part, fall-on, few-rest, needs)

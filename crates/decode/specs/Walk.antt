@@ -1,31 +1,26 @@
 -- What the functions answer that fill a table, over flat records s. `table` and `cases` hold at entry the words of the table and of the stack of Cases,
 -- `table′` and `cases′` those at exit.
 use Prim.Native.Nat.{ℕ, zero, suc, _+_, _-_, _*_, _%_, _≤_, _<_}
-use mathlib.Core.Bool.{true}
 use mathlib.Core.List.{List, [], _∷_, _++_}
 use mathlib.Core.Path.{_≡_}
-use lib.ListN.{length, getD, set, take}
+use lib.ListN.{length, getD, take}
 use Rattle.formats.specs.Results.{done, verdict}
-use Rattle.formats.specs.Records.{Kind, Const, Var, Add, IfZero, Let, Leaf, Node, Case, Call, below}
+use Rattle.formats.specs.Records.{Kind, Const, Var, Add, IfZero, Let, Leaf, Node, Case, Call}
 use Rattle.formats.specs.Programs.{Expr, size, Placed, Signature, Program}
 use Rattle.formats.specs.Rows.{headerIn, arityIn, readProgram}
 use Rattle.formats.specs.Written.{written}
-use Rattle.functions.specs.Counts.{countsFrom}
 use Rattle.records.specs.Read.{meant}
 use Rattle.records.specs.declared.Record.{Record}
 use Rattle.rules.proofs.Parts.{Known, Holds, Row}
 use Rattle.stepwise.specs.Rows.{whole, actionOf, roleOf, slotOf, namesIn, keepsIn, partPlace, operandOf, treeOf, moreOf, rowsOf, rowWords, tabled}
 use Rattle.stepwise.specs.Rows.{Place as PlaceThere}
+use Rattle.part_places.specs.declared.Place.{Place}
+use Rattle.part_places.specs.Parts.{placeOf}
+use Rattle.record_rows.specs.declared.Own.{Own}
+use Rattle.record_rows.specs.Halves.{firstIn}
 use Rattle.decode.specs.Decoding.{tableWords}
-use Rattle.decode.specs.declared.Own.{Own}
-use Rattle.decode.specs.declared.Place.{Place}
 
 -- ---- places
-
--- A place, with the Cases on the stack.
-abbrev pub placeOf : Place → List ℕ → PlaceThere
-placeOf p cases =
-    record { role = p .role; parent = p .parent; slot = p .slot; names = p .names; keeps = p .keeps; cases = take (p .depth) cases }
 
 -- On entering part i of a record: how many Cases' node parts it stands in, where the record stands in so many.
 unfoldable pub deeper : Kind → ℕ → ℕ → ℕ
@@ -40,20 +35,7 @@ deeper (Case a) zero depth = depth
 deeper (Case a) (suc i) depth = suc depth
 deeper (Call a b) i depth = depth
 
--- .. and the stack.
-unfoldable pub noted : Kind → (r i depth : ℕ) → List ℕ → List ℕ
-noted (Const c) r i depth cases = cases
-noted (Var a) r i depth cases = cases
-noted Add r i depth cases = cases
-noted IfZero r i depth cases = cases
-noted Let r i depth cases = cases
-noted Leaf r i depth cases = cases
-noted Node r i depth cases = cases
-noted (Case a) r zero depth cases = cases
-noted (Case a) r (suc i) depth cases = set cases depth (r % 65536)
-noted (Call a b) r i depth cases = cases
-
--- Where part i of the record r stands, which has so many parts. (Of the functions only the arity counts, and of the place not its Cases.)
+-- Where part i of the record r stands, which has so many parts, where counts are small: `part_places/specs/Parts: partIn` without its caps.
 unfoldable pub insidePlace : Kind → (r i count : ℕ) → Place → Place
 insidePlace kind r i count p =
     record {
@@ -73,10 +55,6 @@ pub record Grows (i : ℕ) (p : Place) : Type 0 where
 
 -- ---- a row's first half
 
--- The first record of function b, by the counts of the function records.
-unfoldable pub firstIn : List ℕ → ℕ → ℕ
-firstIn s b = 1 + headerIn s .functions + countsFrom b s 0
-
 -- Of the functions that there are, `entry` has the first records and `arity` the numbers of parameters.
 pub record Agrees (s : List ℕ) (entry arity : ℕ → ℕ) : Type 0 where
   pub entries : (b : ℕ) → b < headerIn s .functions → entry b ≡ firstIn s b
@@ -94,10 +72,6 @@ pub record Told (entry arity : ℕ → ℕ) (p : PlaceThere) (kind : Kind) (o : 
   pub operand : o .operand ≡ operandOf entry arity p kind
   pub tree : o .tree ≡ treeOf entry arity p kind
   pub more : o .more ≡ moreOf entry arity kind
-
-pub record Owns (s cases : List ℕ) (p : Place) (node : Record) (o : Own) : Type 0 where
-  pub is : (entry arity : ℕ → ℕ) (more : ℕ) → Agrees s entry arity → below (headerIn s .functions) (meant node) ≡ true → p .names ≤ 4000 → Stacked cases (p .depth) more
-      → Told entry arity (placeOf p cases) (meant node) o
 
 -- A row's words.
 abbrev pub rowIn : Own → Place → ℕ → List ℕ

@@ -1,16 +1,16 @@
 // The rows of a program's records, for the source run: a table of 8 words for each record, filled from flat records, 8 bytes each.
+use part_places::Place;
+use record_rows::Own;
 use records::Record;
 use records::RecordRead;
 use refusal::Refusal;
 use refusal::Verdict;
-ghost use Prim.Native.Nat.{_-_, _*_, _%_};
+ghost use Prim.Native.Nat.{_*_};
 ghost use mathlib.Core.Path.{_≡_};
-ghost use lib.ListN.{getD, take};
 ghost use Rattle.formats.specs.Written.{written};
-ghost use Rattle.records.specs.Read.{meant};
-ghost use Rattle.stepwise.specs.Rows.{rowWords, lastWord, codeOf};
+ghost use Rattle.stepwise.specs.Rows.{rowWords};
 ghost use Rattle.decode.specs.Decoding.{Decodes};
-ghost use Rattle.decode.specs.Walk.{firstIn, insidePlace, noted, rowIn, Grows, Small, SmallParts, Owns, Fills, FillsParts, Starts, Ready, FillsAll};
+ghost use Rattle.decode.specs.Walk.{rowIn, Small, SmallParts, Fills, FillsParts, Starts, Ready, FillsAll};
 
 // Words of a row.
 const ROW_WORDS: usize = 8;
@@ -21,143 +21,8 @@ const MOST_RECORDS: usize = 1057;
 // A row for each of them.
 const TABLE_WORDS: usize = 8456;
 
-// The last word of a frame.
-const LAST_WORD: usize = 15;
-
-// What a record does when it begins.
-const GIVES_CONSTANT: u16 = 0;
-
-const GIVES_NAMED: u16 = 1;
-
-const ENTERS_PART: u16 = 2;
-
-const TAGS_NODE: u16 = 3;
-
-const LOOKS_AT_TREE: u16 = 4;
-
-const CALLS_FUNCTION: u16 = 5;
-
-// What a part is to the record that it is part of.
+// What a function's body is to its parent.
 const WHOLE: usize = 0;
-
-const KEPT: usize = 1;
-
-const ADDED: usize = 2;
-
-const TESTED: usize = 3;
-
-const PASSED: usize = 4;
-
-const LABELLED: usize = 5;
-
-const FOLLOWED: usize = 6;
-
-const LAST_ARGUMENT: usize = 7;
-
-// Where a record stands: what it is to its parent, the parent's record, the word of its number, numbers named, numbers kept, and in how many node parts
-// of Cases it stands. The records of these Cases are lent beside it, the outermost first.
-struct Place {
-    role: usize,
-    parent: usize,
-    slot: usize,
-    names: usize,
-    keeps: usize,
-    depth: usize,
-}
-
-// The first half of a row: what the record's kind and its operands say.
-struct Own {
-    action: u16,
-    operand: u16,
-    tree: u16,
-    more: u16,
-}
-
-// The first record of function b: behind the header, the function records, and the nodes of the functions before it. It is exact: counts of 16 bits, fewer
-// than 65,536 of them.
-fn first_record(flat: &[u8], b: u16) -> usize
-    ensures { λ r. ⌜ r ≡ firstIn (now (flat .entry)) b ⌝ }
-{
-    let functions = words::read8(flat, 1) as usize;
-    let mut sum = 0;
-    let mut j: u16 = 0;
-    while j < b {
-        sum = sum + (signatures::count(flat, j) as usize);
-        j = j + 1;
-    }
-    1 + functions + sum
-}
-
-// Entry n of a stack that has so many; 0 where there is none.
-fn case_at(cases: &[u16], depth: usize, n: usize) -> u16
-    ensures { λ r. ⌜ r ≡ getD (take depth (now (cases .entry))) n 0 ⌝ }
-{
-    if depth <= n {
-        return 0;
-    }
-    if cases.len() <= n {
-        return 0;
-    }
-    cases[n]
-}
-
-// What stands in place of tree name a.
-fn code_of(cases: &[u16], depth: usize, a: u8) -> u16
-    ensures { λ r. ⌜ r ≡ codeOf (take depth (now (cases .entry))) a % 65536 ⌝ }
-{
-    if a == 0 {
-        return 0;
-    }
-    let j = (a as usize) - 1;
-    let looked_at = case_at(cases, depth, j / 2) as usize;
-    ((1 + (2 * looked_at + j % 2)) % 65536) as u16
-}
-
-// What a record's kind and its operands say.
-fn own_of(flat: &[u8], cases: &[u16], node: Record, place: Place) -> Own
-    ensures { λ r. ⌜ Owns (now (flat .entry)) (now (cases .entry)) place node r ⌝ }
-{
-    match node {
-        Record::Const(c) => own_words(
-            GIVES_CONSTANT,
-            (c.i % 65536) as u16,
-            0,
-            (c.i / 65536) as u16,
-        ),
-        Record::Var(v) => own_words(GIVES_NAMED, v.a as u16, 0, 0),
-        Record::Add => own_words(ENTERS_PART, 0, 0, 0),
-        Record::IfZero => own_words(ENTERS_PART, 0, 0, 0),
-        Record::Let => own_words(ENTERS_PART, 0, 0, 0),
-        Record::Leaf => own_words(ENTERS_PART, 0, 0, 0),
-        Record::Node => own_words(TAGS_NODE, 0, 0, 0),
-        Record::Case(t) => {
-            let tree = code_of(cases, place.depth, t.a);
-            own_words(LOOKS_AT_TREE, (place.names % 65536) as u16, tree, 0)
-        }
-        Record::Call(c) => {
-            let tree = code_of(cases, place.depth, c.a);
-            let entry = first_record(flat, c.b);
-            own_words(
-                CALLS_FUNCTION,
-                (entry % 65536) as u16,
-                tree,
-                signatures::parameters(flat, c.b) as u16,
-            )
-        }
-    }
-}
-
-// These four words.
-fn own_words(action: u16, operand: u16, tree: u16, more: u16) -> Own
-    ensures { λ r. ⌜ r ≡ record { action = action; operand = operand; tree = tree; more = more } ⌝ }
-{
-    Own {
-        action: action,
-        operand: operand,
-        tree: tree,
-        more: more,
-    }
-}
 
 // Writes the row of record k, or nothing where the table has no row there.
 fn write_row(table: &mut [u16], k: usize, own: Own, place: Place, behind: usize)
@@ -175,100 +40,6 @@ fn write_row(table: &mut [u16], k: usize, own: Own, place: Place, behind: usize)
     table[p + 5] = (place.parent % 65536) as u16;
     table[p + 6] = (place.slot % 65536) as u16;
     table[p + 7] = (behind % 65536) as u16;
-}
-
-// The word so many below the last; 0 where there is none.
-fn from_last(n: usize) -> usize
-    ensures { λ r. ⌜ r ≡ lastWord - n ⌝ }
-{
-    if LAST_WORD < n {
-        return 0;
-    }
-    LAST_WORD - n
-}
-
-// A place with these.
-fn part(role: usize, parent: usize, slot: usize, names: usize, keeps: usize, depth: usize) -> Place
-    ensures { λ r. ⌜ r ≡ record { role = role; parent = parent; slot = slot; names = names; keeps = keeps; depth = depth } ⌝ }
-{
-    Place {
-        role: role,
-        parent: parent,
-        slot: slot,
-        names: names,
-        keeps: keeps,
-        depth: depth,
-    }
-}
-
-// Where part i of the record r stands, which has so many parts.
-fn inside(node: Record, r: usize, i: usize, count: usize, place: Place) -> Place
-    requires { ⌜ Grows i place ⌝ }
-    ensures { λ q. ⌜ q ≡ insidePlace (meant node) r i count place ⌝ }
-{
-    let names = place.names;
-    let keeps = place.keeps;
-    let depth = place.depth;
-    match node {
-        Record::Add => {
-            let slot = from_last(keeps);
-            if i == 0 {
-                return part(KEPT, r, slot, names, keeps, depth);
-            }
-            part(ADDED, r, slot, names, keeps + 1, depth)
-        }
-        Record::IfZero => {
-            if i == 0 {
-                return part(TESTED, r, 0, names, keeps, depth);
-            }
-            part(PASSED, r, 0, names, keeps, depth)
-        }
-        Record::Let => {
-            if i == 0 {
-                return part(KEPT, r, names, names, keeps, depth);
-            }
-            part(PASSED, r, names, names + 1, keeps, depth)
-        }
-        Record::Leaf => part(LABELLED, r, 0, names, keeps, depth),
-        Record::Node => {
-            if i == 0 {
-                return part(FOLLOWED, r, 0, names, keeps, depth);
-            }
-            part(PASSED, r, 0, names, keeps, depth)
-        }
-        Record::Case(t) => {
-            if i == 0 {
-                return part(PASSED, r, 0, names + 1, keeps, depth);
-            }
-            part(PASSED, r, 0, names, keeps, depth + 1)
-        }
-        Record::Call(c) => {
-            let slot = from_last(keeps + i);
-            if i + 1 == count {
-                return part(LAST_ARGUMENT, r, slot, names, keeps + i, depth);
-            }
-            part(KEPT, r, slot, names, keeps + i, depth)
-        }
-        _ => part(PASSED, r, 0, names, keeps, depth),
-    }
-}
-
-// Before the node part of the Case at record r is entered, the record is put on top of the stack.
-fn note_case(cases: &mut [u16], node: Record, r: usize, i: usize, depth: usize)
-    ensures { λ _. ⌜ now (cases .exit) ≡ noted (meant node) r i depth (now (cases .entry)) ⌝ }
-{
-    match node {
-        Record::Case(t) => {
-            if i == 0 {
-                return;
-            }
-            if cases.len() <= depth {
-                return;
-            }
-            cases[depth] = (r % 65536) as u16;
-        }
-        _ => {}
-    }
 }
 
 // Fills the rows of the expression at record k, and says which record is behind it. A record's row is written once its parts are through: then that is
@@ -291,7 +62,7 @@ fn decode_at(
     match found {
         RecordRead::Refused(why, at) => k,
         RecordRead::Read(node, parts, template) => {
-            let own = own_of(flat, cases, node, place);
+            let own = record_rows::own_of(flat, cases, node, place.names, place.depth);
             let count = nodes::part_count(flat, parts);
             let behind = decode_parts(flat, table, cases, node, k, 0, count, k + 1, end, place);
             write_row(table, k, own, place, behind);
@@ -319,8 +90,8 @@ fn decode_parts(
     if count <= i {
         return k;
     }
-    let inner = inside(node, r, i, count, place);
-    note_case(cases, node, r, i, place.depth);
+    let inner = part_places::inside(node, r, i, count, place);
+    part_places::note_case(cases, node, r, i, place.depth);
     let next = decode_at(flat, table, cases, k, end, inner);
     if next <= k {
         return next;
@@ -332,7 +103,14 @@ fn decode_parts(
 fn start(flat: &[u8], j: u16) -> Place
     ensures { λ r. ⌜ Starts (now (flat .entry)) j r ⌝ }
 {
-    part(WHOLE, 0, 0, signatures::parameters(flat, j) as usize, 0, 0)
+    Place {
+        role: WHOLE,
+        parent: 0,
+        slot: 0,
+        names: signatures::parameters(flat, j) as usize,
+        keeps: 0,
+        depth: 0,
+    }
 }
 
 // Fills the rows of all functions.

@@ -32,9 +32,9 @@ fn word_place(calls: u16, slot: u16) -> usize
 pub fn frame_word(values: &[u32], calls: u16, slot: u16) -> u32
     ensures { λ r. ⌜ r ≡ getD (now (values .entry)) (frameWords * calls + slot) 0 ⌝ }
 {
-    let i = word_place(calls, slot);
-    if i < values.len() {
-        return values[i];
+    let at = word_place(calls, slot);
+    if at < values.len() {
+        return values[at];
     }
     0
 }

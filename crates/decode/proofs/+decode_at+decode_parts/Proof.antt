@@ -11,9 +11,9 @@ use Rattle.decode.proofs.+decode_at+decode_parts.Lts-decode_at as decod
 use Rattle.decode.proofs.decode_parts.Reads as decode-parts
 use Rattle.decode.proofs.decode_parts.Kinds as decode-parts-kinds
 use Rattle.decode.proofs.+decode_at+decode_parts.Lts-decode_parts as decode-parts-lts
-use Rattle.decode.proofs.inside.Reads as inside-reads
-use Rattle.decode.proofs.note_case.Reads as note-case-reads
-use Rattle.decode.proofs.own_of.Reads as own-of-reads
+use Rattle.part_places.proofs.inside.Reads as inside-reads
+use Rattle.part_places.proofs.note_case.Reads as note-case-reads
+use Rattle.record_rows.proofs.own_of.Reads as own-of-reads
 use Rattle.decode.proofs.write_row.Reads as write-row-reads
 use Rattle.nodes.proofs.part_count.Reads as part-count-reads
 use Rattle.records.proofs.record_at.Reads as record-at-reads
@@ -83,7 +83,7 @@ pub +decode-at+decode-parts-spec : {M : Type 1} → statement M
     (decode-parts-at t)
     decode-parts.Post
     (λ c. search parts)
-    (λ c κs. search asked)
+    (λ c κs. search needs)
     (λ c κs. search needs)
     (λ c κs. search asked)
     (λ c. search needs) (λ c. search needs)

@@ -1,8 +1,8 @@
--- `decode::own_of` meets its contract: a law for each kind of record.
+-- `record_rows::own_of` meets its contract: a law for each kind of record.
 use borrow.Author.Needs.{needs}
-use Rattle.decode.proofs.Leaves.{owned}
-use Rattle.decode.proofs.own_of.Statement.{statement}
-use Rattle.decode.proofs.own_of.Tie as tie
+use Rattle.record_rows.proofs.Halves.{owned}
+use Rattle.record_rows.proofs.own_of.Statement.{statement}
+use Rattle.record_rows.proofs.own_of.Tie as tie
 
 pub own-of-spec : {M : Type 1} → statement M
 own-of-spec =

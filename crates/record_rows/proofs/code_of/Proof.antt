@@ -1,8 +1,8 @@
--- `decode::code_of` meets its contract: the frame's own tree, or one of the tree that a Case looks at.
+-- `record_rows::code_of` meets its contract: the frame's own tree, or one of the tree that a Case looks at.
 use borrow.Author.Needs.{needs}
-use Rattle.decode.proofs.Leaves.{codes}
-use Rattle.decode.proofs.code_of.Statement.{statement}
-use Rattle.decode.proofs.code_of.Tie as tie
+use Rattle.record_rows.proofs.Halves.{codes}
+use Rattle.record_rows.proofs.code_of.Statement.{statement}
+use Rattle.record_rows.proofs.code_of.Tie as tie
 
 pub code-of-spec : {M : Type 1} → statement M
 code-of-spec =

@@ -1,8 +1,8 @@
--- `decode::note_case` meets its contract: only the node part of a Case changes the stack.
+-- `part_places::note_case` meets its contract: only the node part of a Case changes the stack.
 use borrow.Author.Needs.{needs}
-use Rattle.decode.proofs.Places.{notes}
-use Rattle.decode.proofs.note_case.Statement.{statement}
-use Rattle.decode.proofs.note_case.Tie as tie
+use Rattle.part_places.proofs.Parts.{notes}
+use Rattle.part_places.proofs.note_case.Statement.{statement}
+use Rattle.part_places.proofs.note_case.Tie as tie
 
 pub note-case-spec : {M : Type 1} → statement M
 note-case-spec =

@@ -1,9 +1,9 @@
--- `decode::first_record` meets its contract: the counts below j are summed. What is left of them falls.
+-- `record_rows::first_record` meets its contract: the counts below j are summed. What is left of them falls.
 use Prim.Native.Nat.{_-_}
 use borrow.Author.Needs.{needs}
-use Rattle.decode.proofs.Leaves.{Counting, firsts}
-use Rattle.decode.proofs.first_record.Statement.{statement}
-use Rattle.decode.proofs.first_record.Tie as tie
+use Rattle.record_rows.proofs.Halves.{Counting, firsts}
+use Rattle.record_rows.proofs.first_record.Statement.{statement}
+use Rattle.record_rows.proofs.first_record.Tie as tie
 
 abbrev Inv-loop : tie.InvT-loop
 Inv-loop flat b functions sum₀ j₀ sum j = Counting flat b sum j

@@ -1,0 +1,2 @@
+-- Laws for the functions that say where parts stand.
+pub mod Parts

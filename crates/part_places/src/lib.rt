@@ -1,0 +1,155 @@
+// Where the parts of a program's record stand, for the rows of the source run.
+use records::Record;
+ghost use Prim.Native.Nat.{suc, _+_, _-_};
+ghost use mathlib.Core.Path.{_≡_};
+ghost use lib.Dec.{eqb};
+ghost use Rattle.records.specs.Read.{meant};
+ghost use Rattle.stepwise.specs.Rows.{lastWord};
+ghost use Rattle.part_places.specs.Parts.{capped, argumentIn, partIn, noted};
+
+// The last word of a frame.
+const LAST_WORD: usize = 15;
+
+// What a part is to the record that it is part of.
+const KEPT: usize = 1;
+
+const ADDED: usize = 2;
+
+const TESTED: usize = 3;
+
+const PASSED: usize = 4;
+
+const LABELLED: usize = 5;
+
+const FOLLOWED: usize = 6;
+
+const LAST_ARGUMENT: usize = 7;
+
+// Where a record stands: what it is to its parent, the parent's record, the word of its number, numbers named, numbers kept, and in how many node parts
+// of Cases it stands. The records of these Cases are lent beside it, the outermost first.
+pub struct Place {
+    pub role: usize,
+    pub parent: usize,
+    pub slot: usize,
+    pub names: usize,
+    pub keeps: usize,
+    pub depth: usize,
+}
+
+// The sum, and the largest number where it is no 64-bit number: counts of a program's records are small.
+fn add_up(x: usize, y: usize) -> usize
+    ensures { λ r. ⌜ r ≡ capped (x + y) ⌝ }
+{
+    if usize::MAX - x < y {
+        return usize::MAX;
+    }
+    x + y
+}
+
+// The word so many below the last; 0 where there is none.
+fn from_last(n: usize) -> usize
+    ensures { λ r. ⌜ r ≡ lastWord - n ⌝ }
+{
+    if LAST_WORD < n {
+        return 0;
+    }
+    LAST_WORD - n
+}
+
+// Whether part i is the last of so many.
+fn is_last(i: usize, count: usize) -> bool
+    ensures { λ b. ⌜ b ≡ eqb (suc i) count ⌝ }
+{
+    if count == 0 {
+        return false;
+    }
+    i == count - 1
+}
+
+// A place with these.
+fn part(role: usize, parent: usize, slot: usize, names: usize, keeps: usize, depth: usize) -> Place
+    ensures { λ r. ⌜ r ≡ record { role = role; parent = parent; slot = slot; names = names; keeps = keeps; depth = depth } ⌝ }
+{
+    Place {
+        role: role,
+        parent: parent,
+        slot: slot,
+        names: names,
+        keeps: keeps,
+        depth: depth,
+    }
+}
+
+// Where an argument stands, with so many numbers kept before it.
+fn argument(r: usize, kept: usize, last: bool, place: Place) -> Place
+    ensures { λ q. ⌜ q ≡ argumentIn r kept last place ⌝ }
+{
+    let slot = from_last(kept);
+    if last {
+        return part(LAST_ARGUMENT, r, slot, place.names, kept, place.depth);
+    }
+    part(KEPT, r, slot, place.names, kept, place.depth)
+}
+
+// Where part i of the record r stands, which has so many parts.
+pub fn inside(node: Record, r: usize, i: usize, count: usize, place: Place) -> Place
+    ensures { λ q. ⌜ q ≡ partIn (meant node) r i count place ⌝ }
+{
+    let names = place.names;
+    let keeps = place.keeps;
+    let depth = place.depth;
+    match node {
+        Record::Add => {
+            let slot = from_last(keeps);
+            if i == 0 {
+                return part(KEPT, r, slot, names, keeps, depth);
+            }
+            part(ADDED, r, slot, names, add_up(keeps, 1), depth)
+        }
+        Record::IfZero => {
+            if i == 0 {
+                return part(TESTED, r, 0, names, keeps, depth);
+            }
+            part(PASSED, r, 0, names, keeps, depth)
+        }
+        Record::Let => {
+            if i == 0 {
+                return part(KEPT, r, names, names, keeps, depth);
+            }
+            part(PASSED, r, names, add_up(names, 1), keeps, depth)
+        }
+        Record::Leaf => part(LABELLED, r, 0, names, keeps, depth),
+        Record::Node => {
+            if i == 0 {
+                return part(FOLLOWED, r, 0, names, keeps, depth);
+            }
+            part(PASSED, r, 0, names, keeps, depth)
+        }
+        Record::Case(t) => {
+            if i == 0 {
+                return part(PASSED, r, 0, add_up(names, 1), keeps, depth);
+            }
+            part(PASSED, r, 0, names, keeps, add_up(depth, 1))
+        }
+        Record::Call(c) => argument(r, add_up(keeps, i), is_last(i, count), place),
+        _ => part(PASSED, r, 0, names, keeps, depth),
+    }
+}
+
+// Before the node part of the Case at record r is entered, the record is put on top of the stack.
+pub fn note_case(cases: &mut [u16], node: Record, r: usize, i: usize, depth: usize)
+    ensures { λ _. ⌜ now (cases .exit) ≡ noted (meant node) r i depth (now (cases .entry)) ⌝ }
+{
+    match node {
+        Record::Case(t) => {
+            if i == 0 {
+                return;
+            }
+            if cases.len() <= depth {
+                return;
+            }
+            cases[depth] = (r % 65536) as u16;
+        }
+        _ => {}
+    }
+}

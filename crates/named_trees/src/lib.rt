@@ -27,6 +27,7 @@ fn part_of(input: &[u8], known: usize, end: usize, node: usize, j: u16) -> usize
     let found = tree::tree_answer(bytes);
     match found {
         TreeAnswer::Refused(why, place) => 0,
+        // A tree ends within its bytes, so the test never holds; with it the sum is seen to fit.
         TreeAnswer::Tree(length) => {
             if bytes.len() < length {
                 return 0;

@@ -1,2 +1,3 @@
 -- What a call answers.
 pub mod Answer
+pub mod Fills

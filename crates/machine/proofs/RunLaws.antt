@@ -1,6 +1,7 @@
 -- The run: a law for each way out of its functions. In front of each turn as many steps as units lead from the start to the state that the machine
 -- stands for (`Running`), and steps determine the run: so the turn that stops is the whole run's last.
 use Prim.Native.Nat.{ℕ, _+_, _-_, _^_, _≤_, _<_}
+use mathlib.Core.Bool.{false}
 use mathlib.Core.List.{List, [], _∷_, _++_}
 use mathlib.Core.Logic.{_≢_}
 use mathlib.Core.Path.{_≡_, refl, sym, ap, _∙_}
@@ -24,6 +25,9 @@ use Rattle.meaning.specs.StreamRun.{StepRefusal, ended-there, no-tag, full, too
 use Rattle.meaning.specs.StreamRun.{Steps as Led}
 use Rattle.meaning.proofs.Steps.{one-step}
 use Rattle.meaning.proofs.Runs.{runs}
+use Rattle.meaning.specs.WorkWords.{WorkWords, beforeStream}
+use Rattle.meaning.proofs.WorkWords.{untouched, run-refused}
+use Rattle.meaning.proofs.WorkWords.{ended as words-ended}
 use Rattle.machine.specs.declared.Machine.{Machine}
 use Rattle.machine.specs.declared.Answer.{Answer}
 use Rattle.machine.specs.Held.{wordsFrom, waiting, frameOf, stateOf, stepOf, goesOn, hasEnded, first, Going, Held, Lent}
@@ -122,6 +126,15 @@ names-itself n no-tag = refl
 names-itself n full = refl
 names-itself n too-many = refl
 names-itself n cannot = refl
+
+-- and comes after 13
+not-before : (n : ℕ) → StepRefusal n → beforeStream n ≡ false
+unfolding beforeStream
+not-before n ended-there = refl
+not-before n no-tag = refl
+not-before n full = refl
+not-before n too-many = refl
+not-before n cannot = refl
 
 -- ---- the steps of the whole run
 
@@ -247,10 +260,9 @@ module _ (code input : List ℕ) (fuel : ℕ) (output₀ values₀ places₀ : L
           → answered a
           ≡ record { outcome = outcomeOf why (s .read); units = length done; bytesRead = s .read; bytesWritten = s .written; number = numberTold why }
           → output′ ≡ output
-          → length values′ ≡ length values
-          → length places′ ≡ length places
+          → WorkWords beforeStream (outcomeOf why (s .read)) values₀ values′ places₀ places′
           → Performed due output′ values₀ values′ places₀ places′ a
-      stops-here done why output′ values′ places′ a d told same lv lp =
+      stops-here done why output′ values′ places′ a d told same words =
           let v : valueWords ≤ length values₀ = omega (arith, h .held .values-lent, h .same-values) in
           let p : returnWords ≤ length places₀ = omega (arith, h .held .places-lent, h .same-places) in
           let there = h .held .written-there in
@@ -259,8 +271,7 @@ module _ (code input : List ℕ) (fuel : ℕ) (output₀ values₀ places₀ : L
           (record {
             answer = rw long told;
             output = same ∙ output-is output output₀ (s .written) (h .same-output) there (h .untouched);
-            values-length = lv ∙ h .same-values;
-            places-length = lp ∙ h .same-places;
+            words = words;
           })
 
       -- the fuel is used up
@@ -268,10 +279,11 @@ module _ (code input : List ℕ) (fuel : ℕ) (output₀ values₀ places₀ : L
           fuel ≤ units
           → Performed due output values₀ values places₀ places
           (record { verdict = Refused FuelUsedUp (s .read); units = fuel; read = s .read; written = s .written; number = 0 })
-      unfolding outcomeOf numberTold
+      unfolding outcomeOf numberTold beforeStream
       stops-unfuelled none =
           let all : length (h .past) ≡ fuel = omega (arith, h .counted, h .fuelled) in
-          stops-here (h .past) (refused fuelUsedUp) output values places _ (used-up (h .led) all) (rw all refl) refl refl refl
+          stops-here (h .past) (refused fuelUsedUp) output values places _ (used-up (h .led) all) (rw all refl) refl
+          (run-refused beforeStream _ _ _ _ _ (h .same-values) (h .same-places) fuelUsedUp (s .read) refl refl)
 
       -- after a turn
       module _ (output′ values′ places′ : List ℕ) (r : Machine) (more : units < fuel)
@@ -331,17 +343,16 @@ module _ (code input : List ℕ) (fuel : ℕ) (output₀ values₀ places₀ : L
                     stops-here _ _ output′ values′ places′ a (returned (h .led) fuel-left e)
                     (t .tells ∙ rw (dueAt, eq-eqb _ _ is-end, still .read, still .written, counted-more) refl)
                     (still .same)
-                    (did .same-values)
-                    (did .same-places)
+                    (words-ended beforeStream _ _ _ _ _ turned-values turned-places refl)
                 | no high ↦
                     let no-end : r .stop ≢ hasEnded = λ e. absurd (omega arith) in
                     let e : step m state ≡ refuses (r .stop) = sym (did .told) ∙ step-refuses values′ places′ output′ r stops no-end in
-                    let own = names-itself (r .stop) (one-step m state .refusals (r .stop) e) in
+                    let own-refusal = one-step m state .refusals (r .stop) e in
+                    let own = names-itself (r .stop) own-refusal in
                     stops-here _ _ output′ values′ places′ a (stuck (h .led) fuel-left e)
                     (t .tells ∙ rw (dueAt, ne-eqb _ _ no-end, own, still .read, still .written, h .counted) refl)
                     (still .same)
-                    (did .same-values)
-                    (did .same-places)
+                    (run-refused beforeStream _ _ _ _ _ turned-values turned-places (r .stop) (s .read) refl (not-before (r .stop) own-refusal))
               ]
 
 pub ruleset running = (run-first, turn-going, turn-lent, turned-output, turned-values, turned-places, turned-on, turned-stops, stops-unfuelled)
@@ -356,7 +367,7 @@ module _ (code input output : List ℕ) (fuel : ℕ) (values places : List ℕ) 
   unfolding streamRun
   short-values h =
       let none : streamRun code input output fuel (length values) (length places) ≡ tooShort output = rw (streamRun, lt-leb _ _ h) in
-      rw none (record { answer = told; output = refl; values-length = refl; places-length = refl })
+      rw none (record { answer = told; output = refl; words = untouched beforeStream _ values places })
 
   pub short-places :
       valueWords ≤ length values
@@ -365,6 +376,6 @@ module _ (code input output : List ℕ) (fuel : ℕ) (values places : List ℕ) 
   unfolding streamRun
   short-places v h =
       let none : streamRun code input output fuel (length values) (length places) ≡ tooShort output = rw (streamRun, le-leb _ _ v, lt-leb _ _ h) in
-      rw none (record { answer = told; output = refl; values-length = refl; places-length = refl })
+      rw none (record { answer = told; output = refl; words = untouched beforeStream _ values places })
 
 pub ruleset too-short = (short-values, short-places)

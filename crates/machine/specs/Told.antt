@@ -4,12 +4,12 @@ use mathlib.Core.Bool.{true, false, _&&_}
 use mathlib.Core.List.{List}
 use mathlib.Core.Path.{_≡_}
 use lib.Dec.{eqb, leb}
-use lib.ListN.{length}
 use Rattle.formats.specs.Refusals.{inputEnded, tooManyCalls, cannotPerform}
 use Rattle.formats.specs.Results.{done, refusal}
 use Rattle.refusal.specs.Said.{said}
 use Rattle.meaning.specs.Performing.{numberKept}
 use Rattle.meaning.specs.Running.{Ran, Answer as Due}
+use Rattle.meaning.specs.WorkWords.{WorkWords, beforeStream}
 use Rattle.machine.specs.Held.{frameOf, hasEnded}
 use Rattle.machine.specs.declared.Machine.{Machine}
 use Rattle.machine.specs.declared.Answer.{Answer}
@@ -36,9 +36,8 @@ dueAt values units s =
 pub record Tells (values : List ℕ) (units : ℕ) (s : Machine) (r : Answer) : Type 0 where
   pub tells : answered r ≡ dueAt values units s
 
--- A call of the stream run: its answer, every byte of the output, and the lengths of the work words, which are otherwise free.
+-- A call of the stream run: its answer, every byte of the output, and the work words, which are free after a run.
 pub record Performed (due : Ran) (output′ values values′ places places′ : List ℕ) (r : Answer) : Type 0 where
   pub answer : answered r ≡ due .answer
   pub output : output′ ≡ due .output
-  pub values-length : length values′ ≡ length values
-  pub places-length : length places′ ≡ length places
+  pub words : WorkWords beforeStream (due .answer .outcome) values values′ places places′

@@ -486,12 +486,12 @@ fn too_short() -> Answer
 
 // Instruction after instruction, from address 0, until one stops the run or the fuel is used up.
 fn run(
-    code: &[u8],
-    input: &[u8],
     fuel: u64,
     output: &mut [u8],
     values: &mut [u32],
     places: &mut [u64],
+    code: &[u8],
+    input: &[u8],
 ) -> Answer
     requires { ⌜ valueWords ≤ length (now values) ⌝ }
     requires { ⌜ returnWords ≤ length (now places) ⌝ }
@@ -522,14 +522,15 @@ fn run(
     }
 }
 
-// The stream run of any code: 13 first, where work words are missing, then the run.
+// The stream run of any code: 13 first, where work words are missing, then the run. In this order of parameters the loop is fast for any number of callers
+// (docs/BENCHMARKS.md).
 pub fn perform(
-    code: &[u8],
-    input: &[u8],
     fuel: u64,
     output: &mut [u8],
     values: &mut [u32],
     places: &mut [u64],
+    code: &[u8],
+    input: &[u8],
 ) -> Answer
     ensures { λ r. ⌜ Performed (streamRun (now (code .entry)) (now (input .entry)) (now (output .entry)) fuel (length (now (values .entry))) (length (now (places .entry)))) (now (output .exit)) (now (values .entry)) (now (values .exit)) (now (places .entry)) (now (places .exit)) r ⌝ }
 {
@@ -539,5 +540,5 @@ pub fn perform(
     if places.len() < RETURN_WORDS {
         return too_short();
     }
-    run(code, input, fuel, output, values, places)
+    run(fuel, output, values, places, code, input)
 }

@@ -22,6 +22,7 @@ pub mod Simulation
 pub mod Agrees
 pub mod SourceChecks
 pub mod SourceRun
+pub mod WorkWords
 pub mod Meaning
 pub mod MeaningCases
 pub mod ReductionCases

@@ -1,18 +1,16 @@
 -- What a stream run answers, a law for each way out of the functions that tell it.
 use Prim.Native.Nat.{ℕ, _≤_, _<_}
 use mathlib.Core.List.{List}
-use mathlib.Core.Path.{_≡_, refl}
+use mathlib.Core.Path.{_≡_}
 use lib.ListN.{length, set}
 use Rattle.formats.specs.Refusals.{spaceTooShort}
 use Rattle.refusal.specs.declared.Refusal.{Refusal}
 use Rattle.refusal.specs.Number.{number}
 use Rattle.refusal.specs.declared.Verdict.the-variants.{Passed, Refused}
-use Rattle.meaning.specs.Running.{Answer as Due}
 use Rattle.machine.specs.Told.{answered}
 use Rattle.machine.specs.declared.Answer.{Answer}
-use Rattle.run_answers.specs.Told.{refusalOf, placeOf}
 use Rattle.run_answers.specs.RunAnswer.{runPlaces, signExtended, placesWith, Stores, Answers}
-use Rattle.run_answers.proofs.Told.{stored-short, stored-done, stored-told, told-ended, told-refused}
+use Rattle.run_answers.proofs.Told.{stored-short, stored-done, told-ended, told-refused}
 
 -- ---- `store`
 
@@ -31,12 +29,6 @@ module _ (ran : Answer) (n place : ℕ) (before : List ℕ) where
 pub ruleset store-ways = (store-short, store-done)
 
 -- ---- `tell_run`
-
--- too few places
-pub run-too-few : (a : Due) (before : List ℕ) (r : ℕ) → length before < runPlaces → r ≡ spaceTooShort → Answers a before before r
-run-too-few a before r h e =
-    stored-told runPlaces (λ place. placesWith place a) before before r (a .outcome) (refusalOf (a .outcome)) (placeOf (a .outcome)) refl refl
-    (stored-short (placesWith (placeOf (a .outcome)) a) (refusalOf (a .outcome)) before r h e)
 
 module _ (ran : Answer) (before after : List ℕ) (r : ℕ) where
   pub run-ended : ran .verdict ≡ Passed → Stores (answered ran) 0 0 before after r → Answers (answered ran) before after r

@@ -2,3 +2,4 @@
 pub mod Extended
 pub mod Told
 pub mod Laws
+pub mod RunCall

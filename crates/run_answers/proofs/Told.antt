@@ -28,6 +28,12 @@ module _ (row : List ℕ) (n : ℕ) (before : List ℕ) where
   pub stored-done : length row ≤ length before → Stored (length row) row n before (sets before 0 row) n
   stored-done h = record { given = rw (le-ltb _ _ h) refl; places = written-sets before 0 row (omega arith) }
 
+-- too few places for an answer
+pub told-short : (count : ℕ) (row : ℕ → List ℕ) (outcome : Result (Unit {0})) (before : List ℕ) (r : ℕ) → length (row (placeOf outcome)) ≡ count
+    → length before < count → r ≡ spaceTooShort → Told count row outcome before before r
+told-short count row outcome before r long h e =
+    record { number = rw (lt-ltb _ _ h) e; places = sym (written-short before 0 (row (placeOf outcome)) (omega arith)) }
+
 module _ (count : ℕ) (row : ℕ → List ℕ) (before after : List ℕ) (r : ℕ) where
   -- what is stored is what the outcome says
   pub stored-told : (outcome : Result (Unit {0})) (n place : ℕ) → n ≡ refusalOf outcome → place ≡ placeOf outcome

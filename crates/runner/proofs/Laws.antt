@@ -25,10 +25,12 @@ use Rattle.refusal.specs.declared.Filled.{Filled}
 use Rattle.refusal.specs.declared.Filled.the-variants.{Written, Refused}
 use Rattle.rules.specs.PassTwo.{checkFile}
 use Rattle.meaning.specs.Running.{valueWords, returnWords, streamRun}
+use Rattle.meaning.specs.WorkWords.{WorkWords, beforeStream}
+use Rattle.meaning.proofs.WorkWords.{untouched}
 use Rattle.machine.specs.Told.{answered, Performed}
 use Rattle.machine.specs.declared.Answer.{Answer}
 use Rattle.translation.specs.Calls.{Called, prepared, refusedBefore, runFile, translateFile}
-use Rattle.translation.proofs.Calls.{not-translated, prepared-refused, prepared-short, prepared-code, prepared-inv, called-refused, called-runs, this-call, any-call}
+use Rattle.translation.proofs.Calls.{not-translated, prepared-refused, prepared-short, prepared-code, prepared-inv, called-refused, called-runs, program-run}
 use Rattle.runner.specs.Runs.{Runs, TooFewWords}
 
 -- ---- `too_few_words`
@@ -132,22 +134,17 @@ module _ (file input output code values places : List ℕ) (fuel : ℕ) (file-by
       → answered r ≡ due .answer
       → output′ ≡ due .output
       → code′ ≡ due .code
-      → length values′ ≡ length values
-      → length places′ ≡ length places
+      → WorkWords beforeStream (due .answer .outcome) values values′ places places′
       → Runs file input output output′ code code′ values values′ places places′ fuel r
-  runs-as output′ code′ values′ places′ r due is answer out laid lv lp =
+  runs-as output′ code′ values′ places′ r due is answer out laid words =
       let answer′ = answer ∙ ap (λ (q : Called). q .answer) (sym is) in
       let out′ = out ∙ ap (λ (q : Called). q .output) (sym is) in
       record {
         answer = answer′;
         output-is = out′;
         code-is = laid ∙ ap (λ (q : Called). q .code) (sym is);
-        values-length = lv;
-        places-length = lp;
-        demand-3 = λ program ready t rest labelled is.
-            this-call file code (length values) (length places) file-bytes program ready input output fuel (answered r) output′ answer′ out′ t rest labelled is;
-        any-input = λ program ready.
-            any-call file code (length values) (length places) file-bytes program ready input output fuel (answered r) output′ answer′ out′ input-bytes;
+        words = rw (ap (λ (q : Called). q .answer .outcome) is) words;
+        program-run = program-run file code (length values) (length places) file-bytes input output fuel (answered r) output′ input-bytes answer′ out′;
       }
 
   module _ (laid : Filled) (code′ : List ℕ) (put : Put (prepared (length code) (length values) (length places) file) code code′ laid) where
@@ -155,13 +152,13 @@ module _ (file input output code values places : List ℕ) (fuel : ℕ) (file-by
         → Runs file input output output code code′ values values places places fuel r
     run-refused r why place is answer =
         let n = not-run file code (length values) (length places) laid code′ put input output fuel why place is in
-        runs-as output code′ values places r _ (n .gives) answer refl (n .still) refl refl
+        runs-as output code′ values places r _ (n .gives) answer refl (n .still) (untouched beforeStream _ values places)
 
     pub run-made : (r : Answer) (bytes : ℕ) (output′ values′ places′ : List ℕ) → laid ≡ Written bytes
         → Performed (streamRun (take bytes code′) input output fuel (length values) (length places)) output′ values values′ places places′ r
         → Runs file input output output′ code code′ values values′ places places′ fuel r
     run-made r bytes output′ values′ places′ is p =
         runs-as output′ code′ values′ places′ r _ (is-run file code (length values) (length places) laid code′ put input output fuel bytes is)
-        (p .answer) (p .output) refl (p .values-length) (p .places-length)
+        (p .answer) (p .output) refl (p .words)
 
 pub ruleset run-ways = (run-inside, run-refused, run-made)

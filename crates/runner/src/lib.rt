@@ -71,7 +71,7 @@ pub fn run(
     match laid {
         Filled::Refused(why, place) => refused(why, place),
         Filled::Written(bytes) => {
-            machine::perform(&code[..bytes], input, fuel, output, values, places)
+            machine::perform(fuel, output, values, places, &code[..bytes], input)
         }
     }
 }

@@ -1,19 +1,17 @@
 -- What a source run answers, a law for each way out of the functions that tell it.
 use Prim.Native.Nat.{ℕ, _≤_, _<_}
 use mathlib.Core.List.{List}
-use mathlib.Core.Path.{_≡_, refl}
+use mathlib.Core.Path.{_≡_}
 use lib.ListN.{length, set}
 use Rattle.formats.specs.Refusals.{spaceTooShort}
 use Rattle.refusal.specs.declared.Refusal.{Refusal}
 use Rattle.refusal.specs.Number.{number}
 use Rattle.refusal.specs.declared.Verdict.the-variants.{Passed, Refused}
-use Rattle.meaning.specs.SourceRun.{SourceAnswer as Due}
 use Rattle.source.specs.Answers.{answered}
 use Rattle.source.specs.declared.SourceAnswer.{SourceAnswer}
-use Rattle.run_answers.specs.Told.{refusalOf, placeOf}
 use Rattle.run_answers.specs.RunAnswer.{signExtended}
 use Rattle.source_answers.specs.SourcePlaces.{sourcePlaces, placesWith, Stores, Answers}
-use Rattle.run_answers.proofs.Told.{stored-short, stored-done, stored-told, told-ended, told-refused}
+use Rattle.run_answers.proofs.Told.{stored-short, stored-done, told-ended, told-refused}
 
 -- ---- `store`
 
@@ -32,12 +30,6 @@ module _ (ran : SourceAnswer) (n place : ℕ) (before : List ℕ) where
 pub ruleset store-ways = (store-short, store-done)
 
 -- ---- `tell_source`
-
--- too few places
-pub source-too-few : (a : Due) (before : List ℕ) (r : ℕ) → length before < sourcePlaces → r ≡ spaceTooShort → Answers a before before r
-source-too-few a before r h e =
-    stored-told sourcePlaces (λ place. placesWith place a) before before r (a .outcome) (refusalOf (a .outcome)) (placeOf (a .outcome)) refl refl
-    (stored-short (placesWith (placeOf (a .outcome)) a) (refusalOf (a .outcome)) before r h e)
 
 module _ (ran : SourceAnswer) (before after : List ℕ) (r : ℕ) where
   pub source-ended : ran .verdict ≡ Passed → Stores (answered ran) 0 0 before after r → Answers (answered ran) before after r

@@ -26,7 +26,7 @@ use Rattle.translation.specs.Templates.{operationsOf, codeOf}
 use Rattle.translation.specs.Demand3.{Given, runOn}
 use Rattle.translation.specs.Calls.{checkedRecords, translateRecords, translateFile, prepared, refusedBefore, runFile, Called, Ready}
 use Rattle.translation.specs.Listing.{NeverShort}
-use Rattle.translation.specs.ThisCall.{ThisCall, AnyCall, AllRunnable}
+use Rattle.translation.specs.ThisCall.{ThisCall, AnyCall, ProgramRun, AllRunnable}
 use Rattle.translation.proofs.CodeLimits.{code-limits}
 use Rattle.translation.proofs.Demand3.{demand-3}
 use Rattle.translation.proofs.EveryRun.{every-run}
@@ -224,12 +224,24 @@ module _ (file code : List ℕ) (values returns : ℕ) (bytes : Bytes file) (pro
     its-output : after ≡ ranOn input output fuel .output
     its-output = left ∙ ap (λ (r : Called). r .output) (ready-called input output fuel)
 
-    pub this-call : (t : Tree) (rest : List ℕ) → Labelled t → input ≡ tokens t ++ rest
+    this-call : (t : Tree) (rest : List ℕ) → Labelled t → input ≡ tokens t ++ rest
         → ThisCall program t rest output fuel (runFile file (tokens t) output code fuel values returns) answer after
     this-call t rest labelled is = rw (its-answer, its-output, is) (on-tree t labelled rest output fuel)
 
-    pub any-call : Bytes input → AnyCall program input output answer after
+    any-call : Bytes input → AnyCall program input output answer after
     any-call bs = rw (its-answer, its-output) (any-run input output fuel bs)
+
+-- all that is promised of a run of a program file
+pub program-run : (file code : List ℕ) (values returns : ℕ) → Bytes file
+    → (input output : List ℕ) (fuel : ℕ) (answer : Answer) (after : List ℕ) → Bytes input
+    → answer ≡ runFile file input output code fuel values returns .answer
+    → after ≡ runFile file input output code fuel values returns .output
+    → ProgramRun file input output code fuel values returns answer after
+program-run file code values returns file-bytes input output fuel answer after input-bytes answered left =
+    record {
+      demand-3 = λ program ready. this-call file code values returns file-bytes program ready input output fuel answer after answered left;
+      any-input = λ program ready. any-call file code values returns file-bytes program ready input output fuel answer after answered left input-bytes;
+    }
 
 -- ---- room for every program's code
 

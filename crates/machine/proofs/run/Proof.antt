@@ -7,11 +7,11 @@ use Rattle.machine.proofs.run.Statement.{statement}
 use Rattle.machine.proofs.run.Tie as tie
 
 abbrev Inv-loop : tie.InvT-loop
-Inv-loop code input fuel output₀ values₀ places₀ limit s₀ units₀ output values places s units =
+Inv-loop fuel output₀ values₀ places₀ code input limit s₀ units₀ output values places s units =
     Running code input fuel output₀ values₀ places₀ output values places s units
 
 abbrev μ-loop : tie.MeasureT-loop
-μ-loop code input fuel output₀ values₀ places₀ limit s₀ units₀ output values places s units = fuel - units
+μ-loop fuel output₀ values₀ places₀ code input limit s₀ units₀ output values places s units = fuel - units
 
 -- from the turn, the loop's test and the fuel's width
 tell-requires : tie.Need-tell-requires Inv-loop μ-loop

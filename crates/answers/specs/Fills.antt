@@ -1,0 +1,15 @@
+-- What a call from C or Rust that fills a lent buffer answers, and what the buffer then holds.
+use Prim.Native.Nat.{ℕ}
+use mathlib.Core.Bool.{true, false}
+use mathlib.Core.List.{List}
+use mathlib.Core.Path.{_≡_}
+use lib.Dec.{ltb}
+use lib.ListN.{length}
+use Rattle.formats.specs.Results.{Result, onValue}
+use Rattle.formats.specs.Blocks.{lent}
+use Rattle.answers.specs.Answer.{answerPlaces, Answers}
+
+-- A call that fills a lent buffer besides. Where the answer has too few places, the buffer is untouched too.
+pub record Fills (due : Result (List ℕ)) (buffer filled before after : List ℕ) (r : ℕ) : Type 0 where
+  pub answers : Answers (onValue length due) before after r
+  pub holds : filled ≡ elim (ltb (length before) answerPlaces) [ true ↦ buffer | false ↦ lent buffer due ]

@@ -1,0 +1,18 @@
+-- `file_calls::pack` meets its contract: too few places, or what was put is told.
+use borrow.Author.Needs.{needs}
+use Rattle.answers.proofs.Calls.{call-ways}
+use Rattle.file_calls.proofs.pack.Statement.{statement}
+use Rattle.file_calls.proofs.pack.Tie as tie
+
+pub pack-spec : {M : Type 1} → statement M
+pack-spec =
+    tie.close
+    (tie.spec
+    -- too few places
+    (λ c κs. search needs) (λ c κs. search needs)
+    (λ c. search needs)
+    (λ c. search call-ways)
+    -- the call, and what it put is told
+    (λ c κs. search needs) (λ c κs. search needs)
+    (λ c. search needs) (λ c. search needs)
+    (λ c. search call-ways))

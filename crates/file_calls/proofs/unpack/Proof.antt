@@ -1,0 +1,18 @@
+-- `file_calls::unpack` meets its contract: too few places, or what was put is told.
+use borrow.Author.Needs.{needs}
+use Rattle.answers.proofs.Calls.{call-ways}
+use Rattle.file_calls.proofs.unpack.Statement.{statement}
+use Rattle.file_calls.proofs.unpack.Tie as tie
+
+pub unpack-spec : {M : Type 1} → statement M
+unpack-spec =
+    tie.close
+    (tie.spec
+    -- too few places
+    (λ c κs. search needs) (λ c κs. search needs)
+    (λ c. search needs)
+    (λ c. search call-ways)
+    -- the call, and what it put is told
+    (λ c κs. search needs) (λ c κs. search needs)
+    (λ c. search needs) (λ c. search needs)
+    (λ c. search call-ways))

@@ -1,2 +1,0 @@
--- Laws that the proofs of the exported functions cite.
-pub mod Laws

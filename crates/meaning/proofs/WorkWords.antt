@@ -1,0 +1,31 @@
+-- Laws of the work words: a call that touches none of them, and a call that comes to its run.
+use Prim.Native.Nat.{ℕ}
+use mathlib.Core.Bool.{Bool, true, false, false≢true}
+use mathlib.Core.List.{List}
+use mathlib.Core.Path.{_≡_, refl, sym, ap, _∙_}
+use lib.ListN.{length}
+use Rattle.formats.specs.Results.{Result, done, refusal}
+use Rattle.formats.proofs.Results.{done-not}
+use Rattle.meaning.specs.WorkWords.{WorkWords}
+
+module _ (before : ℕ → Bool) (outcome : Result (Unit {0})) where
+  pub untouched : (values returns : List ℕ) → WorkWords before outcome values values returns returns
+  untouched values returns =
+      record { values-length = refl; returns-length = refl; values-kept = λ n p e b. refl; returns-kept = λ n p e b. refl }
+
+  module _ (values values′ returns returns′ : List ℕ) (lv : length values′ ≡ length values) (lr : length returns′ ≡ length returns) where
+    pub ended : outcome ≡ done tt → WorkWords before outcome values values′ returns returns′
+    ended e = record { values-length = lv; returns-length = lr; values-kept = λ n p f b. done-not e f; returns-kept = λ n p f b. done-not e f }
+
+    same-number : {n m p q : ℕ} → _≡_ {A = Result (Unit {0})} (refusal n p) (refusal m q) → n ≡ m
+    same-number e = cc
+
+    -- refused by the run itself
+    pub run-refused : (number place : ℕ) → outcome ≡ refusal number place → before number ≡ false → WorkWords before outcome values values′ returns returns′
+    run-refused number place e late =
+        record {
+          values-length = lv;
+          returns-length = lr;
+          values-kept = λ n p f b. absurd (false≢true (sym late ∙ ap before (same-number (sym e ∙ f)) ∙ b));
+          returns-kept = λ n p f b. absurd (false≢true (sym late ∙ ap before (same-number (sym e ∙ f)) ∙ b));
+        }

@@ -1,0 +1,2 @@
+-- Proofs about the stream run's call.
+pub mod Laws

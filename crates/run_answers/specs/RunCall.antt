@@ -1,0 +1,25 @@
+-- What a run called from C or Rust answers, stream or source, and what its buffers then hold.
+use Prim.Native.Nat.{ℕ, _<_}
+use mathlib.Core.Bool.{Bool, true, false}
+use mathlib.Core.List.{List}
+use mathlib.Core.Path.{_≡_}
+use lib.Dec.{ltb}
+use lib.ListN.{length}
+use Rattle.formats.specs.Results.{Result}
+use Rattle.meaning.specs.Running.{Ran}
+use Rattle.meaning.specs.WorkWords.{WorkWords, beforeStream}
+use Rattle.run_answers.specs.Told.{Told}
+use Rattle.run_answers.specs.RunAnswer.{runPlaces, placesWith}
+
+-- A run with this outcome and this output due, its answer stored as `row` in the first places of `before`, so many. The buffers are unprimed at entry, primed
+-- at exit. Where the answer has too few places there is no run, and all buffers are untouched. `early` says which refusals come before the run.
+pub record RunCall (count : ℕ) (row : ℕ → List ℕ) (early : ℕ → Bool) (outcome : Result (Unit {0})) (due output output′ values values′ returns returns′ before after : List ℕ) (r : ℕ) : Type 0 where
+  pub answers : Told count row outcome before after r
+  pub holds : output′ ≡ elim (ltb (length before) count) [ true ↦ output | false ↦ due ]
+  pub not-run : length before < count → (values′ ≡ values) × (returns′ ≡ returns)
+  pub words : WorkWords early outcome values values′ returns returns′
+
+-- A stream run.
+abbrev pub StreamCall : (due : Ran) (output output′ values values′ returns returns′ before after : List ℕ) (r : ℕ) → Type 0
+StreamCall due output output′ values values′ returns returns′ before after r =
+    RunCall runPlaces (λ place. placesWith place (due .answer)) beforeStream (due .answer .outcome) (due .output) output output′ values values′ returns returns′ before after r

@@ -1,0 +1,2 @@
+-- Proofs about the runner's call.
+pub mod Laws

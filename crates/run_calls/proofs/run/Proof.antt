@@ -1,0 +1,18 @@
+-- `run_calls::run` meets its contract: too few places, or what was run is told.
+use borrow.Author.Needs.{needs}
+use Rattle.run_calls.proofs.Laws.{ways}
+use Rattle.run_calls.proofs.run.Statement.{statement}
+use Rattle.run_calls.proofs.run.Tie as tie
+
+pub run-spec : {M : Type 1} → statement M
+run-spec =
+    tie.close
+    (tie.spec
+    -- too few places
+    (λ c κs. search needs) (λ c κs. search needs)
+    (λ c. search needs)
+    (λ c. search ways)
+    -- the run, and what it gave is told
+    (λ c κs. search needs) (λ c κs. search needs)
+    (λ c. search needs) (λ c. search needs) (λ c. search needs) (λ c. search needs) (λ c. search needs)
+    (λ c. search ways))

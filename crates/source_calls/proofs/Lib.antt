@@ -1,0 +1,2 @@
+-- Proofs about the source run's call.
+pub mod Laws

@@ -12,16 +12,9 @@ use Rattle.refusal.specs.Put.{answered, Put}
 use Rattle.refusal.specs.Said.{said}
 use Rattle.refusal.specs.declared.Filled.{Filled}
 use Rattle.refusal.specs.declared.Verdict.{Verdict}
-use Rattle.tree.specs.Answer.{answered as treeAnswered}
-use Rattle.tree.specs.declared.TreeAnswer.{TreeAnswer}
 use Rattle.answers.specs.Answer.{answerPlaces, Answers}
 use Rattle.answers.specs.Fills.{Fills}
 use Rattle.answers.proofs.Laws.{too-few}
-
--- ---- the tree reader
-
-pub tree-told : (due : Result ℕ) (before after : List ℕ) (r : ℕ) (found : TreeAnswer) → treeAnswered found ≡ due → Answers (treeAnswered found) before after r → Answers due before after r
-tree-told due before after r found told a = rw (← told) a
 
 -- ---- checks
 

@@ -15,9 +15,6 @@ use Rattle.refusal.specs.declared.Verdict.the-variants.{Passed, Refused as Verd
 use Rattle.refusal.specs.Put.{answered}
 use Rattle.refusal.specs.declared.Filled.{Filled}
 use Rattle.refusal.specs.declared.Filled.the-variants.{Written, Refused}
-use Rattle.tree.specs.Answer.{answered as treeAnswered}
-use Rattle.tree.specs.declared.TreeAnswer.{TreeAnswer}
-use Rattle.tree.specs.declared.TreeAnswer.the-variants.{Tree, Refused as TreeRefused}
 use Rattle.answers.specs.Answer.{answerPlaces, refusalOf, placesOf, Stores, Answers}
 
 -- ---- `store`
@@ -45,20 +42,13 @@ pub too-few : (due : Result ℕ) (before : List ℕ) (r : ℕ) → length before
 too-few due before r h e = record { number = rw (lt-ltb _ _ h) e; places = sym (written-short before 0 (placesOf due) (rw length-places h)) }
 
 module _ (before after : List ℕ) (r : ℕ) where
-  all-done : (due : Result ℕ) (bytes : ℕ) → due ≡ done bytes → Stores 0 0 bytes before after r → Answers due before after r
+  pub all-done : (due : Result ℕ) (bytes : ℕ) → due ≡ done bytes → Stores 0 0 bytes before after r → Answers due before after r
   unfolding refusalOf placesOf
   all-done due bytes e s = subst (λ (d : Result ℕ). Answers d before after r) (sym e) (record { number = s .given; places = s .places })
 
-  a-refusal : (due : Result ℕ) (n place : ℕ) → due ≡ refusal n place → Stores n place 0 before after r → Answers due before after r
+  pub a-refusal : (due : Result ℕ) (n place : ℕ) → due ≡ refusal n place → Stores n place 0 before after r → Answers due before after r
   unfolding refusalOf placesOf
   a-refusal due n place e s = subst (λ (d : Result ℕ). Answers d before after r) (sym e) (record { number = s .given; places = s .places })
-
-  pub tree-done : (found : TreeAnswer) (end : ℕ) → found ≡ Tree end → Stores 0 0 end before after r → Answers (treeAnswered found) before after r
-  tree-done found end case = all-done (treeAnswered found) end (ap treeAnswered case)
-
-  pub tree-refused : (found : TreeAnswer) (why : Refusal) (place n : ℕ) → found ≡ TreeRefused why place → n ≡ number why → Stores n place 0 before after r
-      → Answers (treeAnswered found) before after r
-  tree-refused found why place n case is = a-refusal (treeAnswered found) n place (ap treeAnswered case ∙ ap (λ m. refusal m place) (sym is))
 
   pub filled-done : (filled : Filled) (bytes : ℕ) → filled ≡ Written bytes → Stores 0 0 bytes before after r → Answers (answered filled) before after r
   filled-done filled bytes case = all-done (answered filled) bytes (ap answered case)
@@ -74,8 +64,6 @@ module _ (before after : List ℕ) (r : ℕ) where
       → Answers (onValue (λ u. 0) (said verdict)) before after r
   verdict-refused verdict why place n case is =
       a-refusal (onValue (λ u. 0) (said verdict)) n place (ap (λ v. onValue (λ u. 0) (said v)) case ∙ ap (λ m. refusal m place) (sym is))
-
-pub ruleset tree-ways = (tree-done, tree-refused)
 
 pub ruleset filled-ways = (filled-done, filled-refused)
 

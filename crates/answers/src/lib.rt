@@ -2,17 +2,15 @@
 use refusal::Filled;
 use refusal::Refusal;
 use refusal::Verdict;
-use tree::TreeAnswer;
 ghost use mathlib.Core.Path.{_≡_};
 ghost use lib.Dec.{leb};
 ghost use lib.ListN.{length};
 ghost use Rattle.refusal.specs.Put.{answered};
 ghost use Rattle.formats.specs.Results.{onValue};
 ghost use Rattle.refusal.specs.Said.{said};
-ghost use Rattle.tree.specs.Answer.{answered as treeAnswered};
 ghost use Rattle.answers.specs.Answer.{answerPlaces, Stores, Answers};
 
-// How many places an answer takes. Later ones will stand behind these.
+// How many places an answer takes. Later ones will stand after these.
 const ANSWER_PLACES: usize = 2;
 
 // Whether so many places are lent.
@@ -24,7 +22,7 @@ pub fn has_room(answer: &[u64]) -> bool
 
 // Stores a refusal's place and a number of bytes as the answer's first two places, and gives the refusal's number. With fewer places: 13, and
 // the answer is untouched.
-fn store(answer: &mut [u64], number: u32, place: usize, bytes: usize) -> u32
+pub fn store(answer: &mut [u64], number: u32, place: usize, bytes: usize) -> u32
     ensures { λ r. ⌜ Stores number place bytes (now (answer .entry)) (now (answer .exit)) r ⌝ }
 {
     if answer.len() < ANSWER_PLACES {
@@ -33,16 +31,6 @@ fn store(answer: &mut [u64], number: u32, place: usize, bytes: usize) -> u32
     answer[0] = place as u64;
     answer[1] = bytes as u64;
     number
-}
-
-// The answer of the tree reader.
-pub fn tell_tree(found: TreeAnswer, answer: &mut [u64]) -> u32
-    ensures { λ r. ⌜ Answers (treeAnswered found) (now (answer .entry)) (now (answer .exit)) r ⌝ }
-{
-    match found {
-        TreeAnswer::Tree(end) => store(answer, 0, 0, end),
-        TreeAnswer::Refused(why, place) => store(answer, refusal::number_of(why), place, 0),
-    }
 }
 
 // The answer of a call that has filled a lent buffer, or refused to.

@@ -1,12 +1,12 @@
--- Laws of the work words: a call that touches none of them, and a call that comes to its run.
+-- Laws of the work words: a call that touches none of them, and a call that comes to its run. And which refusals come before a run, number by number.
 use Prim.Native.Nat.{ℕ}
 use mathlib.Core.Bool.{Bool, true, false, false≢true}
-use mathlib.Core.List.{List}
+use mathlib.Core.List.{List, [], _∷_, map}
 use mathlib.Core.Path.{_≡_, refl, sym, ap, _∙_}
 use lib.ListN.{length}
 use Rattle.formats.specs.Results.{Result, done, refusal}
 use Rattle.formats.proofs.Results.{done-not}
-use Rattle.meaning.specs.WorkWords.{WorkWords}
+use Rattle.meaning.specs.WorkWords.{WorkWords, beforeStream, beforeSource}
 
 module _ (before : ℕ → Bool) (outcome : Result (Unit {0})) where
   pub untouched : (values returns : List ℕ) → WorkWords before outcome values values returns returns
@@ -29,3 +29,15 @@ module _ (before : ℕ → Bool) (outcome : Result (Unit {0})) where
           values-kept = λ n p f b. absurd (false≢true (sym late ∙ ap before (same-number (sym e ∙ f)) ∙ b));
           returns-kept = λ n p f b. absurd (false≢true (sym late ∙ ap before (same-number (sym e ∙ f)) ∙ b));
         }
+
+-- ---- which refusals come before a run
+
+-- 1, then 12 on, to the last number
+abbrev numbers : List ℕ
+numbers = 1 ∷ 12 ∷ 13 ∷ 14 ∷ 15 ∷ 16 ∷ 17 ∷ 18 ∷ 19 ∷ 20 ∷ []
+
+pub early :
+    (map beforeStream numbers ≡ true ∷ true ∷ true ∷ false ∷ false ∷ false ∷ false ∷ false ∷ false ∷ false ∷ [])
+    × (map beforeSource numbers ≡ true ∷ true ∷ true ∷ false ∷ true ∷ true ∷ false ∷ false ∷ false ∷ true ∷ [])
+unfolding beforeStream beforeSource
+early = (refl, refl)

@@ -29,7 +29,7 @@ fn too_few_words(file: &[u8]) -> Filled
 
 // All that comes before a run that is lent so many value words and return words: the rows of the file, both passes, every 13, and then the program's
 // code is written to the start of `code`. A refusal leaves the buffer untouched.
-pub fn prepare(file: &[u8], code: &mut [u8], values: usize, places: usize) -> Filled
+fn prepare(file: &[u8], code: &mut [u8], values: usize, places: usize) -> Filled
     ensures { λ r. ⌜ Put (prepared (length (now (code .entry))) values places (now (file .entry))) (now (code .entry)) (now (code .exit)) r ⌝ }
 {
     if values < VALUE_WORDS {
@@ -42,7 +42,7 @@ pub fn prepare(file: &[u8], code: &mut [u8], values: usize, places: usize) -> Fi
 }
 
 // The answer of a call that is refused before its run.
-pub fn refused(why: Refusal, place: usize) -> Answer
+fn refused(why: Refusal, place: usize) -> Answer
     ensures { λ r. ⌜ answered r ≡ refusedBefore (number why) place ⌝ }
 {
     Answer {

@@ -1,4 +1,5 @@
 // The tree reader's calls from C and Rust.
+use tree::TreeAnswer;
 ghost use mathlib.Core.Path.{_≡_};
 ghost use lib.ListN.{length};
 ghost use Rattle.formats.specs.Tokens.{firstEnd, firstTree, ownBytes};
@@ -18,5 +19,13 @@ pub fn tree(input: &[u8], answer: &mut [u64]) -> u32
     ensures { λ r. ⌜ Answers (firstEnd (now (input .entry))) (now (answer .entry)) (now (answer .exit)) r ⌝ }
 {
     let found = tree::tree_answer(input);
-    answers::tell_tree(found, answer)
+    match found {
+        TreeAnswer::Tree(end) => answers::store(answer, 0, 0, end),
+        TreeAnswer::Refused(why, place) => answers::store(
+            answer,
+            refusal::number_of(why),
+            place,
+            0,
+        ),
+    }
 }

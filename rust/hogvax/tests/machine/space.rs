@@ -66,18 +66,18 @@ fn cases() -> Vec<TestCase> {
     known.flat_map(|case| [case.with_fuel(0), case]).collect()
 }
 
-/// Before all other refusals, 14 too; every count is 0 and the output is
-/// untouched.
+/// Before all other refusals, 14 too; every count is 0, and the output and the
+/// work words are untouched.
 #[test]
 fn work_words_that_are_too_few_give_13() {
     for case in cases() {
         for words in SHORT {
             let mut buffers = Buffers::new(case.output, words, 6);
+            let mut expected = buffers.clone();
+            expected.answer[..5].fill(0);
             let number = buffers.perform(&case);
             assert_eq!(number, 13, "{words:?}: {case:?}");
-            assert_eq!(buffers.answer, [0, 0, 0, 0, 0, UNTOUCHED], "{case:?}");
-            let untouched = buffers.output.iter().all(|&byte| byte == FILLER);
-            assert!(untouched, "{words:?}: {case:?}");
+            assert!(buffers == expected, "{words:?}: {case:?}");
         }
     }
 }

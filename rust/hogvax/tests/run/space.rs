@@ -179,6 +179,20 @@ fn an_answer_takes_five_places() {
     }
 }
 
+/// Refused with 1 to 13, a call leaves every buffer but the answer's places.
+#[test]
+fn a_call_refused_before_its_run_touches_nothing_else() {
+    for (case, gave) in one_of_each() {
+        if (1..=13).contains(&gave.number) {
+            let mut buffers = Buffers::new(&case, 5);
+            let mut expected = buffers.clone();
+            expected.answer.copy_from_slice(&gave.places);
+            assert_eq!(buffers.run(&case), gave.number, "{case:?}");
+            assert!(buffers == expected, "{case:?}");
+        }
+    }
+}
+
 #[test]
 fn an_answer_fills_five_places_and_leaves_the_rest() {
     for (case, expected) in one_of_each() {

@@ -144,6 +144,26 @@ fn an_answer_takes_four_places() {
     }
 }
 
+/// Refused with 1 to 10, 13, 15, 16 or 20, a call leaves every buffer but the
+/// answer's places.
+#[test]
+fn a_call_refused_before_its_run_touches_nothing_else() {
+    let space = one_of_each().into_iter().filter(|(_, gave)| gave.number == 0);
+    let space = space.map(|(case, _)| with_words(&case, SHORT[0]));
+    let short = space.map(|case| (case, 13));
+    let others = one_of_each().into_iter().map(|(case, gave)| (case, gave.number));
+    for (case, number) in others.chain(short) {
+        if [0, 14, 17, 18].contains(&number) {
+            continue;
+        }
+        let mut buffers = Buffers::new(&case, 4);
+        let mut expected = buffers.clone();
+        assert_eq!(buffers.source(&case), number, "{case:?}");
+        expected.answer.copy_from_slice(&buffers.answer);
+        assert!(buffers == expected, "{case:?}");
+    }
+}
+
 #[test]
 fn an_answer_fills_four_places_and_leaves_the_rest() {
     for (case, expected) in one_of_each() {

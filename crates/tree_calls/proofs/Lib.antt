@@ -1,0 +1,2 @@
+-- Proofs about the tree reader's calls.
+pub mod Laws

@@ -21,77 +21,78 @@ use Rattle.translation.specs.Templates.{wordOf, endOf}
 use Rattle.code_scope.specs.declared.Scope.{Scope}
 use Rattle.code_scope.specs.Around.{aroundOf, wordsIn, sortOf}
 use Rattle.template.specs.Items.{entriesIn}
-use Rattle.lay_items.specs.Operations.{operationFor, operationsFor, put, putAll, opcodeOfEnd}
+use Rattle.lay_items.specs.declared.Instruction.{Instruction}
+use Rattle.lay_items.specs.Operations.{operationFor, fieldsIn, instructionFor, operationsFor, put, putAll, opcodeOfEnd}
 
--- ---- `lay_item`
+-- ---- `instruction_of`
 
-module _ (s entries : List ℕ) (c : Scope) (last behind : ℕ) (code after : List ℕ) (a : ℕ) (item : Item) where
-  -- the instruction of the item, written at the address
-  abbrev Lays : Type 0
-  Lays = after ≡ putAll code a (operationsFor s entries c last behind (itemOf item ∷ []))
+module _ (s entries : List ℕ) (c : Scope) (last behind : ℕ) (item : Item) (r : Instruction) where
+  -- the fields are the item's
+  abbrev Is : Type 0
+  Is = fieldsIn r ≡ instructionFor s entries c last behind (itemOf item)
 
-  -- fields that are the item's
-  as-fields : (r : Record) → after ≡ written code (recordBytes * a) (bytesOfRecord r)
-      → r ≡ instructionOf (operationFor (entriesIn entries) (arityIn s) (aroundOf c) last behind (itemOf item))
-      → Lays
-  unfolding putAll
-  as-fields r wrote is = wrote ∙ ap (λ (q : Record). written code (recordBytes * a) (bytesOfRecord q)) is
-
-  pub lay-push : (i : ℕ) → item ≡ Push i → after ≡ written code (recordBytes * a) (bytesOfRecord (fields 0 0 0 i)) → Lays
+  pub is-push : (i : ℕ) → item ≡ Push i → r ≡ record { opcode = 0; byte1 = 0; operand = 0; number = i } → Is
   unfolding operationFor instructionOf
-  lay-push i case wrote = as-fields _ wrote (rw (case, operationFor, instructionOf))
+  is-push i case e = ap fieldsIn e ∙ (rw (case, operationFor, instructionOf))
 
-  pub lay-get : (k w : ℕ) → item ≡ Get k → w ≡ wordOf (wordsIn c) k → after ≡ written code (recordBytes * a) (bytesOfRecord (fields 1 0 w 0)) → Lays
+  pub is-get : (k w : ℕ) → item ≡ Get k → w ≡ wordOf (wordsIn c) k → r ≡ record { opcode = 1; byte1 = 0; operand = w; number = 0 } → Is
   unfolding operationFor instructionOf
-  lay-get k w case word wrote = as-fields _ wrote (rw (case, word, operationFor, instructionOf))
+  is-get k w case word e = ap fieldsIn e ∙ (rw (case, word, operationFor, instructionOf))
 
-  pub lay-add : item ≡ Add → after ≡ written code (recordBytes * a) (bytesOfRecord (fields 2 0 0 0)) → Lays
+  pub is-add : item ≡ Add → r ≡ record { opcode = 2; byte1 = 0; operand = 0; number = 0 } → Is
   unfolding operationFor instructionOf
-  lay-add case wrote = as-fields _ wrote (rw (case, operationFor, instructionOf))
+  is-add case e = ap fieldsIn e ∙ (rw (case, operationFor, instructionOf))
 
-  pub lay-ifnot : item ≡ Ifnot → after ≡ written code (recordBytes * a) (bytesOfRecord (fields 3 0 last 0)) → Lays
+  pub is-ifnot : item ≡ Ifnot → r ≡ record { opcode = 3; byte1 = 0; operand = last; number = 0 } → Is
   unfolding operationFor instructionOf
-  lay-ifnot case wrote = as-fields _ wrote (rw (case, operationFor, instructionOf))
+  is-ifnot case e = ap fieldsIn e ∙ (rw (case, operationFor, instructionOf))
 
-  pub lay-jump : item ≡ Jump → after ≡ written code (recordBytes * a) (bytesOfRecord (fields 4 0 behind 0)) → Lays
+  pub is-jump : item ≡ Jump → r ≡ record { opcode = 4; byte1 = 0; operand = behind; number = 0 } → Is
   unfolding operationFor instructionOf
-  lay-jump case wrote = as-fields _ wrote (rw (case, operationFor, instructionOf))
+  is-jump case e = ap fieldsIn e ∙ (rw (case, operationFor, instructionOf))
 
-  pub lay-leaf-tag : item ≡ LeafTag → after ≡ written code (recordBytes * a) (bytesOfRecord (fields 7 0 0 0)) → Lays
+  pub is-leaf-tag : item ≡ LeafTag → r ≡ record { opcode = 7; byte1 = 0; operand = 0; number = 0 } → Is
   unfolding operationFor instructionOf
-  lay-leaf-tag case wrote = as-fields _ wrote (rw (case, operationFor, instructionOf))
+  is-leaf-tag case e = ap fieldsIn e ∙ (rw (case, operationFor, instructionOf))
 
-  pub lay-node-tag : item ≡ NodeTag → after ≡ written code (recordBytes * a) (bytesOfRecord (fields 8 0 0 0)) → Lays
+  pub is-node-tag : item ≡ NodeTag → r ≡ record { opcode = 8; byte1 = 0; operand = 0; number = 0 } → Is
   unfolding operationFor instructionOf
-  lay-node-tag case wrote = as-fields _ wrote (rw (case, operationFor, instructionOf))
+  is-node-tag case e = ap fieldsIn e ∙ (rw (case, operationFor, instructionOf))
 
-  pub lay-write-number : item ≡ WriteNumber → after ≡ written code (recordBytes * a) (bytesOfRecord (fields 9 0 0 0)) → Lays
+  pub is-write-number : item ≡ WriteNumber → r ≡ record { opcode = 9; byte1 = 0; operand = 0; number = 0 } → Is
   unfolding operationFor instructionOf
-  lay-write-number case wrote = as-fields _ wrote (rw (case, operationFor, instructionOf))
+  is-write-number case e = ap fieldsIn e ∙ (rw (case, operationFor, instructionOf))
 
-  pub lay-read-tag : item ≡ ReadTag → after ≡ written code (recordBytes * a) (bytesOfRecord (fields 10 0 last 0)) → Lays
+  pub is-read-tag : item ≡ ReadTag → r ≡ record { opcode = 10; byte1 = 0; operand = last; number = 0 } → Is
   unfolding operationFor instructionOf
-  lay-read-tag case wrote = as-fields _ wrote (rw (case, operationFor, instructionOf))
+  is-read-tag case e = ap fieldsIn e ∙ (rw (case, operationFor, instructionOf))
 
-  pub lay-read-number : item ≡ ReadNumber → after ≡ written code (recordBytes * a) (bytesOfRecord (fields 11 0 0 0)) → Lays
+  pub is-read-number : item ≡ ReadNumber → r ≡ record { opcode = 11; byte1 = 0; operand = 0; number = 0 } → Is
   unfolding operationFor instructionOf
-  lay-read-number case wrote = as-fields _ wrote (rw (case, operationFor, instructionOf))
+  is-read-number case e = ap fieldsIn e ∙ (rw (case, operationFor, instructionOf))
 
-  pub lay-end : (opcode : ℕ) → item ≡ End → opcode ≡ opcodeOfEnd (c .tree) → after ≡ written code (recordBytes * a) (bytesOfRecord (fields opcode 0 0 0)) → Lays
+  pub is-call : (b n entry : ℕ) → item ≡ Call b → n ≡ arityIn s b → entry ≡ entriesIn entries b → r ≡ record { opcode = 12; byte1 = n; operand = entry; number = 0 } → Is
+  unfolding operationFor instructionOf
+  is-call b n entry case many is e = ap fieldsIn e ∙ (rw (case, many, is, operationFor, instructionOf))
+
+  pub is-end : (opcode : ℕ) → item ≡ End → opcode ≡ opcodeOfEnd (c .tree) → r ≡ record { opcode = opcode; byte1 = 0; operand = 0; number = 0 } → Is
   unfolding operationFor instructionOf endOf
-  lay-end opcode case is wrote = as-fields _ wrote (rw (case, operationFor, is) (ended (c .tree)))
+  is-end opcode case is e = ap fieldsIn e ∙ (rw (case, operationFor, is) (ended (c .tree)))
     where
       ended : (tree : Bool) → fields (opcodeOfEnd tree) 0 0 0 ≡ instructionOf (endOf (sortOf tree))
       ended true = refl
       ended false = refl
 
-  pub lay-call : (b n entry : ℕ) → item ≡ Call b → n ≡ arityIn s b → entry ≡ entriesIn entries b
-      → after ≡ written code (recordBytes * a) (bytesOfRecord (fields 12 n entry 0))
-      → Lays
-  unfolding operationFor instructionOf
-  lay-call b n entry case many is wrote = as-fields _ wrote (rw (case, many, is, operationFor, instructionOf))
+pub ruleset item-ways = (is-push, is-get, is-add, is-ifnot, is-jump, is-end, is-leaf-tag, is-node-tag, is-write-number, is-read-tag, is-read-number, is-call)
 
-pub ruleset lay-ways = (lay-push, lay-get, lay-add, lay-ifnot, lay-jump, lay-end, lay-leaf-tag, lay-node-tag, lay-write-number, lay-read-tag, lay-read-number, lay-call)
+-- ---- `lay_item`
+
+pub lay-one : (s entries : List ℕ) (c : Scope) (last behind : ℕ) (code after : List ℕ) (a : ℕ) (item : Item) (r : Instruction)
+    → fieldsIn r ≡ instructionFor s entries c last behind (itemOf item)
+    → after ≡ written code (recordBytes * a) (bytesOfRecord (fieldsIn r))
+    → after ≡ putAll code a (operationsFor s entries c last behind (itemOf item ∷ []))
+unfolding putAll
+lay-one s entries c last behind code after a item r is wrote = wrote ∙ ap (λ (q : Record). written code (recordBytes * a) (bytesOfRecord q)) is
 
 -- ---- `lay_items`
 

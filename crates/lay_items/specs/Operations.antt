@@ -3,7 +3,7 @@ use Prim.Native.Nat.{ℕ, suc, _*_}
 use mathlib.Core.Bool.{Bool, true, false}
 use mathlib.Core.List.{List, [], _∷_, map}
 use Rattle.formats.specs.CodeColumn.{Item, pushNumber, getName, addTwo, ifnotLast, jumpBehind, endName, leafTag, nodeTag, writeNumber, readTagLast, readNumber, callFunction}
-use Rattle.formats.specs.Records.{recordBytes, bytesOfRecord}
+use Rattle.formats.specs.Records.{Record, fields, recordBytes, bytesOfRecord}
 use Rattle.formats.specs.Rows.{arityIn}
 use Rattle.formats.specs.Written.{written}
 use Rattle.meaning.specs.Instructions.{Operation, Push, Get, Add, Ifnot, Jump, LeafTag, NodeTag, WriteNumber, ReadTag, ReadNumber, Call, instructionOf}
@@ -11,6 +11,7 @@ use Rattle.translation.specs.Templates.{wordOf, endOf}
 use Rattle.code_scope.specs.declared.Scope.{Scope}
 use Rattle.code_scope.specs.Around.{Around, aroundOf}
 use Rattle.template.specs.Items.{entriesIn}
+use Rattle.lay_items.specs.declared.Instruction.{Instruction}
 
 -- The instruction of an item, where functions have these entries and number parameters: `last` is where the last part begins, `behind` is behind the
 -- whole.
@@ -31,6 +32,13 @@ operationFor entries arity x last behind (callFunction b) = Call (entries b) (ar
 -- What items are laid down as, with the flat records s, a table of entries and a scope.
 abbrev pub operationsFor : (s entries : List ℕ) → Scope → (last behind : ℕ) → List Item → List Operation
 operationsFor s entries c last behind items = map (operationFor (entriesIn entries) (arityIn s) (aroundOf c) last behind) items
+
+-- The fields of the instruction that an item is.
+abbrev pub instructionFor : (s entries : List ℕ) → Scope → (last behind : ℕ) → Item → Record
+instructionFor s entries c last behind item = instructionOf (operationFor (entriesIn entries) (arityIn s) (aroundOf c) last behind item)
+
+abbrev pub fieldsIn : Instruction → Record
+fieldsIn x = fields (x .opcode) (x .byte1) (x .operand) (x .number)
 
 -- An instruction written at an address of a part of the code buffer; untouched where it does not fit.
 abbrev pub put : List ℕ → ℕ → Operation → List ℕ

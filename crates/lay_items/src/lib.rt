@@ -5,7 +5,7 @@ use records::Items;
 ghost use mathlib.Core.List.{[], _∷_};
 ghost use mathlib.Core.Path.{_≡_};
 ghost use Rattle.records.specs.Read.{itemOf, row};
-ghost use Rattle.lay_items.specs.Operations.{operationsFor, putAll, opcodeOfEnd};
+ghost use Rattle.lay_items.specs.Operations.{fieldsIn, instructionFor, operationsFor, putAll, opcodeOfEnd};
 
 const PUSH: u8 = 0;
 
@@ -39,6 +39,14 @@ pub struct Labels {
     pub behind: usize,
 }
 
+// The fields of an instruction.
+struct Instruction {
+    opcode: u8,
+    byte1: u8,
+    operand: usize,
+    number: u32,
+}
+
 // The opcode of "end": slide where a number is expected, drop where a tree is.
 fn end_opcode(tree: bool) -> u8
     ensures { λ r. ⌜ r ≡ opcodeOfEnd tree ⌝ }
@@ -49,7 +57,48 @@ fn end_opcode(tree: bool) -> u8
     SLIDE
 }
 
-// Lays down one item at an address, or nothing where it does not fit: with the entries of the functions and the addresses that items go to.
+// An instruction with these fields.
+fn fields(opcode: u8, byte1: u8, operand: usize, number: u32) -> Instruction
+    ensures { λ r. ⌜ r ≡ record { opcode = opcode; byte1 = byte1; operand = operand; number = number } ⌝ }
+{
+    Instruction {
+        opcode: opcode,
+        byte1: byte1,
+        operand: operand,
+        number: number,
+    }
+}
+
+// The instruction of an item, with the entries of the functions and the addresses that items go to.
+fn instruction_of(
+    flat: &[u8],
+    entries: &[u16],
+    item: Item,
+    scope: Scope,
+    labels: Labels,
+) -> Instruction
+    ensures { λ r. ⌜ fieldsIn r ≡ instructionFor (now (flat .entry)) (now (entries .entry)) scope (labels .last) (labels .behind) (itemOf item) ⌝ }
+{
+    match item {
+        Item::Push(i) => fields(PUSH, 0, 0, i),
+        Item::Get(a) => fields(GET, 0, code_scope::word_of(scope, a) as usize, 0),
+        Item::Add => fields(ADD, 0, 0, 0),
+        Item::Ifnot => fields(IFNOT, 0, labels.last, 0),
+        Item::Jump => fields(JUMP, 0, labels.behind, 0),
+        Item::End => fields(end_opcode(scope.tree), 0, 0, 0),
+        Item::LeafTag => fields(LEAF_TAG, 0, 0, 0),
+        Item::NodeTag => fields(NODE_TAG, 0, 0, 0),
+        Item::WriteNumber => fields(WRITE_NUMBER, 0, 0, 0),
+        Item::ReadTag => fields(READ_TAG, 0, labels.last, 0),
+        Item::ReadNumber => fields(READ_NUMBER, 0, 0, 0),
+        Item::Call(b) => {
+            let arguments = signatures::parameters(flat, b);
+            fields(CALL, arguments, template::entry_of(entries, b) as usize, 0)
+        }
+    }
+}
+
+// Lays down one item at an address, or nothing where it does not fit.
 fn lay_item(
     flat: &[u8],
     entries: &[u16],
@@ -61,38 +110,8 @@ fn lay_item(
 )
     ensures { λ _. ⌜ now (code .exit) ≡ putAll (now (code .entry)) address (operationsFor (now (flat .entry)) (now (entries .entry)) scope (labels .last) (labels .behind) (itemOf item ∷ [])) ⌝ }
 {
-    match item {
-        Item::Push(i) => instruction::write_instruction(code, address, PUSH, 0, 0, i),
-        Item::Get(a) => {
-            instruction::write_instruction(
-                code,
-                address,
-                GET,
-                0,
-                code_scope::word_of(scope, a) as usize,
-                0,
-            )
-        }
-        Item::Add => instruction::write_instruction(code, address, ADD, 0, 0, 0),
-        Item::Ifnot => instruction::write_instruction(code, address, IFNOT, 0, labels.last, 0),
-        Item::Jump => instruction::write_instruction(code, address, JUMP, 0, labels.behind, 0),
-        Item::End => {
-            instruction::write_instruction(code, address, end_opcode(scope.tree), 0, 0, 0)
-        }
-        Item::LeafTag => instruction::write_instruction(code, address, LEAF_TAG, 0, 0, 0),
-        Item::NodeTag => instruction::write_instruction(code, address, NODE_TAG, 0, 0, 0),
-        Item::WriteNumber => instruction::write_instruction(code, address, WRITE_NUMBER, 0, 0, 0),
-        Item::ReadTag => instruction::write_instruction(code, address, READ_TAG, 0, labels.last, 0),
-        Item::ReadNumber => instruction::write_instruction(code, address, READ_NUMBER, 0, 0, 0),
-        Item::Call(b) => instruction::write_instruction(
-            code,
-            address,
-            CALL,
-            signatures::parameters(flat, b),
-            template::entry_of(entries, b) as usize,
-            0,
-        ),
-    }
+    let x = instruction_of(flat, entries, item, scope, labels);
+    instruction::write_instruction(code, address, x.opcode, x.byte1, x.operand, x.number);
 }
 
 // Lays down items from an address on, each where it fits.

@@ -19,7 +19,7 @@ use Rattle.records.specs.declared.Items.{Items}
 use Rattle.records.specs.declared.Items.the-variants.{None, One, Two}
 use Rattle.translation.specs.Templates.{wordOf, endOf}
 use Rattle.code_scope.specs.declared.Scope.{Scope}
-use Rattle.code_scope.specs.Around.{aroundOf, wordsIn, sortOf}
+use Rattle.code_scope.specs.Around.{wordsIn, sortOf}
 use Rattle.template.specs.Items.{entriesIn}
 use Rattle.lay_items.specs.declared.Instruction.{Instruction}
 use Rattle.lay_items.specs.Operations.{operationFor, fieldsIn, instructionFor, operationsFor, put, putAll, opcodeOfEnd}

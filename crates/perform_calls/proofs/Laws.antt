@@ -18,14 +18,14 @@ module _ (due : Ran) (output values returns before : List ℕ) (r : ℕ) (room :
   pub not-run : not room ≡ true → r ≡ spaceTooShort → StreamCall due output output values values returns returns before before r
   not-run u e = not-called _ _ _ _ _ output values returns before r refl (too-few runPlaces before room test u) e
 
-  -- what was run is told
-  pub run-told :
+  -- what was run is answered
+  pub run-answered :
       (output′ values′ returns′ after : List ℕ) (ran : Answer)
       → not room ≡ false
       → Performed due output′ values values′ returns returns′ ran
       → Answers (answered ran) before after r
       → StreamCall due output output′ values values′ returns returns′ before after r
-  run-told output′ values′ returns′ after ran u p a =
+  run-answered output′ values′ returns′ after ran u p a =
       called _ _ _ _ _ output values returns before r output′ values′ returns′ after (enough runPlaces before room test u) (rw (← (p .answer)) a) (p .output) (p .words)
 
-pub ruleset ways = (not-run, run-told)
+pub ruleset ways = (not-run, run-answered)

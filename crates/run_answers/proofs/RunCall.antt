@@ -1,4 +1,4 @@
--- Laws of runs called from C and Rust: there are too few places, or what was run is told.
+-- Laws of runs called from C and Rust: there are too few places, or what was run is answered.
 use Prim.Native.Nat.{ℕ, _≤_, _<_}
 use mathlib.Core.Bool.{Bool, true, false, not}
 use mathlib.Core.List.{List}

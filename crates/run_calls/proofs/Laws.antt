@@ -27,14 +27,14 @@ module _ (file input output code values returns before : List ℕ) (fuel r : ℕ
         program-run = λ many. absurd (omega arith);
       }
 
-  -- what was run is told
-  pub run-told :
+  -- what was run is answered
+  pub run-answered :
       (output′ code′ values′ returns′ after : List ℕ) (ran : Answer)
       → not room ≡ false
       → Runs file input output output′ code code′ values values′ returns returns′ fuel ran
       → Answers (answered ran) before after r
       → RunsFile file input output output′ code code′ values values′ returns returns′ before after fuel r
-  run-told output′ code′ values′ returns′ after ran u p a =
+  run-answered output′ code′ values′ returns′ after ran u p a =
       let many = enough runPlaces before room test u in
       record {
         run = called _ _ _ _ _ output values returns before r output′ values′ returns′ after many (rw (← (p .answer)) a) (p .output-is) (p .words);
@@ -42,4 +42,4 @@ module _ (file input output code values returns before : List ℕ) (fuel r : ℕ
         program-run = λ h. rw (← (p .answer)) (p .program-run);
       }
 
-pub ruleset ways = (not-run, run-told)
+pub ruleset ways = (not-run, run-answered)

@@ -18,14 +18,14 @@ module _ (due : SourceRan) (output values returns before : List ℕ) (r : ℕ) (
   pub not-run : not room ≡ true → r ≡ spaceTooShort → SourceCall due output output values values returns returns before before r
   not-run u e = not-called _ _ _ _ _ output values returns before r refl (too-few sourcePlaces before room test u) e
 
-  -- what was run is told
-  pub run-told :
+  -- what was run is answered
+  pub run-answered :
       (output′ values′ returns′ after : List ℕ) (ran : SourceAnswer)
       → not room ≡ false
       → Sourced due output′ values values′ returns returns′ ran
       → Answers (answered ran) before after r
       → SourceCall due output output′ values values′ returns returns′ before after r
-  run-told output′ values′ returns′ after ran u p a =
+  run-answered output′ values′ returns′ after ran u p a =
       called _ _ _ _ _ output values returns before r output′ values′ returns′ after (enough sourcePlaces before room test u) (rw (← (p .answer)) a) (p .output) (p .words)
 
-pub ruleset ways = (not-run, run-told)
+pub ruleset ways = (not-run, run-answered)

@@ -1,4 +1,4 @@
--- `check_calls::check` meets its contract: what the order checker says is told.
+-- `check_calls::check` meets its contract: what the order checker says is answered.
 use borrow.Author.Needs.{needs}
 use Rattle.answers.proofs.Calls.{verdict-told}
 use Rattle.check_calls.proofs.check.Statement.{statement}

@@ -1,4 +1,4 @@
--- `file_calls::unpack` meets its contract: too few places, or what was put is told.
+-- `file_calls::unpack` meets its contract: too few places, or what was written is answered.
 use borrow.Author.Needs.{needs}
 use Rattle.answers.proofs.Calls.{call-ways}
 use Rattle.file_calls.proofs.unpack.Statement.{statement}
@@ -12,7 +12,7 @@ unpack-spec =
     (λ c κs. search needs) (λ c κs. search needs)
     (λ c. search needs)
     (λ c. search call-ways)
-    -- the call, and what it put is told
+    -- the call, and its answer stored
     (λ c κs. search needs) (λ c κs. search needs)
     (λ c. search needs) (λ c. search needs)
     (λ c. search call-ways))

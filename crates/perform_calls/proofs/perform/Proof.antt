@@ -1,4 +1,4 @@
--- `perform_calls::perform` meets its contract: too few places, or what was run is told.
+-- `perform_calls::perform` meets its contract: too few places, or the run's answer is stored.
 use borrow.Author.Needs.{needs}
 use Rattle.perform_calls.proofs.Laws.{ways}
 use Rattle.perform_calls.proofs.perform.Statement.{statement}
@@ -12,7 +12,7 @@ perform-spec =
     (λ c κs. search needs) (λ c κs. search needs)
     (λ c. search needs)
     (λ c. search ways)
-    -- the run, and what it gave is told
+    -- the run, and its answer stored
     (λ c κs. search needs) (λ c κs. search needs)
     (λ c. search needs) (λ c. search needs) (λ c. search needs) (λ c. search needs)
     (λ c. search ways))

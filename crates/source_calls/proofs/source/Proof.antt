@@ -1,4 +1,4 @@
--- `source_calls::source` meets its contract: too few places, or what was run is told.
+-- `source_calls::source` meets its contract: too few places, or the run's answer is stored.
 use borrow.Author.Needs.{needs}
 use Rattle.source_calls.proofs.Laws.{ways}
 use Rattle.source_calls.proofs.source.Statement.{statement}
@@ -12,7 +12,7 @@ source-spec =
     (λ c κs. search needs) (λ c κs. search needs)
     (λ c. search needs)
     (λ c. search ways)
-    -- the run, and what it gave is told
+    -- the run, and its answer stored
     (λ c κs. search needs) (λ c κs. search needs)
     (λ c. search needs) (λ c. search needs) (λ c. search needs) (λ c. search needs)
     (λ c. search ways))

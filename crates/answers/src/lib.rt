@@ -13,7 +13,7 @@ ghost use Rattle.answers.specs.Answer.{answerPlaces, Stores, Answers};
 // How many places an answer takes. Later ones will stand after these.
 const ANSWER_PLACES: usize = 2;
 
-// Whether so many places are lent.
+// Whether all places of the answer are lent.
 pub fn has_room(answer: &[u64]) -> bool
     ensures { λ r. ⌜ r ≡ leb answerPlaces (length (now (answer .entry))) ⌝ }
 {

@@ -10,6 +10,10 @@ use Rattle.formats.specs.Records.{fields}
 use Rattle.meaning.specs.Instructions.{Instruction, Operation, Push, Get, Add, Ifnot, Jump, Slide, Drop, LeafTag, NodeTag, WriteNumber, ReadTag, ReadNumber, Call, Return, operationOf}
 use Rattle.meaning.specs.Performing.{Setting, State, standing}
 
+-- 01: "opcodes 0 to 13".
+abbrev pub lastOpcode : ℕ
+lastOpcode = 13
+
 -- How many words it needs above the frame's base: those that it takes, moves or reads.
 unfoldable pub wordsNeeded : Operation → ℕ
 wordsNeeded (Push x) = 0
@@ -56,7 +60,7 @@ pub data CannotPerform (m : Setting) (s : State) : Type 0 where
   no-operation :
       (opcode byte1 operand number : ℕ)
       → m .holds (s .address) ≡ some (fields opcode byte1 operand number)
-      → 13 < opcode
+      → lastOpcode < opcode
       → CannotPerform m s
   -- "return byte": "0 or 1 words kept"
   return-byte : (k : ℕ) → Fetches m s (Return k) → 1 < k → CannotPerform m s

@@ -1,5 +1,5 @@
--- Document 01: "Work words after a run are unspecified." What holds of them all the same: their number, and that a call which is refused before its
--- first instruction or expression leaves them as they were.
+-- Document 01: "Work words after a run are unspecified." What holds of them all the same: their number, and that a call which is refused before its run
+-- leaves them as they were. (A run without fuel is a run: 14 is its own refusal.)
 use Prim.Native.Nat.{ℕ}
 use mathlib.Core.Bool.{Bool, true, _||_}
 use mathlib.Core.List.{List}
@@ -9,11 +9,11 @@ use lib.ListN.{length}
 use Rattle.formats.specs.Refusals.{spaceTooShort, inputEnded, notATag, tooDeep}
 use Rattle.formats.specs.Results.{Result, refusal}
 
--- The numbers that a stream run is refused with before its first instruction is looked at: 1 to 13.
+-- The numbers that a call is refused with before its stream run: 1 to 13.
 unfoldable pub beforeStream : ℕ → Bool
 beforeStream number = leb number spaceTooShort
 
--- The numbers that a source run is refused with before its first expression: 1 to 13, and those of the tree reader, 15, 16 and 20.
+-- The numbers that a call is refused with before its source run: 1 to 13, and those of the tree reader, 15, 16 and 20.
 unfoldable pub beforeSource : ℕ → Bool
 beforeSource number = leb number spaceTooShort || (eqb number inputEnded || (eqb number notATag || eqb number tooDeep))
 

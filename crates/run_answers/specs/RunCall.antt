@@ -11,8 +11,9 @@ use Rattle.meaning.specs.WorkWords.{WorkWords, beforeStream}
 use Rattle.run_answers.specs.Told.{Told}
 use Rattle.run_answers.specs.RunAnswer.{runPlaces, placesWith}
 
--- A run with this outcome and this output due, its answer stored as `row` in the first places of `before`, so many. The buffers are unprimed at entry, primed
--- at exit. Where the answer has too few places there is no run, and all buffers are untouched. `early` says which refusals come before the run.
+-- A run with this outcome and this output due. Its answer is `row`, stored in the first `count` places of the answer array, which is `before` at entry and
+-- `after` at exit; the other buffers are unprimed at entry, primed at exit. Where the array has too few places there is no run, and all buffers are
+-- untouched. `early` says which refusals come before the run.
 pub record RunCall (count : ℕ) (row : ℕ → List ℕ) (early : ℕ → Bool) (outcome : Result (Unit {0})) (due output output′ values values′ returns returns′ before after : List ℕ) (r : ℕ) : Type 0 where
   pub answers : Told count row outcome before after r
   pub holds : output′ ≡ elim (ltb (length before) count) [ true ↦ output | false ↦ due ]

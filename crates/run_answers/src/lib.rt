@@ -14,7 +14,7 @@ const RUN_PLACES: usize = 5;
 // 2^64 - 2^32: the upper 32 bits of a 64-bit word.
 const UPPER_BITS: u64 = 18446744069414584320;
 
-// Whether so many places are lent.
+// Whether all places of the answer are lent.
 pub fn has_room(answer: &[u64]) -> bool
     ensures { λ r. ⌜ r ≡ leb runPlaces (length (now (answer .entry))) ⌝ }
 {

@@ -1,11 +1,11 @@
--- What a run of a program file called from C or Rust answers, what its buffers then hold, and demand 3 about this very call.
+-- What a run of a program file called from C or Rust answers, what its buffers then hold, and all that is promised of a run of a program file.
 use Prim.Native.Nat.{ℕ, _≤_}
 use mathlib.Core.Bool.{true, false}
 use mathlib.Core.List.{List}
 use mathlib.Core.Path.{_≡_}
 use lib.Dec.{ltb}
 use lib.ListN.{length}
-use Rattle.translation.specs.Calls.{Called, runFile}
+use Rattle.translation.specs.Calls.{runFile}
 use Rattle.translation.specs.ThisCall.{ranWith, ProgramRun}
 use Rattle.run_answers.specs.RunAnswer.{runPlaces}
 use Rattle.run_answers.specs.RunCall.{StreamCall}

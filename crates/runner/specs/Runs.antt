@@ -1,4 +1,4 @@
--- What a call of the runner gives, and demand 3 about this very call.
+-- What a call of the runner gives, and all that is promised of a run of a program file.
 use Prim.Native.Nat.{ℕ}
 use mathlib.Core.Bool.{false, _&&_}
 use mathlib.Core.List.{List}

@@ -55,7 +55,7 @@ fn refused(why: Refusal, place: usize) -> Answer
 }
 
 // Runs the program of a file on an input: what comes before a run, and then the run of the code, which stays in its buffer. Its contract carries
-// demand 3 about this very call.
+// demand 3, and what holds on any input, about this very call.
 pub fn run(
     file: &[u8],
     input: &[u8],

@@ -11,7 +11,7 @@ ghost use Rattle.source_answers.specs.SourcePlaces.{sourcePlaces, Stores
 // How many places an answer takes.
 const SOURCE_PLACES: usize = 4;
 
-// Whether so many places are lent.
+// Whether all places of the answer are lent.
 pub fn has_room(answer: &[u64]) -> bool
     ensures { λ r. ⌜ r ≡ leb sourcePlaces (length (now (answer .entry))) ⌝ }
 {

@@ -1,4 +1,5 @@
--- Demand 3 about one call of the runner: what was answered, and the output at exit. The runner's contract carries it (crate `runner`).
+-- Demand 3, and what holds on any input, about one call: what was answered, and the output at exit. The contracts of `runner: run`, `run_calls: run` and
+-- `hogvax_run` carry both (`ProgramRun`).
 --
 -- `before` is the output at entry and `after` the output at exit; `answer` is what the call answered. The words are those of Demand3.
 use Prim.Native.Nat.{ℕ, _+_, _*_, _≤_}

@@ -12,8 +12,8 @@ use Rattle.stepwise.specs.Rows.{givesConstant, givesNamed, looksAtTree, callsFu
 use Rattle.stepwise.specs.Steps.{State, begin, stuck, actionAt, operandAt, treeAt, moreAt, behindAt, frameWords, mostRecords, Found, beginning}
 use Rattle.stepwise.proofs.Steps.{looks-leaf, looks-node, looks-past, begins-const, begins-var, begins-case, begins-bare, begins-args, begins-first}
 use Rattle.stages.specs.declared.Stage.{Stage}
-use Rattle.stages.specs.Stages.{toBegin, isThrough, toOpen, isStuck, stateOf, turnOf, staged, stageOf, wordsOf, placesOf, Reaches}
-use Rattle.stages.proofs.Stages.{reached-turn, reach-begin, reach-through, reach-open, reach-stuck}
+use Rattle.stages.specs.Stages.{toBegin, isThrough, toOpen, isStuck, stateOf, staged, stageOf, wordsOf, placesOf}
+use Rattle.stages.proofs.Stages.{reach-begin, reach-through, reach-open, reach-stuck}
 use Rattle.named_trees.specs.Places.{placeOf, namedBy}
 use Rattle.named_trees.proofs.Places.{found-place}
 use Rattle.begin_record.specs.Begins.{begun, Begins, Looks}
@@ -206,13 +206,6 @@ pub ruleset beginnings = (begin-past, begin-const, begin-var, begin-case, begin-
 -- ---- the steps
 
 -- where the steps find the tree, the record begins as they say
-pub begins-turn :
-    (T input values values′ places : List ℕ) (s n : Stage) (p : ℕ)
-    → Begins T input values values′ s n
-    → s .node < mostRecords
-    → Found T input (stateOf values places s) (treeAt T (s .node)) p
-    → turnOf values′ places n ≡ beginning T input p (s .node) (stateOf values places s)
-begins-turn T input values values′ places s n p b few found =
-    reached-turn _ values values′ places places s n (b .is places)
-    ∙ begun-in T input (s .node) (stateOf values places s) few
-    ∙ ap (λ q. beginning T input q (s .node) (stateOf values places s)) (found-place T input (stateOf values places s) found)
+pub begun-found : (T input : List ℕ) (r p : ℕ) (s : State) → r < mostRecords → Found T input s (treeAt T r) p → begun T input r s ≡ beginning T input p r s
+begun-found T input r p s few found =
+    begun-in T input r s few ∙ ap (λ q. beginning T input q r s) (found-place T input s found)

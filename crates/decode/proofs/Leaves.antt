@@ -1,5 +1,5 @@
 -- A row's first half, where counts are small: it is the one wanted.
-use Prim.Native.Nat.{ℕ, zero, suc, _*_, _/_, _%_, _≤_, _<_}
+use Prim.Native.Nat.{ℕ, zero, suc, _/_, _%_, _≤_, _<_}
 use mathlib.Core.Bool.{true}
 use mathlib.Core.List.{List}
 use mathlib.Core.Path.{_≡_, refl, sym, ap, _∙_}
@@ -9,7 +9,7 @@ use borrow.Author.Tests.{ltb-true}
 use lib.ListN.{getD, take}
 use lib.Seq.{getD-take}
 use Rattle.formats.specs.Records.{Kind, Const, Var, Add, IfZero, Let, Leaf, Node, Case, Call, below}
-use Rattle.formats.specs.Rows.{headerIn, arityIn}
+use Rattle.formats.specs.Rows.{headerIn}
 use Rattle.stepwise.specs.Rows.{actionOf, codeOf, operandOf, treeOf, moreOf}
 use Rattle.part_places.specs.declared.Place.{Place}
 use Rattle.part_places.specs.Parts.{placeOf}

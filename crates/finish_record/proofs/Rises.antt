@@ -13,13 +13,13 @@ use lib.ListN.{length, getD, set}
 use Rattle.formats.specs.Numbers.{sum32}
 use Rattle.formats.specs.Tokens.{nodeTag}
 use Rattle.stepwise.specs.Rows.{whole, kept, added, tested, passed, labelled, followed}
-use Rattle.stepwise.specs.Steps.{begin, treeAt, roleAt, parentAt, slotAt, behindAt, frameWords, onRight, knownAfter}
+use Rattle.stepwise.specs.Steps.{treeAt, roleAt, parentAt, slotAt, behindAt, frameWords, onRight, knownAfter}
 use Rattle.stepwise.proofs.Steps.{closes-first, closes-waiting, rises-whole, rises-kept, rises-added, rises-zero, rises-other, rises-on}
 use Rattle.stepwise.proofs.Steps.{follows-passed, follows-labelled, follows-followed, follows-last}
 use Rattle.words.proofs.Bytes.{byte-cut}
 use Rattle.stages.specs.declared.Stage.{Stage}
-use Rattle.stages.specs.Stages.{toBegin, isThrough, toOpen, hasEnded, stateOf, staged, stageOf, wordsOf, placesOf, Reaches}
-use Rattle.stages.proofs.Stages.{reach-begin, reach-through, reach-open, reach-ended, put-begin, put-open}
+use Rattle.stages.specs.Stages.{toBegin, isThrough, toOpen, hasEnded, stateOf, staged, stageOf, wordsOf, placesOf}
+use Rattle.stages.proofs.Stages.{reach-begin, reach-through, reach-ended, put-begin, put-open}
 use Rattle.finish_record.specs.Rises.{Knows, Closes, Picks, Follows, Rises}
 
 -- ---- `return_at`

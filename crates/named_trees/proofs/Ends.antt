@@ -2,14 +2,14 @@
 use Prim.Native.Nat.{ℕ, zero, suc, _+_, _≤_}
 use mathlib.Core.Bool.{Bool, true, false}
 use mathlib.Core.List.{List}
-use mathlib.Core.Path.{_≡_, refl, sym, ap, _∙_}
+use mathlib.Core.Path.{_≡_, refl, sym, _∙_}
 use native.Mathlib.Omega.{arith}
 use borrow.Author.Tests.{leb-true, leb-false}
 use lib.Dec.{leb}
 use lib.ListN.{length, length-append}
 use Rattle.formats.specs.Numbers.{numberAt}
 use Rattle.formats.specs.Results.{done}
-use Rattle.formats.specs.Tokens.{Tree, leaf, node, Tag, aLeaf, aNode, labelBytes, mostDepth, tokens, labelAt, treeAt, firstTree, firstEnd}
+use Rattle.formats.specs.Tokens.{Tree, leaf, node, Tag, aNode, labelBytes, mostDepth, tokens, labelAt, treeAt, firstTree, firstEnd}
 use Rattle.formats.proofs.Endings.{ended-by}
 use Rattle.formats.proofs.Numbers.{length-bytesOf}
 use Rattle.formats.proofs.Results.{Outcome, gave, stopped, outcome, done-not, done-injective}

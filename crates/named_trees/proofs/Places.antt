@@ -9,9 +9,7 @@ use native.Mathlib.Omega.{arith}
 use borrow.Author.Tests.{eq-eqb, ne-eqb, le-leb, lt-leb}
 use lib.ListN.{length, drop, take, length-drop}
 use lib.Seq.{take-all}
-use Rattle.formats.specs.Results.{done, refusal}
 use Rattle.formats.specs.Tokens.{firstEnd}
-use Rattle.refusal.specs.Number.{number as numberOf}
 use Rattle.refusal.specs.declared.Refusal.{Refusal}
 use Rattle.tree.specs.declared.TreeAnswer.{TreeAnswer}
 use Rattle.tree.specs.declared.TreeAnswer.the-variants as tree-is

@@ -3,19 +3,19 @@ use Prim.Native.Nat.{ℕ, suc, _+_, _-_, _*_, _≤_, _<_}
 use mathlib.Core.Bool.{Bool, true, false}
 use mathlib.Core.List.{List}
 use mathlib.Core.Logic.{_≢_}
-use mathlib.Core.Path.{_≡_, refl, sym, ap, ap₂, _∙_}
+use mathlib.Core.Path.{_≡_, refl, ap, ap₂, _∙_}
 use native.Mathlib.Numerals.{add-one}
 use native.Mathlib.Omega.{arith}
 use borrow.Author.Tests.{eqb-false, lt-ltb, le-ltb}
 use lib.Dec.{leb, ltb}
 use lib.ListN.{length, getD, set, length-set}
-use Rattle.stepwise.specs.Steps.{State, Turn, begin, deep, stuck, operandAt, treeAt, moreAt, slotAt, frameWords, mostRecords, mostWaiting, Found, copied, framed, opening}
+use Rattle.stepwise.specs.Steps.{State, begin, deep, stuck, operandAt, treeAt, moreAt, slotAt, frameWords, mostRecords, mostWaiting, Found, copied, opening}
 use Rattle.stepwise.proofs.Steps.{opens-deep, opens-frame}
 use Rattle.stepwise.proofs.Words.{copied-length}
 use Rattle.frames.proofs.Laws.{none-put}
 use Rattle.stages.specs.declared.Stage.{Stage}
-use Rattle.stages.specs.Stages.{toBegin, isThrough, toOpen, tooDeep, isStuck, stateOf, turnOf, staged, stageOf, wordsOf, placesOf, Reaches}
-use Rattle.stages.proofs.Stages.{reached-turn, reach-deep, reach-stuck}
+use Rattle.stages.specs.Stages.{toBegin, isThrough, toOpen, tooDeep, isStuck, stateOf, staged, stageOf, wordsOf, placesOf}
+use Rattle.stages.proofs.Stages.{reach-deep, reach-stuck}
 use Rattle.named_trees.specs.Places.{placeOf, namedBy}
 use Rattle.named_trees.proofs.Places.{found-place}
 use Rattle.open_call.specs.Opens.{opened, Opens}
@@ -124,16 +124,9 @@ pub ruleset opening-ways = (open-past, open-deep, open-frame)
 -- ---- the steps
 
 -- where the steps find the tree, the call opens as they say
-pub opens-turn :
-    (T input values values′ places places′ : List ℕ) (s n : Stage) (p : ℕ)
-    → Opens T input values values′ places places′ s n
-    → s .node < mostRecords
-    → Found T input (stateOf values places s) (treeAt T (s .node)) p
-    → turnOf values′ places′ n ≡ opening T p (s .node) (stateOf values places s)
-opens-turn T input values values′ places places′ s n p o few found =
-    reached-turn _ values values′ places places′ s n (o .is)
-    ∙ opened-in T input (s .node) (stateOf values places s) few
-    ∙ ap (λ q. opening T q (s .node) (stateOf values places s)) (found-place T input (stateOf values places s) found)
+pub opened-found : (T input : List ℕ) (r p : ℕ) (s : State) → r < mostRecords → Found T input s (treeAt T r) p → opened T input r s ≡ opening T p r s
+opened-found T input r p s few found =
+    opened-in T input r s few ∙ ap (λ q. opening T q r s) (found-place T input s found)
 
 -- nothing is through after it, and no other call opens
 module _ (s : Stage) (r f : ℕ) (t : State) where
@@ -145,8 +138,7 @@ module _ (s : Stage) (r f : ℕ) (t : State) where
   settled-by true false = (eqb-false 0 1 refl, eqb-false 0 2 refl)
   settled-by false b = (eqb-false 5 1 refl, eqb-false 5 2 refl)
 
-pub opens-settled : (T input values values′ places places′ : List ℕ) (s n : Stage) → Opens T input values values′ places places′ s n
-    → (n .mode ≢ isThrough) × (n .mode ≢ toOpen)
+pub opened-settled : (T input : List ℕ) (r : ℕ) (t : State) (s : Stage)
+    → (stageOf s (opened T input r t) .mode ≢ isThrough) × (stageOf s (opened T input r t) .mode ≢ toOpen)
 unfolding opened opening
-opens-settled T input values values′ places places′ s n o =
-    rw (o .is .stage) (settled-by s (s .node) _ _ (ltb (s .node) mostRecords) (leb mostWaiting (s .calls)))
+opened-settled T input r t s = settled-by s r _ _ (ltb r mostRecords) (leb mostWaiting (t .calls))

@@ -1,5 +1,5 @@
 -- Where parts stand: a law for each way out of the functions, and what is exact where counts are small.
-use Prim.Native.Nat.{ℕ, zero, suc, _+_, _-_, _%_, _≤_, _<_}
+use Prim.Native.Nat.{ℕ, suc, _+_, _-_, _%_, _≤_, _<_}
 use mathlib.Core.Bool.{Bool, true, false}
 use mathlib.Core.List.{List, [], _∷_}
 use mathlib.Core.Logic.{_≢_}
@@ -14,7 +14,7 @@ use lib.Dec.{eqb}
 use lib.ListN.{length, set}
 use lib.Seq.{set-out}
 use Rattle.formats.specs.Records.{Kind}
-use Rattle.formats.specs.Records.{Const as aConst, Var as aVar, Add as anAdd, IfZero as anIfZero, Let as aLet, Leaf as aLeaf, Node as aNode, Case as aCase, Call as aCall}
+use Rattle.formats.specs.Records.{Add as anAdd, IfZero as anIfZero, Let as aLet, Leaf as aLeaf, Node as aNode, Case as aCase, Call as aCall}
 use Rattle.records.proofs.Record as TheRecord
 use Rattle.records.specs.Read.{meant}
 use Rattle.records.specs.declared.Record.{Record}

@@ -25,10 +25,11 @@ use Rattle.meaning.specs.WorkWords.{beforeSource}
 use Rattle.meaning.proofs.Outcomes.{given, comes-value, gives-not}
 use Rattle.stepwise.specs.Comes.{Told, told}
 use Rattle.source.specs.declared.SourceAnswer.{SourceAnswer}
-use Rattle.source.specs.declared.Walked.{Walked}
+use Rattle.source_walk.specs.declared.Walked.{Walked}
+use Rattle.source_walk.specs.Loop.{Walks}
 use Rattle.result_bytes.specs.Bytes.{countLimit}
-use Rattle.source.specs.Stages.{Counts}
-use Rattle.source.specs.Walks.{Tells, tells-value, tells-stop, Walks}
+use Rattle.source.proofs.Holding.{Counts}
+use Rattle.source.proofs.Walks.{Tells, tells-value, tells-stop, walk-tells}
 use Rattle.source.specs.Answers.{answered, Gave, Named, toldResult, tellSteps, Room, Always, Evaluates}
 
 -- ---- `why_stopped`
@@ -106,7 +107,8 @@ module _ (T input : List ℕ) (first fuel : ℕ) (output values values₁ places
   where
     -- what the first walk tells
     the-first : (o : Outcome Told) → Always T input first o → valueWords ≤ length values → returnWords ≤ length places → Tells (within fuel o) nothing nothing′ c
-    the-first o always v p = counted .tells o (always .comes values places v p)
+    the-first o always v p =
+        walk-tells T input first fuel nothing nothing′ values values₁ places places₁ c counted o (always .comes values places v p)
 
     pub evaluate-stops : (why : Refusal) (r : SourceAnswer) → c .stop ≢ 0 → Named (c .stop) why
         → answered r ≡ record { outcome = refusal (numberOf why) 0; begun = c .begun; bytesWritten = 0; number = 0 }
@@ -198,7 +200,7 @@ module _ (T input : List ℕ) (first fuel : ℕ) (output values values₁ places
             record {
               gave = λ o always v p.
                   let t = result o (the-first o always v p) in
-                  let second = again .tells o
+                  let second = walk-tells T input first fuel output output′ values₁ values₂ places₁ places₂ d again o
                   (always .comes values₁ places₁ (rw (counted .long-values) v) (rw (counted .long-places) p)) in
                   gives-it o t output′ (by o t second);
               long-values = again .long-values ∙ counted .long-values;

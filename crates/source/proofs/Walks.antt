@@ -1,10 +1,9 @@
--- The whole walk: in front of each turn so many expressions have begun, and what is left gives the whole outcome.
-use Prim.Native.Nat.{ℕ, zero, suc, _+_, _-_, _≤_, _<_}
+-- The whole walk: what it answers, and what it leaves in the output, is what the outcome is told as.
+use Prim.Native.Nat.{ℕ, zero, suc, _+_, _≤_}
 use mathlib.Core.Bool.{Bool, true, false}
 use mathlib.Core.List.{List, []}
-use mathlib.Core.Logic.{_≢_, inl, inr}
+use mathlib.Core.Logic.{_≢_, _⊎_, inl, inr}
 use mathlib.Core.Path.{_≡_, refl, sym, ap, _∙_}
-use native.Mathlib.Numerals.{add-one}
 use native.Mathlib.Omega.{arith}
 use borrow.Author.Tests.{eq-eqb, ne-eqb, eqb-true, eqb-false}
 use lib.Dec.{eqb}
@@ -13,37 +12,16 @@ use Rattle.formats.specs.Refusals.{fuelUsedUp, tooManyCalls}
 use Rattle.formats.specs.Written.{written}
 use Rattle.formats.proofs.Written.{written-none}
 use Rattle.meaning.specs.OpenCalls.{Outcome, gives, stops, begins, after, within}
-use Rattle.stepwise.specs.Steps.{State, Turn, begin, ended, deep, stuck}
+use Rattle.stepwise.specs.Steps.{State, begin, ended, deep, stuck}
 use Rattle.stepwise.specs.Comes.{Told, told, Comes, at-begin, at-end, at-deep}
 use Rattle.stages.specs.declared.Stage.{Stage}
 use Rattle.stages.specs.Stages.{toBegin, isThrough, toOpen, hasEnded, tooDeep, turnOf}
 use Rattle.stages.proofs.Stages.{turn-begin, turn-ended, turn-deep, turn-none}
-use Rattle.result_bytes.specs.Bytes.{countLimit}
-use Rattle.source.specs.declared.Walked.{Walked}
-use Rattle.source.specs.Stages.{Counts, finished}
-use Rattle.source.specs.Walks.{Holding, Turns, Tells, tells-value, tells-stop, Walks}
+use Rattle.source_walk.specs.declared.Walked.{Walked}
+use Rattle.source_walk.specs.Loop.{Run, run, turned, finished, Ending, ending, walking, firstStage, Walks}
+use Rattle.source.proofs.Holding.{Counts, Holding, turn-holds, turn-settles}
 
 -- ---- fuel
-
--- one expression more behind those begun
-after-begins : {A : Type 0} (n : ℕ) (o : Outcome A) → after n (begins o) ≡ after (suc n) o
-unfolding after
-after-begins zero o = refl
-after-begins (suc n) o = ap begins (after-begins n o)
-
--- it begins where there is fuel ..
-within-begins : {A : Type 0} (fuel n : ℕ) (o : Outcome A) → n < fuel → within (fuel - n) (begins o) ≡ begins (within (fuel - (n + 1)) o)
-unfolding within
-within-begins fuel n o more =
-    let left : fuel - n ≡ suc (fuel - (n + 1)) = omega arith in
-    ap (λ k. within k (begins o)) left
-
--- .. and not where there is none
-within-none : {A : Type 0} (fuel n : ℕ) (o : Outcome A) → fuel ≤ n → within (fuel - n) (begins o) ≡ stops fuelUsedUp 0
-unfolding within
-within-none fuel n o none =
-    let left : fuel - n ≡ 0 = omega arith in
-    ap (λ k. within k (begins o)) left
 
 within-gives : {A : Type 0} (fuel : ℕ) (x : A) → within fuel (gives x) ≡ gives x
 unfolding within
@@ -98,148 +76,114 @@ module _ (T input : List ℕ) where
           turn-none values places s a b c (eqb-false (s .mode) hasEnded is) (eqb-false (s .mode) tooDeep deep-is) in
           comes-stuck (rw none at come)
 
--- ---- `walk`
+-- ---- the walk
 
--- Where a walk stands: what is left of the outcome, so many expressions begun.
-pub record Left (T input output₀ output values places : List ℕ) (s : Stage) (fuel begun : ℕ) (o : Outcome Told) : Type 0 where
-  pub rest : Outcome Told
-  pub holds : Holding T input output₀ output values places s rest
-  pub whole : within fuel o ≡ after begun (within (fuel - begun) rest)
+-- What the outcome is told as, where so many expressions have begun before.
+data From (begun : ℕ) (o : Outcome Told) (output₀ : List ℕ) (e : Ending) : Type 0 where
+  from-value :
+      (k : ℕ) (out : List ℕ)
+      → e .answer .begun ≡ begun + k
+      → o ≡ after k (gives (told (e .answer .number) out))
+      → e .answer .stop ≡ 0
+      → Counts (e .answer .written) out
+      → (length out ≤ length output₀ → e .last .output ≡ written output₀ 0 out)
+      → From begun o output₀ e
+  from-stop :
+      (k at : ℕ)
+      → e .answer .begun ≡ begun + k
+      → o ≡ after k (stops (e .answer .stop) at)
+      → (e .answer .stop ≡ fuelUsedUp) ⊎ (e .answer .stop ≡ tooManyCalls)
+      → From begun o output₀ e
 
--- The turn that a walk begins with.
-abbrev pub firstTurn : ℕ → List ℕ → List ℕ → Turn
-firstTurn first values places = begin first (record { words = values; places = places; calls = 0; tree = 0; known = 0; end = 0 })
-
--- In front of a turn.
-pub record Walking (T input : List ℕ) (first fuel : ℕ) (output₀ values₀ places₀ output values places : List ℕ) (s : Stage) (begun : ℕ) : Type 0 where
-  pub going : s .mode ≡ toBegin
-  pub left : (o : Outcome Told) → Comes T input [] (firstTurn first values₀ places₀) o → Left T input output₀ output values places s fuel begun o
-  pub few : begun ≤ fuel
-  pub long-output : length output ≡ length output₀
-  pub long-values : length values ≡ length values₀
-  pub long-places : length places ≡ length places₀
-
-module _ (T input : List ℕ) (first fuel : ℕ) (output₀ values₀ places₀ : List ℕ) where
-  pub walk-first : length output₀ < countLimit
-      → Walking T input first fuel output₀ values₀ places₀ output₀ values₀ places₀
-      (record { mode = toBegin; node = first; number = 0; calls = 0; tree = 0; known = 0; end = 0; written = 0 })
-      0
+module _ (T input output₀ : List ℕ) where
+  -- one expression more
+  one-more : (begun : ℕ) (o : Outcome Told) (e : Ending) → From (suc begun) o output₀ e → From begun (begins o) output₀ e
   unfolding after
-  walk-first short =
-      record {
-        going = refl;
-        left = λ o c.
-            let all : fuel ≡ fuel - 0 = omega arith in
-            record {
-              rest = o;
-              holds =
-                  record {
-                    out = [];
-                    comes = rw (turn-begin values₀ places₀ (record { mode = toBegin; node = first; number = 0; calls = 0; tree = 0; known = 0; end = 0; written = 0 }) refl) c;
-                    counts = record { few = λ h. refl; many = λ h. absurd (omega arith) };
-                    wrote = λ h. sym (written-none output₀ 0);
-                    long = refl;
-                    short = short;
-                  };
-              whole = ap (λ k. within k o) all;
-            };
-        few = omega arith;
-        long-output = refl;
-        long-values = refl;
-        long-places = refl;
-      }
+  one-more begun o e (from-value k out count is stop counts wrote) = from-value (suc k) out (omega arith) (ap begins is) stop counts wrote
+  one-more begun o e (from-stop k at count is which) = from-stop (suc k) at (omega arith) (ap begins is) which
 
-  module _ (output output′ values values′ places places′ : List ℕ) (s r : Stage) (begun : ℕ)
-      (w : Walking T input first fuel output₀ values₀ places₀ output values places s begun)
-      (more : begun < fuel)
-      (t : Turns T input output output′ values values′ places places′ s r)
+  -- a turn after which no expression begins
+  stops-there : (fuel begun : ℕ) (q : Run) (rest : Outcome Told) → Holding T input output₀ q rest → q .stage .mode ≢ toBegin
+      → (q .stage .mode ≢ isThrough) × (q .stage .mode ≢ toOpen)
+      → From (suc begun) (within fuel rest) output₀ (ending (finished (q .stage) (suc begun)) q)
+  unfolding after finished
+  stops-there fuel begun q rest h other settles =
+      by (settled T input (q .values) (q .places) (h .out) (q .stage) rest other (settles .0) (settles .1) (h .comes))
     where
-      -- one expression more has begun
-      one-more : (o : Outcome Told) → Comes T input [] (firstTurn first values₀ places₀) o → Left T input output₀ output′ values′ places′ r fuel (begun + 1) o
-      one-more o c =
-          let l = w .left o c in
-          let b = t .holds output₀ (l .rest) (w .going) (l .holds) in
-          record {
-            rest = b .rest;
-            holds = b .holds;
-            whole =
-                l .whole
-                ∙ ap (λ x. after begun (within (fuel - begun) x)) (b .begun)
-                ∙ ap (after begun) (within-begins fuel begun (b .rest) more)
-                ∙ after-begins begun (within (fuel - (begun + 1)) (b .rest))
-                ∙ ap (λ n. after n (within (fuel - (begun + 1)) (b .rest))) (sym (add-one begun));
-          }
+      by : Settled T input (q .values) (q .places) (h .out) (q .stage) rest → From (suc begun) (within fuel rest) output₀ (ending (finished (q .stage) (suc begun)) q)
+      by (settled-end mode is) =
+          rw (finished, eq-eqb _ _ mode)
+          (from-value 0 (h .out) (omega arith) (ap (within fuel) is ∙ within-gives fuel _) refl (h .counts) (h .wrote))
+      by (settled-deep mode is) =
+          rw (finished, ne-eqb _ _ mode)
+          (from-stop 0 (q .stage .node) (omega arith) (ap (within fuel) is ∙ within-stops fuel tooManyCalls (q .stage .node)) (inr refl))
 
-      pub walk-long-output : length output′ ≡ length output₀
-      walk-long-output = t .long-output ∙ w .long-output
+  from : (fuel begun : ℕ) (p : Run) (o : Outcome Told) → p .stage .mode ≡ toBegin → Holding T input output₀ p o
+      → From begun (within fuel o) output₀ (walking T input fuel begun p)
+  unfolding walking within after
+  from zero begun p o mode h =
+      let b = comes-begins T input (rw (turn-begin (p .values) (p .places) (p .stage) mode) at (h .comes)) in
+      rw (b .is) (from-stop 0 0 (omega arith) (none-yet (b .rest)) (inl refl))
+    where
+      none-yet : (rest : Outcome Told) → within 0 (begins rest) ≡ after 0 (stops fuelUsedUp 0)
+      none-yet rest = refl
+  from (suc fuel) begun p o mode h =
+      let b = turn-holds T input output₀ p o mode h in
+      rw (b .begun)
+      (one-more begun (within fuel (b .rest)) (walking T input (suc fuel) begun p)
+      (by fuel begun p (b .rest) (b .holds) (eqb (turned T input p .stage .mode) toBegin) refl (λ going. from fuel (suc begun) (turned T input p) (b .rest) going (b .holds))))
+    where
+      by : (fuel begun : ℕ) (p : Run) (rest : Outcome Told) → Holding T input output₀ (turned T input p) rest
+          → (c : Bool) → eqb (turned T input p .stage .mode) toBegin ≡ c
+          → (turned T input p .stage .mode ≡ toBegin → From (suc begun) (within fuel rest) output₀ (walking T input fuel (suc begun) (turned T input p)))
+          → From (suc begun) (within fuel rest) output₀
+          (elim c [
+            | true ↦ walking T input fuel (suc begun) (turned T input p)
+            | false ↦ ending (finished (turned T input p .stage) (suc begun)) (turned T input p)
+          ])
+      by fuel begun p rest holds true e next = next (eqb-true _ _ e)
+      by fuel begun p rest holds false e next = stops-there fuel begun (turned T input p) rest holds (eqb-false _ _ e) (turn-settles T input p)
 
-      pub walk-long-values : length values′ ≡ length values₀
-      walk-long-values = t .long-values ∙ w .long-values
+-- What the outcome is told as.
+pub data Tells (o : Outcome Told) (output output′ : List ℕ) (r : Walked) : Type 0 where
+  tells-value :
+      (out : List ℕ)
+      → o ≡ after (r .begun) (gives (told (r .number) out))
+      → r .stop ≡ 0
+      → Counts (r .written) out
+      → (length out ≤ length output → output′ ≡ written output 0 out)
+      → Tells o output output′ r
+  tells-stop :
+      (at : ℕ)
+      → o ≡ after (r .begun) (stops (r .stop) at)
+      → (r .stop ≡ fuelUsedUp) ⊎ (r .stop ≡ tooManyCalls)
+      → Tells o output output′ r
 
-      pub walk-long-places : length places′ ≡ length places₀
-      walk-long-places = t .long-places ∙ w .long-places
+-- an ending's answer and output
+ends-so : (o : Outcome Told) (output : List ℕ) (e : Ending) → From 0 o output e → Tells o output (e .last .output) (e .answer)
+ends-so o output e (from-value k out count is stop counts wrote) =
+    let same : k ≡ e .answer .begun = omega arith in
+    tells-value out (is ∙ ap (λ n. after n (gives (told (e .answer .number) out))) same) stop counts wrote
+ends-so o output e (from-stop k at count is which) =
+    let same : k ≡ e .answer .begun = omega arith in
+    tells-stop at (is ∙ ap (λ n. after n (stops (e .answer .stop) at)) same) which
 
-      pub walk-more : r .mode ≡ toBegin → Walking T input first fuel output₀ values₀ places₀ output′ values′ places′ r (begun + 1)
-      walk-more going =
-          record {
-            going = going;
-            left = one-more;
-            few = omega arith;
-            long-output = walk-long-output;
-            long-values = walk-long-values;
-            long-places = walk-long-places;
-          }
-
-      pub walk-stops : (end : Walked) → r .mode ≢ toBegin → end ≡ finished r (begun + 1)
-          → Walks T input first fuel output₀ output′ values₀ values′ places₀ places′ end
-      unfolding finished
-      walk-stops end other e =
-          rw e
-          (record {
-            tells = λ o c.
-                let l = one-more o c in
-                by o (l .holds .out) (l .rest) (l .whole) (l .holds .counts) (l .holds .wrote)
-                (settled T input values′ places′ (l .holds .out) r (l .rest) other (t .settled .0) (t .settled .1) (l .holds .comes));
-            long-values = walk-long-values;
-            long-places = walk-long-places;
-          })
-        where
-          by : (o : Outcome Told) (out : List ℕ) (rest : Outcome Told)
-              → within fuel o ≡ after (begun + 1) (within (fuel - (begun + 1)) rest)
-              → Counts (r .written) out
-              → (length out ≤ length output₀ → output′ ≡ written output₀ 0 out)
-              → Settled T input values′ places′ out r rest
-              → Tells (within fuel o) output₀ output′ (finished r (begun + 1))
-          by o out rest whole counts wrote (settled-end mode is) =
-              rw (finished, eq-eqb _ _ mode)
-              (tells-value out
-              (whole ∙ ap (λ x. after (begun + 1) (within (fuel - (begun + 1)) x)) is ∙ ap (after (begun + 1)) (within-gives (fuel - (begun + 1)) _))
-              refl counts wrote)
-          by o out rest whole counts wrote (settled-deep mode is) =
-              rw (finished, ne-eqb _ _ mode)
-              (tells-stop (r .node)
-              (whole ∙ ap (λ x. after (begun + 1) (within (fuel - (begun + 1)) x)) is ∙ ap (after (begun + 1)) (within-stops (fuel - (begun + 1)) tooManyCalls (r .node)))
-              (inr refl))
-
-  -- the fuel is used up
-  pub walk-ends : (output values places : List ℕ) (s : Stage) (begun : ℕ)
-      → fuel ≤ begun
-      → Walking T input first fuel output₀ values₀ places₀ output values places s begun
-      → Walks T input first fuel output₀ output values₀ values places₀ places (record { stop = fuelUsedUp; begun = begun; written = 0; number = 0 })
-  walk-ends output values places s begun none w =
-      record {
-        tells = λ o c.
-            let l = w .left o c in
-            let b = comes-begins T input (rw (turn-begin values places s (w .going)) at (l .holds .comes)) in
-            tells-stop 0
-            (l .whole
-            ∙ ap (λ x. after begun (within (fuel - begun) x)) (b .is)
-            ∙ ap (after begun) (within-none fuel begun (b .rest) none))
-            (inl refl);
-        long-values = w .long-values;
-        long-places = w .long-places;
-      }
-
-pub ruleset walks = (walk-first, walk-more, walk-stops, walk-ends)
-
-pub ruleset walk-lengths = (walk-long-output, walk-long-values, walk-long-places)
+pub walk-tells :
+    (T input : List ℕ) (first fuel : ℕ) (output output′ values values′ places places′ : List ℕ) (r : Walked)
+    → Walks T input first fuel output output′ values values′ places places′ r
+    → (o : Outcome Told)
+    → Comes T input [] (begin first (record { words = values; places = places; calls = 0; tree = 0; known = 0; end = 0 })) o
+    → Tells (within fuel o) output output′ r
+walk-tells T input first fuel output output′ values values′ places places′ r w o c =
+    let p = run output values places (firstStage first) in
+    rw (w .answer, w .output-is)
+    (ends-so (within fuel o) output (walking T input fuel 0 p)
+    (from T input output fuel 0 p o refl
+    (record {
+      out = [];
+      comes = rw (turn-begin values places (firstStage first) refl) c;
+      counts = record { few = λ h. refl; many = λ h. absurd (omega arith) };
+      wrote = λ h. sym (written-none output 0);
+      long = refl;
+      short = w .short;
+    })))

@@ -1,4 +1,2 @@
--- What the stages of a source run stand for, and what its functions do.
-pub mod Stages
-pub mod Walks
+-- What a source run answers.
 pub mod Answers

@@ -2,9 +2,9 @@
 use Prim.Native.Nat.{ℕ}
 use mathlib.Core.List.{List}
 use mathlib.Core.Logic.{_≢_}
-use mathlib.Core.Path.{_≡_, refl, ap, _∙_}
+use mathlib.Core.Path.{_≡_, refl}
 use borrow.Author.Tests.{eq-eqb, ne-eqb}
-use lib.ListN.{length, set, length-set}
+use lib.ListN.{set, length-set}
 use Rattle.stepwise.specs.Steps.{Turn, begin, through, opens, ended, deep, stuck}
 use Rattle.stepwise.proofs.Steps.{off}
 use Rattle.stages.specs.declared.Stage.{Stage}
@@ -46,7 +46,7 @@ turn-written values places s at = refl
 -- ---- a step
 
 -- the stage of a turn stands for it
-turn-again : (values places : List ℕ) (s : Stage) (t : Turn) → turnOf (wordsOf values t) (placesOf places t) (stageOf s t) ≡ t
+pub turn-again : (values places : List ℕ) (s : Stage) (t : Turn) → turnOf (wordsOf values t) (placesOf places t) (stageOf s t) ≡ t
 unfolding turnOf stageOf wordsOf placesOf
 turn-again values places s (begin r t) = refl
 turn-again values places s (through r x t) = refl
@@ -55,11 +55,8 @@ turn-again values places s (ended x) = refl
 turn-again values places s (deep r) = refl
 turn-again values places s stuck = refl
 
-pub reached-turn : (t : Turn) (values values′ places places′ : List ℕ) (s r : Stage) → Reaches t values values′ places places′ s r → turnOf values′ places′ r ≡ t
-reached-turn t values values′ places places′ s r h = rw (h .stage, h .words, h .returns) (turn-again values places s t)
-
 -- the bytes written stay
-same-written : (s : Stage) (t : Turn) → stageOf s t .written ≡ s .written
+pub same-written : (s : Stage) (t : Turn) → stageOf s t .written ≡ s .written
 unfolding stageOf
 same-written s (begin r t) = refl
 same-written s (through r x t) = refl
@@ -67,9 +64,6 @@ same-written s (opens r t) = refl
 same-written s (ended x) = refl
 same-written s (deep r) = refl
 same-written s stuck = refl
-
-pub reached-written : (t : Turn) (values values′ places places′ : List ℕ) (s r : Stage) → Reaches t values values′ places places′ s r → r .written ≡ s .written
-reached-written t values values′ places places′ s r h = ap (λ (x : Stage). x .written) (h .stage) ∙ same-written s t
 
 -- ---- what a step reaches
 

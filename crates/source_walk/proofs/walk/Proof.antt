@@ -1,10 +1,10 @@
--- `source::walk` meets its contract: so many expressions have begun in front of each turn, and the fuel left falls.
+-- `source_walk::walk` meets its contract: so many expressions have begun in front of each turn, and the fuel left falls.
 use borrow.Author.Needs.{needs}
 use Prim.Native.Nat.{_-_}
 use native.Mathlib.Omega.{arith}
-use Rattle.source.proofs.Walks.{Walking, walk-first, walks, walk-lengths}
-use Rattle.source.proofs.walk.Statement.{statement}
-use Rattle.source.proofs.walk.Tie as tie
+use Rattle.source_walk.proofs.Loop.{Walking, walk-first, walks, walk-lengths}
+use Rattle.source_walk.proofs.walk.Statement.{statement}
+use Rattle.source_walk.proofs.walk.Tie as tie
 
 abbrev Inv-loop : tie.InvT-loop
 Inv-loop table input first fuel output₀ values₀ places₀ s₀ begun₀ output values places s begun = Walking table input first fuel output₀ values₀ places₀ output values places s begun

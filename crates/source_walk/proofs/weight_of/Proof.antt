@@ -1,8 +1,8 @@
--- `source::weight_of` meets its contract.
+-- `source_walk::weight_of` meets its contract.
 use borrow.Author.Needs.{needs}
-use Rattle.source.proofs.Stages.{weighing}
-use Rattle.source.proofs.weight_of.Statement.{statement}
-use Rattle.source.proofs.weight_of.Tie as tie
+use Rattle.source_walk.proofs.Loop.{weighing}
+use Rattle.source_walk.proofs.weight_of.Statement.{statement}
+use Rattle.source_walk.proofs.weight_of.Tie as tie
 
 pub weight-of-spec : {M : Type 1} → statement M
 weight-of-spec =

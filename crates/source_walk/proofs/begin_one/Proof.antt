@@ -1,8 +1,8 @@
--- `source::begin_one` meets its contract.
+-- `source_walk::begin_one` meets its contract.
 use borrow.Author.Needs.{needs}
-use Rattle.source.proofs.Turns.{begin-one}
-use Rattle.source.proofs.begin_one.Statement.{statement}
-use Rattle.source.proofs.begin_one.Tie as tie
+use Rattle.source_walk.proofs.Loop.{begin-one}
+use Rattle.source_walk.proofs.begin_one.Statement.{statement}
+use Rattle.source_walk.proofs.begin_one.Tie as tie
 
 pub begin-one-spec : {M : Type 1} → statement M
 begin-one-spec =

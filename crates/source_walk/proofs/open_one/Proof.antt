@@ -1,8 +1,8 @@
--- `source::open_one` meets its contract.
+-- `source_walk::open_one` meets its contract.
 use borrow.Author.Needs.{needs}
-use Rattle.source.proofs.Turns.{opens-one}
-use Rattle.source.proofs.open_one.Statement.{statement}
-use Rattle.source.proofs.open_one.Tie as tie
+use Rattle.source_walk.proofs.Loop.{opens-one}
+use Rattle.source_walk.proofs.open_one.Statement.{statement}
+use Rattle.source_walk.proofs.open_one.Tie as tie
 
 pub open-one-spec : {M : Type 1} → statement M
 open-one-spec =

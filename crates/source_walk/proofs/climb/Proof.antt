@@ -1,13 +1,12 @@
--- `source::climb` meets its contract: what holds in front of a turn of the loop holds behind it, and the weight falls.
+-- `source_walk::climb` meets its contract: what holds in front of a turn of the loop holds behind it, and the weight falls.
 use borrow.Author.Needs.{needs}
-use Rattle.source.specs.Stages.{weightOf}
-use Rattle.source.specs.Walks.{Leads}
-use Rattle.source.proofs.Turns.{climbs, climb-lengths}
-use Rattle.source.proofs.climb.Statement.{statement}
-use Rattle.source.proofs.climb.Tie as tie
+use Rattle.source_walk.specs.Loop.{weightOf}
+use Rattle.source_walk.proofs.Loop.{Climbing, climbs, climb-lengths}
+use Rattle.source_walk.proofs.climb.Statement.{statement}
+use Rattle.source_walk.proofs.climb.Tie as tie
 
 abbrev Inv-loop : tie.InvT-loop
-Inv-loop table input output₀ values₀ places s₀ output values s = Leads table input places output₀ output values₀ values s₀ s
+Inv-loop table input output₀ values₀ places s₀ output values s = Climbing table input places output₀ output values₀ values s₀ s
 
 abbrev μ-loop : tie.MeasureT-loop
 μ-loop table input output₀ values₀ places s₀ output values s = weightOf s

@@ -1,0 +1,2 @@
+-- Laws for the functions of the walk.
+pub mod Loop

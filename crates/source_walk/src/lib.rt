@@ -1,0 +1,159 @@
+// The walk of the source run: expressions begin one after the other, over the rows of a program, with the state in the lent words; no native recursion over
+// expressions or calls.
+use stages::Stage;
+ghost use mathlib.Core.Path.{_≡_};
+ghost use Rattle.source_walk.specs.Loop.{weightOf, finished, BeginsOne, Climbs, OpensOne, Turns, Walks};
+
+// What is to be done next.
+const BEGIN: u32 = 0;
+
+const THROUGH: u32 = 1;
+
+const OPEN: u32 = 2;
+
+const ENDED: u32 = 3;
+
+const STUCK: u32 = 5;
+
+// While records are through this falls.
+fn weight_of(s: Stage) -> usize
+    ensures { λ r. ⌜ r ≡ weightOf s ⌝ }
+{
+    if s.mode == THROUGH {
+        return 1 + 65536 * (s.calls as usize) + (s.node as usize);
+    }
+    0
+}
+
+// Goes on while records are through.
+fn climb(
+    table: &[u16],
+    input: &[u8],
+    output: &mut [u8],
+    values: &mut [u32],
+    places: &[u64],
+    start: Stage,
+) -> Stage
+    ensures { λ r. ⌜ Climbs (now (table .entry)) (now (input .entry)) (now (places .entry)) (now (output .entry)) (now (output .exit)) (now (values .entry)) (now (values .exit)) start r ⌝ }
+{
+    let mut s = start;
+    while s.mode == THROUGH {
+        let at = result_bytes::say_last(table, output, s);
+        let mut next = finish_record::rise(table, input, values, places, s);
+        next.written = at;
+        if weight_of(s) <= weight_of(next) {
+            return stages::staged_at(next, STUCK, 0, 0);
+        }
+        s = next;
+    }
+    s
+}
+
+// One expression begins.
+fn begin_one(table: &[u16], input: &[u8], output: &mut [u8], values: &mut [u32], s: Stage) -> Stage
+    ensures { λ r. ⌜ BeginsOne (now (table .entry)) (now (input .entry)) (now (output .entry)) (now (output .exit)) (now (values .entry)) (now (values .exit)) s r ⌝ }
+{
+    let at = result_bytes::say_first(table, output, s);
+    let mut next = begin_record::begin(table, input, values, s);
+    next.written = at;
+    next
+}
+
+// A call opens, if one is to be opened.
+fn open_one(table: &[u16], input: &[u8], values: &mut [u32], places: &mut [u64], s: Stage) -> Stage
+    ensures { λ r. ⌜ OpensOne (now (table .entry)) (now (input .entry)) (now (values .entry)) (now (values .exit)) (now (places .entry)) (now (places .exit)) s r ⌝ }
+{
+    if s.mode == OPEN {
+        return open_call::open(table, input, values, places, s);
+    }
+    s
+}
+
+// One expression begins, and all goes on up to the next one that does.
+fn turn(
+    table: &[u16],
+    input: &[u8],
+    output: &mut [u8],
+    values: &mut [u32],
+    places: &mut [u64],
+    s: Stage,
+) -> Stage
+    ensures { λ r. ⌜ Turns (now (table .entry)) (now (input .entry)) (now (output .entry)) (now (output .exit)) (now (values .entry)) (now (values .exit)) (now (places .entry)) (now (places .exit)) s r ⌝ }
+{
+    let begun = begin_one(table, input, output, values, s);
+    let settled = climb(table, input, output, values, places, begun);
+    open_one(table, input, values, places, settled)
+}
+
+// How a walk stops: 0 where it ended, else a refusal's number; the expressions begun, the bytes written, the number.
+pub struct Walked {
+    pub stop: u32,
+    pub begun: u64,
+    pub written: usize,
+    pub number: u32,
+}
+
+const NOT_REFUSED: u32 = 0;
+
+const FUEL_USED_UP: u32 = 14;
+
+const TOO_MANY_CALLS: u32 = 18;
+
+// What a walk that stops at this stage tells. A program's rows lead to no stage that is stuck, so what has not ended is a call too many.
+fn finish(s: Stage, begun: u64) -> Walked
+    ensures { λ r. ⌜ r ≡ finished s begun ⌝ }
+{
+    if s.mode == ENDED {
+        return Walked {
+            stop: NOT_REFUSED,
+            begun: begun,
+            written: s.written,
+            number: s.number,
+        };
+    }
+    Walked {
+        stop: TOO_MANY_CALLS,
+        begun: begun,
+        written: 0,
+        number: 0,
+    }
+}
+
+// Evaluates the program of these rows on the tree that begins the input, from the record `first` on. The fuel is looked at before each expression. The
+// result is written to the start of `output` as far as it fits.
+pub fn walk(
+    table: &[u16],
+    input: &[u8],
+    first: u16,
+    fuel: u64,
+    output: &mut [u8],
+    values: &mut [u32],
+    places: &mut [u64],
+) -> Walked
+    ensures { λ r. ⌜ Walks (now (table .entry)) (now (input .entry)) first fuel (now (output .entry)) (now (output .exit)) (now (values .entry)) (now (values .exit)) (now (places .entry)) (now (places .exit)) r ⌝ }
+{
+    let mut s = Stage {
+        mode: BEGIN,
+        node: first,
+        number: 0,
+        calls: 0,
+        tree: 0,
+        known: 0,
+        end: 0,
+        written: 0,
+    };
+    let mut begun: u64 = 0;
+    while begun < fuel {
+        s = turn(table, input, output, values, places, s);
+        begun = begun + 1;
+        if s.mode != BEGIN {
+            return finish(s, begun);
+        }
+    }
+    Walked {
+        stop: FUEL_USED_UP,
+        begun: begun,
+        written: 0,
+        number: 0,
+    }
+}

@@ -28,8 +28,8 @@ use Rattle.source.specs.declared.SourceAnswer.{SourceAnswer}
 use Rattle.source_walk.specs.declared.Walked.{Walked}
 use Rattle.source_walk.specs.Loop.{Walks}
 use Rattle.result_bytes.specs.Bytes.{countLimit}
-use Rattle.source.proofs.Holding.{Counts}
-use Rattle.source.proofs.Walks.{Tells, tells-value, tells-stop, walk-tells}
+use Rattle.walk_outcome.specs.Tells.{Counts, Tells, tells-value, tells-stop}
+use Rattle.walk_outcome.proofs.Walks.{walk-tells}
 use Rattle.source.specs.Answers.{answered, Gave, Named, toldResult, tellSteps, Room, Always, Evaluates}
 
 -- ---- `why_stopped`

@@ -19,7 +19,8 @@ use Rattle.stages.specs.Stages.{toBegin, isThrough, toOpen, hasEnded, tooDeep, 
 use Rattle.stages.proofs.Stages.{turn-begin, turn-ended, turn-deep, turn-none}
 use Rattle.source_walk.specs.declared.Walked.{Walked}
 use Rattle.source_walk.specs.Loop.{Run, run, turned, finished, Ending, ending, walking, firstStage, Walks}
-use Rattle.source.proofs.Holding.{Counts, Holding, turn-holds, turn-settles}
+use Rattle.walk_outcome.specs.Tells.{Counts, Tells, tells-value, tells-stop}
+use Rattle.walk_outcome.proofs.Holding.{Holding, turn-holds, turn-settles}
 
 -- ---- fuel
 
@@ -143,21 +144,6 @@ module _ (T input output₀ : List ℕ) where
           ])
       by fuel begun p rest holds true e next = next (eqb-true _ _ e)
       by fuel begun p rest holds false e next = stops-there fuel begun (turned T input p) rest holds (eqb-false _ _ e) (turn-settles T input p)
-
--- What the outcome is told as.
-pub data Tells (o : Outcome Told) (output output′ : List ℕ) (r : Walked) : Type 0 where
-  tells-value :
-      (out : List ℕ)
-      → o ≡ after (r .begun) (gives (told (r .number) out))
-      → r .stop ≡ 0
-      → Counts (r .written) out
-      → (length out ≤ length output → output′ ≡ written output 0 out)
-      → Tells o output output′ r
-  tells-stop :
-      (at : ℕ)
-      → o ≡ after (r .begun) (stops (r .stop) at)
-      → (r .stop ≡ fuelUsedUp) ⊎ (r .stop ≡ tooManyCalls)
-      → Tells o output output′ r
 
 -- an ending's answer and output
 ends-so : (o : Outcome Told) (output : List ℕ) (e : Ending) → From 0 o output e → Tells o output (e .last .output) (e .answer)

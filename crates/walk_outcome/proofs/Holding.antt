@@ -23,12 +23,8 @@ use Rattle.begin_record.proofs.Begins.{begun-found}
 use Rattle.open_call.specs.Opens.{opened}
 use Rattle.open_call.proofs.Opens.{opened-found, opened-settled}
 use Rattle.result_bytes.specs.Bytes.{countLimit, counted}
+use Rattle.walk_outcome.specs.Tells.{Counts}
 use Rattle.source_walk.specs.Loop.{Run, run, stepped, weightOf, beginStep, riseStep, openStep, climbing, climbed, turned}
-
--- So many bytes are counted for these.
-pub record Counts (at : ℕ) (out : List ℕ) : Type 0 where
-  pub few : at < countLimit → at ≡ length out
-  pub many : countLimit ≤ at → countLimit ≤ length out
 
 -- With `out` written, into a buffer that held output₀ before, as far as it fits, the run's turn comes to the outcome o.
 pub record Holding (T input output₀ : List ℕ) (p : Run) (o : Outcome Told) : Type 0 where

@@ -1,0 +1,2 @@
+-- What an evaluation's outcome is told as.
+pub mod Tells

@@ -1,0 +1,1 @@
+// No code: theorems that tie the walk of the source run to the evaluation.

@@ -9,7 +9,9 @@
  * nowhere else, keeps no pointer, has no state of its own, and returns.
  *
  * What is not proved: this header. Its declarations and constants are tested
- * against the library; its comments say in words what the contracts state.
+ * against the library; its comments say in words what the contracts state. The
+ * compiler, the linker, the operating system and the machine are trusted to do
+ * what the languages say (docs/RELYING.md).
  *
  * What the caller must ensure:
  *

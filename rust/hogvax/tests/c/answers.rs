@@ -16,11 +16,7 @@ const TEXT: &str = r#"
 #define FILLER 0xa5
 #define TEST(what) if (!(what)) { fprintf(stderr, "%s\n", #what); exit(1); }
 
-/* Grow, and Case 0, Leaf, Var 0, Node, Call 0 on 2, Call 0 on 1. */
-static const uint8_t grow[] = {
-    1, 1, 8, 0, 0, 0, 0, 0, 1, 0, 8, 0, 0, 0, 0, 0, 7, 0, 0, 0, 0, 0, 0, 0, 5, 0, 0, 0, 0, 0, 0, 0,
-    2, 0, 0, 0, 0, 0, 0, 0, 1, 0, 0, 0, 0, 0, 0, 0, 0, 0, 0, 0, 1, 0, 0, 0, 6, 0, 0, 0, 0, 0, 0, 0,
-    8, 1, 0, 0, 0, 0, 0, 0, 8, 2, 0, 0, 0, 0, 0, 0};
+/* Case 0, Leaf, Var 0, Node, Call 0 on 2, Call 0 on 1. */
 static const uint8_t swap[] = {
     1, 1, 6, 0, 0, 0, 0, 0, 1, 0, 6, 0, 0, 0, 0, 0, 7, 0, 0, 0, 0, 0, 0, 0, 5, 0, 0, 0, 0, 0, 0, 0,
     1, 0, 0, 0, 0, 0, 0, 0, 6, 0, 0, 0, 0, 0, 0, 0, 8, 2, 0, 0, 0, 0, 0, 0, 8, 1, 0, 0, 0, 0, 0, 0};
@@ -168,5 +164,5 @@ int main(void) {
 
 #[test]
 fn the_calls_need_the_places_that_the_header_names() {
-    succeed(&mut Command::new(build_text(TEXT, "answers")));
+    succeed(&mut Command::new(build_with_grow(TEXT, "answers")));
 }

@@ -18,6 +18,14 @@ use compiler::{compiler, repository, succeed};
 
 const HEADER: &str = include_str!("../../../../include/hogvax.h");
 
+/// The records of Grow, for C.
+const GROW: &str = "#include <stdint.h>
+static const uint8_t grow[] = {
+    1, 1, 8, 0, 0, 0, 0, 0, 1, 0, 8, 0, 0, 0, 0, 0, 7, 0, 0, 0, 0, 0, 0, 0, 5, 0, 0, 0, 0, 0, 0, 0,
+    2, 0, 0, 0, 0, 0, 0, 0, 1, 0, 0, 0, 0, 0, 0, 0, 0, 0, 0, 0, 1, 0, 0, 0, 6, 0, 0, 0, 0, 0, 0, 0,
+    8, 1, 0, 0, 0, 0, 0, 0, 8, 2, 0, 0, 0, 0, 0, 0};
+";
+
 /// A file for these tests.
 fn made(name: &str) -> PathBuf {
     let folder = Path::new(env!("CARGO_TARGET_TMPDIR")).join("c");
@@ -41,4 +49,9 @@ fn build_text(text: &str, name: &str) -> PathBuf {
     let source = made(&format!("{name}.c"));
     fs::write(&source, text).unwrap();
     build(&source, name)
+}
+
+/// As `build_text`, with `grow` in front.
+fn build_with_grow(text: &str, name: &str) -> PathBuf {
+    build_text(&format!("{GROW}{text}"), name)
 }

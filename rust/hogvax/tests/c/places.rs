@@ -13,10 +13,6 @@ const TEXT: &str = r#"
 static uint32_t values[HOGVAX_VALUE_WORDS];
 static uint64_t returns[HOGVAX_RETURN_WORDS];
 
-static const uint8_t grow[] = {
-    1, 1, 8, 0, 0, 0, 0, 0, 1, 0, 8, 0, 0, 0, 0, 0, 7, 0, 0, 0, 0, 0, 0, 0, 5, 0, 0, 0, 0, 0, 0, 0,
-    2, 0, 0, 0, 0, 0, 0, 0, 1, 0, 0, 0, 0, 0, 0, 0, 0, 0, 0, 0, 1, 0, 0, 0, 6, 0, 0, 0, 0, 0, 0, 0,
-    8, 1, 0, 0, 0, 0, 0, 0, 8, 2, 0, 0, 0, 0, 0, 0};
 static const uint8_t sum[] = {
     1, 1, 5, 0, 0, 0, 0, 0, 0, 0, 5, 0, 0, 0, 0, 0, 7, 0, 0, 0, 0, 0, 0, 0, 1, 0, 0, 0, 0, 0, 0, 0,
     2, 0, 0, 0, 0, 0, 0, 0, 8, 1, 0, 0, 0, 0, 0, 0, 8, 2, 0, 0, 0, 0, 0, 0};
@@ -49,7 +45,7 @@ int main(void) {
 
 #[test]
 fn a_source_run_answers_at_its_places() {
-    let output = succeed(&mut Command::new(build_text(TEXT, "places")));
+    let output = succeed(&mut Command::new(build_with_grow(TEXT, "places")));
     let lines = "0 0 14 11 0\n14 0 13 0 0\n0 0 8 0 -2147483648\n1 0 0 0 0\n";
     assert_eq!(String::from_utf8_lossy(&output.stdout), lines);
 }

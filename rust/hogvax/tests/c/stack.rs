@@ -137,7 +137,7 @@ int main(void) {
 "#;
 
 #[test]
-fn the_deepest_calls_need_1_mib_of_stack() {
+fn the_deepest_calls_fit_in_1_mib_of_stack() {
     assert!(HEADER.contains("up to 1 MiB of the thread's stack"));
     let output = succeed(&mut Command::new(build_text(TEXT, "stack")));
     let lines = "depth 1025: tree 20 1024 bytes 0 0\n\

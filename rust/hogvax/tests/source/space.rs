@@ -148,9 +148,8 @@ fn an_answer_takes_four_places() {
 /// answer's places.
 #[test]
 fn a_call_refused_before_its_run_touches_nothing_else() {
-    let space = one_of_each().into_iter().filter(|(_, gave)| gave.number == 0);
-    let space = space.map(|(case, _)| with_words(&case, SHORT[0]));
-    let short = space.map(|case| (case, 13));
+    let ended = one_of_each().into_iter().filter(|(_, gave)| gave.number == 0);
+    let short = ended.flat_map(|(case, _)| SHORT.map(|words| (with_words(&case, words), 13)));
     let others = one_of_each().into_iter().map(|(case, gave)| (case, gave.number));
     for (case, number) in others.chain(short) {
         if [0, 14, 17, 18].contains(&number) {

@@ -1,7 +1,8 @@
 -- Closed cases of what a program means, proved by computation. Each row of a table is a program, a tree, and what becomes of it.
 use Prim.Native.Nat.{ℕ, suc}
 use mathlib.Core.List.{List, [], _∷_, _++_, map}
-use mathlib.Core.Path.{_≡_, refl}
+use mathlib.Core.Option.{Option·some-injective}
+use mathlib.Core.Path.{_≡_, refl, sym, subst}
 use Rattle.formats.specs.Numbers.{sum32}
 use Rattle.formats.specs.Tokens.{Tree, leaf, node}
 use Rattle.formats.specs.Records.{nth}
@@ -11,7 +12,7 @@ use Rattle.formats.proofs.ProgramCases.{grow}
 use Rattle.rules.proofs.Cases.{numbered, treed, taking, programOf, on, with-one, swap}
 use Rattle.meaning.specs.Levels.{atLevel}
 use Rattle.meaning.specs.Running.{mostCalls}
-use Rattle.meaning.specs.Evaluation.{Value, number, tree, Environment, picked, branch, inBranch, Takes, Const, Var, Add, IfZero, Let, Leaf, Node, Case, Call, no-more, one-more, ifZeroUnits, caseUnits, counted, unitsIn, resultNumber}
+use Rattle.meaning.specs.Evaluation.{Value, number, tree, Environment, picked, inCall, branch, inBranch, Takes, Const, Var, Add, IfZero, Let, Leaf, Node, Case, Call, no-more, one-more, ifZeroUnits, caseUnits, counted, unitsIn, resultNumber}
 use Rattle.meaning.specs.OpenCalls.{Outcome, gives, stops, begins, next, numberOr, treeOr, resultTree, evaluate, evaluateArgs, firstRecord, called, evaluation, within}
 
 -- ---- programs
@@ -190,18 +191,25 @@ call-derived : Takes sum named (on 0 1) 2 3 (number 8)
 unfolding atLevel nth named sum numbered programOf on branch inBranch
 call-derived = Call no-more refl refl (Case refl (Var refl))
 
--- with one open there is no derivation: what a Call opens is open besides
-none-open : {program : Program} {E : Environment} {e : Expr} {n : ℕ} {v : Value} → Takes program E e 0 n v → ⊥
-none-open (Add d₁ d₂) = none-open d₁
-none-open (IfZero d₁ d₂) = none-open d₁
-none-open (Let d₁ d₂) = none-open d₁
-none-open (Leaf d) = none-open d
-none-open (Node d₁ d₂) = none-open d₁
-none-open (Case named d) = none-open d
+-- With no call open not even a number's name is taken. So Sum's body on a leaf needs one call open, and a Call of Sum needs two.
+var-needs-one : {program : Program} {E : Environment} {a n : ℕ} {v : Value} → Takes program E (var a) 0 n v → ⊥
+var-needs-one d = elim d [ ]
+
+leaf-needs-one : (n : ℕ) (v : Value) → Takes sum (inCall [] (leaf 8)) (caseOf 0 (var 0) (add (on 0 1) (on 0 2))) 0 n v → ⊥
+unfolding atLevel branch inBranch
+leaf-needs-one n v (Case {n = m} is-tree d) =
+    var-needs-one
+    (subst
+    (λ t. Takes sum (inBranch t (inCall [] (leaf 8))) (branch t (var 0) (add (on 0 1) (on 0 2))) 0 m v)
+    (sym (Option·some-injective (leaf 8) _ is-tree))
+    d)
 
 call-needs-two : (n : ℕ) (v : Value) → Takes sum named (on 0 1) 1 n v → ⊥
-unfolding on
-call-needs-two n v (Call ds is-tree known d) = none-open d
+unfolding atLevel nth named sum numbered programOf on
+call-needs-two n v (Call {m = m} {t = t} {f = f} no-more is-tree known d) =
+    let Body : Tree → Expr → Type 0 = λ t e. Takes sum (inCall [] t) e 0 m v in
+    let on-leaf : Body (leaf 8) (f .body) = subst (λ t. Body t (f .body)) (sym (Option·some-injective (leaf 8) t is-tree)) d in
+    leaf-needs-one m v (subst (λ f. Body (leaf 8) (f .body)) (sym (Option·some-injective _ f known)) on-leaf)
 
 -- function 1 takes a number and gives it
 picks : Program

@@ -21,7 +21,7 @@ use Rattle.meaning.specs.Evaluation.{resultBytes, resultNumber}
 use Rattle.meaning.specs.OpenCalls.{gives, after, next, numberOr, treeOr, resultTree, evaluate, evaluateArgs, firstRecord, called, evaluation}
 use Rattle.meaning.specs.Meaning.{PassesOne}
 use Rattle.meaning.proofs.MeaningCases.{two-leaves}
-use Rattle.stepwise.specs.Rows.{actionOf, codeOf, roleOf, slotOf, namesIn, keepsIn, casesIn, operandOf, treeOf, moreOf, rowsOf, rowsOfArgs, behindArgs}
+use Rattle.stepwise.specs.Rows.{callsFunction, actionOf, codeOf, roleOf, slotOf, namesIn, keepsIn, casesIn, operandOf, treeOf, moreOf, rowsOf, rowsOfArgs, behindArgs}
 use Rattle.stepwise.specs.Rows.{rowsOfAll, rowWords, rowsIn, tabled}
 use Rattle.stepwise.specs.Steps.{begin, State, deep, beginning, opening}
 use Rattle.stepwise.specs.Comes.{told, toldOf, Comes}
@@ -123,11 +123,11 @@ last-frame : State
 last-frame = record { words = []; places = []; calls = 1023; tree = 0; known = 0; end = 0 }
 
 -- its argument begins all the same
-deep-arguments : beginning (0 ∷ 0 ∷ 0 ∷ 0 ∷ 0 ∷ 0 ∷ 0 ∷ 0 ∷ 8 ∷ 5 ∷ 0 ∷ 1 ∷ []) [] 0 1 last-frame ≡ begin 2 last-frame
+deep-arguments : beginning (0 ∷ 0 ∷ 0 ∷ 0 ∷ 0 ∷ 0 ∷ 0 ∷ 0 ∷ callsFunction ∷ 5 ∷ 0 ∷ 1 ∷ []) [] 0 1 last-frame ≡ begin 2 last-frame
 unfolding beginning last-frame
 deep-arguments = refl
 
 -- and then the call is one too many
-deep-call : opening (0 ∷ 0 ∷ 0 ∷ 0 ∷ 0 ∷ 0 ∷ 0 ∷ 0 ∷ 8 ∷ 5 ∷ 0 ∷ 1 ∷ []) 0 1 last-frame ≡ deep 1
+deep-call : opening (0 ∷ 0 ∷ 0 ∷ 0 ∷ 0 ∷ 0 ∷ 0 ∷ 0 ∷ callsFunction ∷ 5 ∷ 0 ∷ 1 ∷ []) 0 1 last-frame ≡ deep 1
 unfolding opening last-frame
 deep-call = refl

@@ -10,20 +10,17 @@ use native.Mathlib.Omega.{arith}
 use lib.Dec.{eqb}
 use lib.ListN.{length, getD, set, take, length-set}
 use lib.Seq.{getD-set-same, getD-set-other, getD-take, take-set-le, take-suc-set, take-take}
-use Rattle.formats.specs.Records.{Kind}
+use Rattle.formats.specs.Records.{Kind, Part, aNumber, aTree, asWhole, underNumber, underTrees, partsOf, partCount, nth, nthPart}
 use Rattle.formats.specs.Records.{Const as aConst, Var as aVar, Add as anAdd, IfZero as anIfZero, Let as aLet, Leaf as aLeaf, Node as aNode, Case as aCase, Call as aCall}
 use Rattle.formats.specs.Rows.{arityIn}
-use Rattle.records.specs.Read.{meant}
+use Rattle.records.specs.Read.{meant, partOf}
+use Rattle.records.specs.declared.Part.{Part as RecordPart}
 use Rattle.records.specs.declared.Record.{Record}
 use Rattle.stepwise.specs.Rows.{roleOf, slotOf, namesIn, keepsIn, casesIn, partPlace}
 use Rattle.part_places.specs.declared.Place.{Place}
 use Rattle.part_places.specs.Parts.{placeOf, capped, namesInside, keepsInside, depthInside, partIn, noted}
-use Rattle.part_places.proofs.Parts.{cap-low}
-use Rattle.decode.specs.Walk.{deeper, insidePlace, Grows, Stacked, Small, SmallParts, Counted, Same, Starts}
-
--- a place with these
-abbrev placed : (role parent slot names keeps depth : ℕ) → Place
-placed role parent slot names keeps depth = record { role = role; parent = parent; slot = slot; names = names; keeps = keeps; depth = depth }
+use Rattle.part_places.proofs.Parts.{cap-low, placed}
+use Rattle.decode.specs.Walk.{namesUnder, deeper, insidePlace, Grows, Stacked, Small, SmallParts, Counted, Same, Starts}
 
 -- ---- `inside`, where counts are small
 
@@ -31,22 +28,24 @@ placed role parent slot names keeps depth = record { role = role; parent = paren
 one-more : (n : ℕ) → n < 4000 → capped (n + 1) ≡ suc n
 one-more n low = cap-low (n + 1) (omega arith) ∙ add-one n
 
-module _ (r count : ℕ) where
-  names-plain : (kind : Kind) (i : ℕ) (p : Place) → p .names < 4000 → namesInside kind i (p .names) ≡ insidePlace kind r i count p .names
-  unfolding insidePlace namesInside namesIn
-  names-plain (aConst c) i p low = refl
-  names-plain (aVar a) i p low = refl
-  names-plain anAdd i p low = refl
-  names-plain anIfZero i p low = refl
-  names-plain aLet zero p low = refl
-  names-plain aLet (suc i) p low = one-more (p .names) low
-  names-plain aLeaf i p low = refl
-  names-plain aNode i p low = refl
-  names-plain (aCase a) zero p low = one-more (p .names) low
-  names-plain (aCase a) (suc i) p low = refl
-  names-plain (aCall a b) i p low = refl
+names-plain : (part : Part) (n : ℕ) → n < 4000 → namesInside part n ≡ namesUnder part n
+unfolding namesInside namesUnder
+names-plain aNumber n low = refl
+names-plain aTree n low = refl
+names-plain asWhole n low = refl
+names-plain underNumber n low = one-more n low
+names-plain underTrees n low = refl
 
-  keeps-plain : (kind : Kind) (i : ℕ) (p : Place) → p .keeps + i < 4000 → keepsInside kind i (p .keeps) ≡ insidePlace kind r i count p .keeps
+depth-plain : (part : Part) (n : ℕ) → n < 4000 → depthInside part n ≡ deeper part n
+unfolding depthInside deeper
+depth-plain aNumber n low = refl
+depth-plain aTree n low = refl
+depth-plain asWhole n low = refl
+depth-plain underNumber n low = refl
+depth-plain underTrees n low = one-more n low
+
+module _ (part : Part) (r count : ℕ) where
+  keeps-plain : (kind : Kind) (i : ℕ) (p : Place) → p .keeps + i < 4000 → keepsInside kind i (p .keeps) ≡ insidePlace part kind r i count p .keeps
   unfolding insidePlace keepsInside keepsIn
   keeps-plain (aConst c) i p low = refl
   keeps-plain (aVar a) i p low = refl
@@ -59,26 +58,13 @@ module _ (r count : ℕ) where
   keeps-plain (aCase a) i p low = refl
   keeps-plain (aCall a b) i p low = cap-low (p .keeps + i) (omega arith)
 
-  depth-plain : (kind : Kind) (i : ℕ) (p : Place) → p .depth < 4000 → depthInside kind i (p .depth) ≡ insidePlace kind r i count p .depth
-  unfolding insidePlace depthInside deeper
-  depth-plain (aConst c) i p low = refl
-  depth-plain (aVar a) i p low = refl
-  depth-plain anAdd i p low = refl
-  depth-plain anIfZero i p low = refl
-  depth-plain aLet i p low = refl
-  depth-plain aLeaf i p low = refl
-  depth-plain aNode i p low = refl
-  depth-plain (aCase a) zero p low = refl
-  depth-plain (aCase a) (suc i) p low = one-more (p .depth) low
-  depth-plain (aCall a b) i p low = refl
-
   -- no count is cut
-  pub inside-plain : (kind : Kind) (i : ℕ) (p : Place) → Grows i p → partIn kind r i count p ≡ insidePlace kind r i count p
+  pub inside-plain : (kind : Kind) (i : ℕ) (p : Place) → Grows i p → partIn part kind r i count p ≡ insidePlace part kind r i count p
   unfolding partIn insidePlace
   inside-plain kind i p g =
-      ap₂ (λ n k. placed (roleOf (λ b. 0) (λ b. count) kind i) r (slotOf (λ b. 0) (λ b. count) (placeOf p []) kind i) n k (depthInside kind i (p .depth)))
-      (names-plain kind i p (g .names)) (keeps-plain kind i p (g .keeps))
-      ∙ ap (placed (roleOf (λ b. 0) (λ b. count) kind i) r (slotOf (λ b. 0) (λ b. count) (placeOf p []) kind i) _ _) (depth-plain kind i p (g .depth))
+      ap₂ (λ n k. placed (roleOf (λ b. 0) (λ b. count) kind i) r (slotOf (λ b. 0) (λ b. count) (placeOf p []) kind i) n k (depthInside part (p .depth)))
+      (names-plain part (p .names) (g .names)) (keeps-plain kind i p (g .keeps))
+      ∙ ap (placed (roleOf (λ b. 0) (λ b. count) kind i) r (slotOf (λ b. 0) (λ b. count) (placeOf p []) kind i) _ _) (depth-plain part (p .depth) (g .depth))
 
 -- ---- `start`
 
@@ -96,10 +82,29 @@ record Near (r i : ℕ) (p q : Place) : Type 0 where
   keeps : q .keeps ≤ p .keeps + i
   depth : q .depth ≤ p .depth + 1
 
+-- one name more at most ..
+names-near : (part : Part) (n : ℕ) → namesUnder part n ≤ n + 1
+unfolding namesUnder
+names-near aNumber n = omega arith
+names-near aTree n = omega arith
+names-near asWhole n = omega arith
+names-near underNumber n = omega arith
+names-near underTrees n = omega arith
+
+-- .. and one Case
+depth-near : (part : Part) (n : ℕ) → deeper part n ≤ n + 1
+unfolding deeper
+depth-near aNumber n = omega arith
+depth-near aTree n = omega arith
+depth-near asWhole n = omega arith
+depth-near underNumber n = omega arith
+depth-near underTrees n = omega arith
+
 -- a place that is so, by its counts
-near-to : (r i : ℕ) (p : Place) (role slot names keeps depth : ℕ) → role ≤ 7 → slot ≤ p .names + 15 → names ≤ p .names + 1 → keeps ≤ p .keeps + i → depth ≤ p .depth + 1
-    → Near r i p (placed role r slot names keeps depth)
-near-to r i p role slot names keeps depth hr hs hn hk hd = record { role = hr; parent = refl; slot = hs; names = hn; keeps = hk; depth = hd }
+near-to : (part : Part) (r i : ℕ) (p : Place) (role slot keeps : ℕ) → role ≤ 7 → slot ≤ p .names + 15 → keeps ≤ p .keeps + i
+    → Near r i p (placed role r slot (namesUnder part (p .names)) keeps (deeper part (p .depth)))
+near-to part r i p role slot keeps hr hs hk =
+    record { role = hr; parent = refl; slot = hs; names = names-near part (p .names); keeps = hk; depth = depth-near part (p .depth) }
 
 -- an argument's role
 last-role : (b : Bool) → elim b [ true ↦ 7 | false ↦ 1 ] ≤ 7
@@ -107,32 +112,31 @@ last-role true = omega arith
 last-role false = omega arith
 
 -- so is each part's
-near : (kind : Kind) (r i count : ℕ) (p : Place) → Near r i p (insidePlace kind r i count p)
-unfolding insidePlace roleOf slotOf namesIn keepsIn deeper
-near (aConst c) r i count p = near-to r i p _ _ _ _ _ (omega arith) (omega arith) (omega arith) (omega arith) (omega arith)
-near (aVar a) r i count p = near-to r i p _ _ _ _ _ (omega arith) (omega arith) (omega arith) (omega arith) (omega arith)
-near anAdd r zero count p = near-to r zero p _ _ _ _ _ (omega arith) (omega arith) (omega arith) (omega arith) (omega arith)
-near anAdd r (suc i) count p = near-to r (suc i) p _ _ _ _ _ (omega arith) (omega arith) (omega arith) (omega arith) (omega arith)
-near anIfZero r zero count p = near-to r zero p _ _ _ _ _ (omega arith) (omega arith) (omega arith) (omega arith) (omega arith)
-near anIfZero r (suc i) count p = near-to r (suc i) p _ _ _ _ _ (omega arith) (omega arith) (omega arith) (omega arith) (omega arith)
-near aLet r zero count p = near-to r zero p _ _ _ _ _ (omega arith) (omega arith) (omega arith) (omega arith) (omega arith)
-near aLet r (suc i) count p = near-to r (suc i) p _ _ _ _ _ (omega arith) (omega arith) (omega arith) (omega arith) (omega arith)
-near aLeaf r i count p = near-to r i p _ _ _ _ _ (omega arith) (omega arith) (omega arith) (omega arith) (omega arith)
-near aNode r zero count p = near-to r zero p _ _ _ _ _ (omega arith) (omega arith) (omega arith) (omega arith) (omega arith)
-near aNode r (suc i) count p = near-to r (suc i) p _ _ _ _ _ (omega arith) (omega arith) (omega arith) (omega arith) (omega arith)
-near (aCase a) r zero count p = near-to r zero p _ _ _ _ _ (omega arith) (omega arith) (omega arith) (omega arith) (omega arith)
-near (aCase a) r (suc i) count p = near-to r (suc i) p _ _ _ _ _ (omega arith) (omega arith) (omega arith) (omega arith) (omega arith)
-near (aCall a b) r i count p = near-to r i p _ _ _ _ _ (last-role (eqb (suc i) count)) (omega arith) (omega arith) (omega arith) (omega arith)
+near : (part : Part) (kind : Kind) (r i count : ℕ) (p : Place) → Near r i p (insidePlace part kind r i count p)
+unfolding insidePlace roleOf slotOf keepsIn
+near part (aConst c) r i count p = near-to part r i p _ _ _ (omega arith) (omega arith) (omega arith)
+near part (aVar a) r i count p = near-to part r i p _ _ _ (omega arith) (omega arith) (omega arith)
+near part anAdd r zero count p = near-to part r zero p _ _ _ (omega arith) (omega arith) (omega arith)
+near part anAdd r (suc i) count p = near-to part r (suc i) p _ _ _ (omega arith) (omega arith) (omega arith)
+near part anIfZero r zero count p = near-to part r zero p _ _ _ (omega arith) (omega arith) (omega arith)
+near part anIfZero r (suc i) count p = near-to part r (suc i) p _ _ _ (omega arith) (omega arith) (omega arith)
+near part aLet r zero count p = near-to part r zero p _ _ _ (omega arith) (omega arith) (omega arith)
+near part aLet r (suc i) count p = near-to part r (suc i) p _ _ _ (omega arith) (omega arith) (omega arith)
+near part aLeaf r i count p = near-to part r i p _ _ _ (omega arith) (omega arith) (omega arith)
+near part aNode r zero count p = near-to part r zero p _ _ _ (omega arith) (omega arith) (omega arith)
+near part aNode r (suc i) count p = near-to part r (suc i) p _ _ _ (omega arith) (omega arith) (omega arith)
+near part (aCase a) r i count p = near-to part r i p _ _ _ (omega arith) (omega arith) (omega arith)
+near part (aCall a b) r i count p = near-to part r i p _ _ _ (last-role (eqb (suc i) count)) (omega arith) (omega arith)
 
--- so its counts are small
 -- a part of a record's counts can grow
 pub grows : (r i k end : ℕ) (p : Place) → SmallParts r i k end p → Grows i p
 grows r i k end p small = record { names = omega (arith, small .names); keeps = omega (arith, small .keeps); depth = omega (arith, small .depth) }
 
-module _ (node : Record) (r i count k end : ℕ) (p q : Place) (small : SmallParts r i k end p) (is : q ≡ partIn (meant node) r i count p) where
+-- so its counts are small
+module _ (part : RecordPart) (node : Record) (r i count k end : ℕ) (p q : Place) (small : SmallParts r i k end p) (is : q ≡ partIn (partOf part) (meant node) r i count p) where
   pub few-part : Small k end q
   few-part =
-      let n : Near r i p q = rw (is, inside-plain r count (meant node) i p (grows r i k end p small)) (near (meant node) r i count p) in
+      let n : Near r i p q = rw (is, inside-plain (partOf part) r count (meant node) i p (grows r i k end p small)) (near (partOf part) (meant node) r i count p) in
       record {
         before-end = small .before-end;
         few = small .few;
@@ -144,28 +148,35 @@ module _ (node : Record) (r i count k end : ℕ) (p q : Place) (small : SmallPar
         depth = omega (arith, n .depth, small .depth);
       }
 
--- it is the place wanted, on the stack as it is noted
-pub place-inside : (entry arity : ℕ → ℕ) (kind : Kind) (r i count : ℕ) (p : Place) (cases : List ℕ) → Counted arity kind count → r ≤ 2000 → p .depth < length cases
-    → placeOf (insidePlace kind r i count p) (noted kind r i (p .depth) cases) ≡ partPlace entry arity (placeOf p cases) kind r i
-unfolding insidePlace noted roleOf slotOf namesIn keepsIn casesIn deeper
-place-inside entry arity (aConst c) r i count p cases counted low room = refl
-place-inside entry arity (aVar a) r i count p cases counted low room = refl
-place-inside entry arity anAdd r zero count p cases counted low room = refl
-place-inside entry arity anAdd r (suc i) count p cases counted low room = refl
-place-inside entry arity anIfZero r zero count p cases counted low room = refl
-place-inside entry arity anIfZero r (suc i) count p cases counted low room = refl
-place-inside entry arity aLet r zero count p cases counted low room = refl
-place-inside entry arity aLet r (suc i) count p cases counted low room = refl
-place-inside entry arity aLeaf r i count p cases counted low room = refl
-place-inside entry arity aNode r zero count p cases counted low room = refl
-place-inside entry arity aNode r (suc i) count p cases counted low room = refl
-place-inside entry arity (aCase a) r zero count p cases counted low room = refl
-place-inside entry arity (aCase a) r (suc i) count p cases counted low room =
+-- it is the place wanted, on the stack as it is noted: what a part names by its kind is what it names by itself
+pub place-inside : (entry arity : ℕ → ℕ) (kind : Kind) (r i count : ℕ) (p : Place) (cases : List ℕ) → Counted arity kind count → i < count → r ≤ 2000 → p .depth < length cases
+    → placeOf (insidePlace (nthPart (partsOf kind) i) kind r i count p) (noted (nthPart (partsOf kind) i) r (p .depth) cases) ≡ partPlace entry arity (placeOf p cases) kind r i
+unfolding insidePlace namesUnder noted roleOf slotOf namesIn keepsIn casesIn deeper partsOf partCount nthPart nth
+place-inside entry arity (aConst c) r i count p cases counted more low room = absurd (omega (arith, counted .is))
+place-inside entry arity (aVar a) r i count p cases counted more low room = absurd (omega (arith, counted .is))
+place-inside entry arity anAdd r zero count p cases counted more low room = refl
+place-inside entry arity anAdd r (suc zero) count p cases counted more low room = refl
+place-inside entry arity anAdd r (suc (suc i)) count p cases counted more low room = absurd (omega (arith, counted .is))
+place-inside entry arity anIfZero r zero count p cases counted more low room = refl
+place-inside entry arity anIfZero r (suc zero) count p cases counted more low room = refl
+place-inside entry arity anIfZero r (suc (suc zero)) count p cases counted more low room = refl
+place-inside entry arity anIfZero r (suc (suc (suc i))) count p cases counted more low room = absurd (omega (arith, counted .is))
+place-inside entry arity aLet r zero count p cases counted more low room = refl
+place-inside entry arity aLet r (suc zero) count p cases counted more low room = refl
+place-inside entry arity aLet r (suc (suc i)) count p cases counted more low room = absurd (omega (arith, counted .is))
+place-inside entry arity aLeaf r zero count p cases counted more low room = refl
+place-inside entry arity aLeaf r (suc i) count p cases counted more low room = absurd (omega (arith, counted .is))
+place-inside entry arity aNode r zero count p cases counted more low room = refl
+place-inside entry arity aNode r (suc zero) count p cases counted more low room = refl
+place-inside entry arity aNode r (suc (suc i)) count p cases counted more low room = absurd (omega (arith, counted .is))
+place-inside entry arity (aCase a) r zero count p cases counted more low room = refl
+place-inside entry arity (aCase a) r (suc zero) count p cases counted more low room =
     let own : r % 65536 ≡ r = omega arith in
     ap (λ (l : List ℕ). record { role = 4; parent = r; slot = 0; names = p .names; keeps = p .keeps; cases = l })
     (take-suc-set cases (p .depth) (r % 65536) room ∙ ap (λ n. take (p .depth) cases ++ (n ∷ [])) own)
-place-inside entry arity (aCall a b) r i count p cases counted low room =
-    ap (λ n. placeOf (insidePlace (aCall a b) r i n p) cases) (sym (counted .is a b refl))
+place-inside entry arity (aCase a) r (suc (suc i)) count p cases counted more low room = absurd (omega (arith, counted .is))
+place-inside entry arity (aCall a b) r i count p cases counted more low room =
+    ap (λ n. placeOf (insidePlace aNumber (aCall a b) r i n p) cases) (sym (counted .is))
 
 -- ---- the stack
 
@@ -220,30 +231,20 @@ module _ (cases : List ℕ) (depth r : ℕ) where
   }
 
 -- the stack as it is noted has records up to the part's depth
-pub stacked-inside : (kind : Kind) (r i depth : ℕ) (cases : List ℕ) (more : ℕ) → Stacked cases depth (suc more) → r ≤ 2000
-    → Stacked (noted kind r i depth cases) (deeper kind i depth) more
+pub stacked-inside : (part : Part) (r depth : ℕ) (cases : List ℕ) (more : ℕ) → Stacked cases depth (suc more) → r ≤ 2000
+    → Stacked (noted part r depth cases) (deeper part depth) more
 unfolding noted deeper
-stacked-inside (aConst c) r i depth cases more h few = one-less cases depth more h
-stacked-inside (aVar a) r i depth cases more h few = one-less cases depth more h
-stacked-inside anAdd r i depth cases more h few = one-less cases depth more h
-stacked-inside anIfZero r i depth cases more h few = one-less cases depth more h
-stacked-inside aLet r i depth cases more h few = one-less cases depth more h
-stacked-inside aLeaf r i depth cases more h few = one-less cases depth more h
-stacked-inside aNode r i depth cases more h few = one-less cases depth more h
-stacked-inside (aCase a) r zero depth cases more h few = one-less cases depth more h
-stacked-inside (aCase a) r (suc i) depth cases more h few = top-stacked cases depth r more h few
-stacked-inside (aCall a b) r i depth cases more h few = one-less cases depth more h
+stacked-inside aNumber r depth cases more h few = one-less cases depth more h
+stacked-inside aTree r depth cases more h few = one-less cases depth more h
+stacked-inside asWhole r depth cases more h few = one-less cases depth more h
+stacked-inside underNumber r depth cases more h few = one-less cases depth more h
+stacked-inside underTrees r depth cases more h few = top-stacked cases depth r more h few
 
 -- one that is the same up to the part's depth is the same up to the record's
-pub same-inside : (kind : Kind) (r i depth : ℕ) (cases after : List ℕ) → Same (noted kind r i depth cases) after (deeper kind i depth) → Same cases after depth
+pub same-inside : (part : Part) (r depth : ℕ) (cases after : List ℕ) → Same (noted part r depth cases) after (deeper part depth) → Same cases after depth
 unfolding noted deeper
-same-inside (aConst c) r i depth cases after h = h
-same-inside (aVar a) r i depth cases after h = h
-same-inside anAdd r i depth cases after h = h
-same-inside anIfZero r i depth cases after h = h
-same-inside aLet r i depth cases after h = h
-same-inside aLeaf r i depth cases after h = h
-same-inside aNode r i depth cases after h = h
-same-inside (aCase a) r zero depth cases after h = h
-same-inside (aCase a) r (suc i) depth cases after h = top-same cases depth r after h
-same-inside (aCall a b) r i depth cases after h = h
+same-inside aNumber r depth cases after h = h
+same-inside aTree r depth cases after h = h
+same-inside asWhole r depth cases after h = h
+same-inside underNumber r depth cases after h = h
+same-inside underTrees r depth cases after h = top-same cases depth r after h

@@ -10,7 +10,8 @@ use borrow.Author.Needs.{needs}
 use borrow.Author.Tests.{ltb-true}
 use lib.ListN.{length, length-append}
 use Rattle.formats.specs.Results.{onValue}
-use Rattle.formats.specs.Records.{Kind, below, partsOf, partCount}
+use Rattle.formats.specs.Records.{Kind, below, partsOf, partCount, nthPart}
+use Rattle.formats.specs.Records.{Const as aConst, Var as aVar, Add as anAdd, IfZero as anIfZero, Let as aLet, Leaf as aLeaf, Node as aNode, Case as aCase, Call as aCall}
 use Rattle.formats.specs.Programs.{Expr, size, Placed, behind, partsAt}
 use Rattle.formats.specs.Rows.{headerIn, arityIn, nodeIn}
 use Rattle.formats.specs.Written.{written}
@@ -19,8 +20,9 @@ use Rattle.formats.proofs.Records.{node-below}
 use Rattle.formats.proofs.Programs.{some-record}
 use Rattle.formats.proofs.Written.{written-append, written-front, written-none, wrote}
 use Rattle.refusal.specs.declared.Refusal.{Refusal}
-use Rattle.records.specs.Read.{Shape, meant, listed, described, shapeOf, shaped}
+use Rattle.records.specs.Read.{Shape, meant, partOf, listed, described, shapeOf, shaped}
 use Rattle.records.specs.declared.Record.{Record}
+use Rattle.records.specs.declared.Part.{Part}
 use Rattle.records.specs.declared.Parts.{Parts}
 use Rattle.records.specs.declared.Template.{Template}
 use Rattle.records.specs.declared.RecordRead.{RecordRead}
@@ -33,7 +35,7 @@ use Rattle.part_places.specs.declared.Place.{Place}
 use Rattle.part_places.specs.Parts.{placeOf, partIn, noted}
 use Rattle.record_rows.specs.declared.Own.{Own}
 use Rattle.record_rows.specs.Halves.{ownIn}
-use Rattle.decode.specs.Walk.{insidePlace, Told, rowIn, Small, Went, Entering, Same, Filled, Fills, rowsOfParts, SmallParts, Counted, EnteringParts, FillsParts}
+use Rattle.decode.specs.Walk.{insidePlace, Agrees, Told, rowIn, Small, Went, Entering, Same, Filled, Fills, rowsOfParts, SmallParts, Counted, EnteringParts, FillsParts}
 use Rattle.decode.proofs.Leaves.{told}
 use Rattle.decode.proofs.Places.{inside-plain, grows, place-inside, few-part, stacked-less, stacked-same, same-more, stacked-inside, same-inside}
 use Rattle.decode.proofs.Rows.{rows-split, length-parts}
@@ -50,6 +52,20 @@ row-is entry arity cases k end p kind own next half small inside =
     let after : next % 65536 ≡ next = omega (arith, small .few) in
     let rest = ap₂ _∷_ role (ap₂ _∷_ parent (ap₂ _∷_ slot (ap (λ n. n ∷ []) after))) in
     ap₂ _∷_ (half .action) (ap₂ _∷_ (half .operand) (ap₂ _∷_ (half .tree) (ap₂ _∷_ (half .more) rest)))
+
+-- parts counted by the parameters of the functions that there are
+same-count : (s : List ℕ) (entry arity : ℕ → ℕ) → Agrees s entry arity → (kind : Kind) → below (headerIn s .functions) kind ≡ true
+    → partCount arity (partsOf kind) ≡ partCount (arityIn s) (partsOf kind)
+unfolding below partsOf partCount
+same-count s entry arity agrees (aConst c) there = refl
+same-count s entry arity agrees (aVar a) there = refl
+same-count s entry arity agrees anAdd there = refl
+same-count s entry arity agrees anIfZero there = refl
+same-count s entry arity agrees aLet there = refl
+same-count s entry arity agrees aLeaf there = refl
+same-count s entry arity agrees aNode there = refl
+same-count s entry arity agrees (aCase a) there = refl
+same-count s entry arity agrees (aCall a b) there = agrees .arities b (ltb-true b (headerIn s .functions) there)
 
 module _ (s table cases : List ℕ) (k end : ℕ) (p : Place) where
   -- nothing is filled
@@ -85,18 +101,18 @@ module _ (s table cases : List ℕ) (k end : ℕ) (p : Place) where
         own-count : count ≡ partCount (arityIn s) (partsOf (meant node))
         own-count = many ∙ ap (λ (x : Shape). partCount (arityIn s) (x .parts)) own-shape ∙ ap (λ kind. partCount (arityIn s) (partsOf kind)) (sym own-kind)
 
-        -- .. and a Call as many as its function has parameters
+        -- .. counted by the parameters of the function that a Call calls
         own-counted : Counted arity (meant node) count
-        unfolding below partsOf partCount
-        own-counted = record {
-          is = λ a b case.
-              let there = ltb-true b (headerIn s .functions) (sym (ap (below (headerIn s .functions)) case) ∙ own-below) in
-              h .agrees .arities b there ∙ sym (own-count ∙ ap (λ kind. partCount (arityIn s) (partsOf kind)) case);
-        }
+        own-counted = record { is = same-count s entry arity (h .agrees) (meant node) own-below ∙ sym own-count }
+
+        -- they are its kind's
+        own-parts : listed parts ≡ partsOf (meant node)
+        own-parts = ap (λ (x : Shape). x .parts) own-shape ∙ ap partsOf (sym own-kind)
 
         -- its parts are entered
-        parts-entered : k < end → EnteringParts s table cases entry arity node 0 count (k + 1) end p (partsAt k e) (k + size e)
+        parts-entered : k < end → EnteringParts s table cases entry arity node parts 0 count (k + 1) end p (partsAt k e) (k + size e)
         parts-entered more = record {
+          own = own-parts;
           many = omega (arith, parts-counted s (h .signed) k e (h .known) (h .holds), own-count, ap (λ kind. partCount (arityIn s) (partsOf kind)) own-kind);
           counted = own-counted;
           signed = h .signed;
@@ -110,7 +126,7 @@ module _ (s table cases : List ℕ) (k end : ℕ) (p : Place) where
 
       -- the own row in front of the parts' rows
       pub fill-read : (own : Own) (there after cases′ : List ℕ) (next : ℕ) → Small k end p → k < end → own ≡ ownIn s cases (p .names) (p .depth) (meant node)
-          → FillsParts s table there cases cases′ node k 0 count (k + 1) end p next
+          → FillsParts s table there cases cases′ node parts k 0 count (k + 1) end p next
           → after ≡ written there (rowWords * k) (rowIn own p next)
           → Fills s table after cases cases′ k end p next
       fill-read own there after cases′ next small more owns l wrote-it = record {
@@ -142,9 +158,9 @@ pub ruleset expressions = (fill-past, fill-unread, fill-read)
 
 -- ---- `decode_parts`
 
-module _ (s table cases : List ℕ) (node : Record) (r i count k end : ℕ) (p : Place) (small : SmallParts r i k end p) where
+module _ (s table cases : List ℕ) (node : Record) (parts : Parts) (r i count k end : ℕ) (p : Place) (small : SmallParts r i k end p) where
   -- the parts are through
-  pub parts-done : count ≤ i → FillsParts s table table cases cases node r i count k end p k
+  pub parts-done : count ≤ i → FillsParts s table table cases cases node parts r i count k end p k
   unfolding rowsOfParts
   parts-done over = record {
     went = record { on = le-refl k; inside = small .before-end };
@@ -159,13 +175,13 @@ module _ (s table cases : List ℕ) (node : Record) (r i count k end : ℕ) (p :
         };
   }
 
-  module _ (inner : Place) (noted-cases between cases₁ : List ℕ) (next : ℕ) (is-part : inner ≡ partIn (meant node) r i count p)
-      (is-noted : noted-cases ≡ noted (meant node) r i (p .depth) cases) (f : Fills s table between noted-cases cases₁ k end inner next) (more : i < count) where
+  module _ (part : Part) (here : partOf part ≡ nthPart (listed parts) i) (inner : Place) (noted-cases between cases₁ : List ℕ) (next : ℕ)
+      (is-part : inner ≡ partIn (partOf part) (meant node) r i count p) (is-noted : noted-cases ≡ noted (partOf part) r (p .depth) cases) (f : Fills s table between noted-cases cases₁ k end inner next) (more : i < count) where
     -- no count is cut
-    is-inner : inner ≡ insidePlace (meant node) r i count p
-    is-inner = is-part ∙ inside-plain r count (meant node) i p (grows r i k end p small)
+    is-inner : inner ≡ insidePlace (partOf part) (meant node) r i count p
+    is-inner = is-part ∙ inside-plain (partOf part) r count (meant node) i p (grows r i k end p small)
 
-    module _ {entry arity : ℕ → ℕ} {ps : List Placed} {m : ℕ} (h : EnteringParts s table cases entry arity node i count k end p ps m) where
+    module _ {entry arity : ℕ → ℕ} {ps : List Placed} {m : ℕ} (h : EnteringParts s table cases entry arity node parts i count k end p ps m) where
       -- the part that stands here, and those behind it
       first : FirstOf s (h .signed) k ps m
       first = row-first (h .row) (omega (arith, h .many))
@@ -180,7 +196,7 @@ module _ (s table cases : List ℕ) (node : Record) (r i count k end : ℕ) (p :
         fits = omega (arith, row-upto (first .later), h .fits);
         agrees = h .agrees;
         room = h .room;
-        stacked = rw (is-inner, is-noted) (stacked-inside (meant node) r i (p .depth) cases (end - k) (h .stacked) (small .parent));
+        stacked = rw (is-inner, is-noted) (stacked-inside (partOf part) r (p .depth) cases (end - k) (h .stacked) (small .parent));
       }
 
       -- .. and its rows are filled
@@ -190,7 +206,7 @@ module _ (s table cases : List ℕ) (node : Record) (r i count k end : ℕ) (p :
       -- it leaves the stack as it was, up to the depth
       kept : Same cases cases₁ (p .depth)
       unfolding insidePlace
-      kept = same-inside (meant node) r i (p .depth) cases cases₁ (rw (← is-noted) (rw is-inner at (filled .stack)))
+      kept = same-inside (partOf part) r (p .depth) cases cases₁ (rw (← is-noted) (rw is-inner at (filled .stack)))
 
       -- the others see the same place
       same-place : placeOf p cases₁ ≡ placeOf p cases
@@ -203,19 +219,24 @@ module _ (s table cases : List ℕ) (node : Record) (r i count k end : ℕ) (p :
       own-written : between ≡ written table (rowWords * k) own-rows
       own-written =
           let room : p .depth < length cases = omega (arith, h .stacked .room) in
+          let kind = meant node in
+          let own-part : partOf part ≡ nthPart (partsOf kind) i = here ∙ ap (λ ps. nthPart ps i) (h .own) in
           filled .rows
           ∙ ap (λ q. written table (rowWords * k) (rowsOf entry arity q k (first .expr)))
-          (ap₂ placeOf is-inner is-noted ∙ place-inside entry arity (meant node) r i count p cases (h .counted) (small .parent) room)
+          (ap₂ placeOf is-inner is-noted
+          ∙ ap (λ x. placeOf (insidePlace x kind r i count p) (noted x r (p .depth) cases)) own-part
+          ∙ place-inside entry arity kind r i count p cases (h .counted) more (small .parent) room)
 
       -- the table keeps its length
       same-length : length between ≡ length table
       same-length = ap length own-written ∙ wrote table (rowWords * k) own-rows .same-length
 
       -- the others are entered
-      rest-entered : EnteringParts s between cases₁ entry arity node (i + 1) count next end p (first .others) m
+      rest-entered : EnteringParts s between cases₁ entry arity node parts (i + 1) count next end p (first .others) m
       rest-entered =
           let fewer : suc (end - next) ≤ suc (end - k) = omega (arith, f .went .on) in
           record {
+            own = h .own;
             many = omega (arith, h .many, ap length (first .both));
             counted = h .counted;
             signed = h .signed;
@@ -228,15 +249,15 @@ module _ (s table cases : List ℕ) (node : Record) (r i count k end : ℕ) (p :
           }
 
     -- a part that is not entered: none stands there
-    pub parts-stuck : next ≤ k → FillsParts s table between cases cases₁ node r i count k end p next
+    pub parts-stuck : next ≤ k → FillsParts s table between cases cases₁ node parts r i count k end p next
     parts-stuck stuck = record {
       went = f .went;
       is = λ entry arity ps m h. absurd (omega (arith, some-record (first h .expr), filled h .behind));
     }
 
     -- the part's rows, and behind them those of the others
-    pub parts-more : (table′ cases′ : List ℕ) (n : ℕ) → FillsParts s between table′ cases₁ cases′ node r (i + 1) count next end p n
-        → FillsParts s table table′ cases cases′ node r i count k end p n
+    pub parts-more : (table′ cases′ : List ℕ) (n : ℕ) → FillsParts s between table′ cases₁ cases′ node parts r (i + 1) count next end p n
+        → FillsParts s table table′ cases cases′ node parts r i count k end p n
     unfolding rowsOfParts
     parts-more table′ cases′ n l = record {
       went = record { on = omega (arith, f .went .on, l .went .on); inside = l .went .inside };

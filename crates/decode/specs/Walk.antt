@@ -5,14 +5,15 @@ use mathlib.Core.List.{List, [], _∷_, _++_}
 use mathlib.Core.Path.{_≡_}
 use lib.ListN.{length, getD, take}
 use Rattle.formats.specs.Results.{done, verdict}
-use Rattle.formats.specs.Records.{Kind, Const, Var, Add, IfZero, Let, Leaf, Node, Case, Call}
+use Rattle.formats.specs.Records.{Kind, Part, aNumber, aTree, asWhole, underNumber, underTrees, partsOf, partCount}
 use Rattle.formats.specs.Programs.{Expr, size, Placed, Signature, Program}
 use Rattle.formats.specs.Rows.{headerIn, arityIn, readProgram}
 use Rattle.formats.specs.Written.{written}
-use Rattle.records.specs.Read.{meant}
+use Rattle.records.specs.Read.{meant, listed}
 use Rattle.records.specs.declared.Record.{Record}
+use Rattle.records.specs.declared.Parts.{Parts}
 use Rattle.rules.proofs.Parts.{Known, Holds, Row}
-use Rattle.stepwise.specs.Rows.{whole, actionOf, roleOf, slotOf, namesIn, keepsIn, partPlace, operandOf, treeOf, moreOf, rowsOf, rowWords, tabled}
+use Rattle.stepwise.specs.Rows.{whole, actionOf, roleOf, slotOf, keepsIn, partPlace, operandOf, treeOf, moreOf, rowsOf, rowWords, tabled}
 use Rattle.stepwise.specs.Rows.{Place as PlaceThere}
 use Rattle.part_places.specs.declared.Place.{Place}
 use Rattle.part_places.specs.Parts.{placeOf}
@@ -22,29 +23,32 @@ use Rattle.decode.specs.Decoding.{tableWords}
 
 -- ---- places
 
--- On entering part i of a record: how many Cases' node parts it stands in, where the record stands in so many.
-unfoldable pub deeper : Kind → ℕ → ℕ → ℕ
-deeper (Const c) i depth = depth
-deeper (Var a) i depth = depth
-deeper Add i depth = depth
-deeper IfZero i depth = depth
-deeper Let i depth = depth
-deeper Leaf i depth = depth
-deeper Node i depth = depth
-deeper (Case a) zero depth = depth
-deeper (Case a) (suc i) depth = suc depth
-deeper (Call a b) i depth = depth
+-- On entering a part, by what it is: numbers named, where so many are named at the record.
+unfoldable pub namesUnder : Part → ℕ → ℕ
+namesUnder aNumber names = names
+namesUnder aTree names = names
+namesUnder asWhole names = names
+namesUnder underNumber names = suc names
+namesUnder underTrees names = names
+
+-- .. and in how many node parts of Cases it stands.
+unfoldable pub deeper : Part → ℕ → ℕ
+deeper aNumber depth = depth
+deeper aTree depth = depth
+deeper asWhole depth = depth
+deeper underNumber depth = depth
+deeper underTrees depth = suc depth
 
 -- Where part i of the record r stands, which has so many parts, where counts are small: `part_places/specs/Parts: partIn` without its caps.
-unfoldable pub insidePlace : Kind → (r i count : ℕ) → Place → Place
-insidePlace kind r i count p =
+unfoldable pub insidePlace : Part → Kind → (r i count : ℕ) → Place → Place
+insidePlace part kind r i count p =
     record {
       role = roleOf (λ b. 0) (λ b. count) kind i;
       parent = r;
       slot = slotOf (λ b. 0) (λ b. count) (placeOf p []) kind i;
-      names = namesIn (λ b. 0) (λ b. count) (placeOf p []) kind i;
+      names = namesUnder part (p .names);
       keeps = keepsIn (λ b. 0) (λ b. count) (placeOf p []) kind i;
-      depth = deeper kind i (p .depth);
+      depth = deeper part (p .depth);
     }
 
 -- Counts that can grow on entering part i.
@@ -138,12 +142,13 @@ pub record SmallParts (r i k end : ℕ) (p : Place) : Type 0 where
   pub keeps : p .keeps + i + 1 + (end - k) ≤ 4000
   pub depth : p .depth + 1 + (end - k) ≤ 4000
 
--- A Call has as many parts as its function has parameters.
+-- A record of this kind has so many parts.
 pub record Counted (arity : ℕ → ℕ) (kind : Kind) (count : ℕ) : Type 0 where
-  pub is : (a b : ℕ) → kind ≡ Call a b → arity b ≡ count
+  pub is : partCount arity (partsOf kind) ≡ count
 
 -- Parts of the record r from part i on stand one behind the other, the next at record k and the last before record m.
-pub record EnteringParts (s table cases : List ℕ) (entry arity : ℕ → ℕ) (node : Record) (i count k end : ℕ) (p : Place) (ps : List Placed) (m : ℕ) : Type 0 where
+pub record EnteringParts (s table cases : List ℕ) (entry arity : ℕ → ℕ) (node : Record) (parts : Parts) (i count k end : ℕ) (p : Place) (ps : List Placed) (m : ℕ) : Type 0 where
+  pub own : listed parts ≡ partsOf (meant node)
   pub many : i + length ps ≡ count
   pub counted : Counted arity (meant node) count
   pub signed : List Signature
@@ -159,9 +164,9 @@ pub record FilledParts (table table′ cases cases′ : List ℕ) (entry arity :
   pub rows : table′ ≡ written table (rowWords * k) (rowsOfParts entry arity (placeOf p cases) kind r i ps)
   pub stack : Same cases cases′ (p .depth)
 
-pub record FillsParts (s table table′ cases cases′ : List ℕ) (node : Record) (r i count k end : ℕ) (p : Place) (next : ℕ) : Type 0 where
+pub record FillsParts (s table table′ cases cases′ : List ℕ) (node : Record) (parts : Parts) (r i count k end : ℕ) (p : Place) (next : ℕ) : Type 0 where
   pub went : Went k end next
-  pub is : (entry arity : ℕ → ℕ) (ps : List Placed) (m : ℕ) → EnteringParts s table cases entry arity node i count k end p ps m
+  pub is : (entry arity : ℕ → ℕ) (ps : List Placed) (m : ℕ) → EnteringParts s table cases entry arity node parts i count k end p ps m
       → FilledParts table table′ cases cases′ entry arity (meant node) r i k p ps m next
 
 -- ---- all functions

@@ -1,6 +1,7 @@
 // The rows of a program's records, for the source run: a table of 8 words for each record, filled from flat records, 8 bytes each.
 use part_places::Place;
 use record_rows::Own;
+use records::Parts;
 use records::Record;
 use records::RecordRead;
 use refusal::Refusal;
@@ -64,7 +65,19 @@ fn decode_at(
         RecordRead::Read(node, parts, template) => {
             let own = record_rows::own_of(flat, cases, node, place.names, place.depth);
             let count = nodes::part_count(flat, parts);
-            let behind = decode_parts(flat, table, cases, node, k, 0, count, k + 1, end, place);
+            let behind = decode_parts(
+                flat,
+                table,
+                cases,
+                node,
+                parts,
+                k,
+                0,
+                count,
+                k + 1,
+                end,
+                place,
+            );
             write_row(table, k, own, place, behind);
             behind
         }
@@ -77,6 +90,7 @@ fn decode_parts(
     table: &mut [u16],
     cases: &mut [u16],
     node: Record,
+    parts: Parts,
     r: usize,
     i: usize,
     count: usize,
@@ -85,18 +99,31 @@ fn decode_parts(
     place: Place,
 ) -> usize
     requires { ⌜ SmallParts r i k end place ⌝ }
-    ensures { λ n. ⌜ FillsParts (now (flat .entry)) (now (table .entry)) (now (table .exit)) (now (cases .entry)) (now (cases .exit)) node r i count k end place n ⌝ }
+    ensures { λ n. ⌜ FillsParts (now (flat .entry)) (now (table .entry)) (now (table .exit)) (now (cases .entry)) (now (cases .exit)) node parts r i count k end place n ⌝ }
 {
     if count <= i {
         return k;
     }
-    let inner = part_places::inside(node, r, i, count, place);
-    part_places::note_case(cases, node, r, i, place.depth);
+    let part = parts::nth_part(parts, i);
+    let inner = part_places::inside(part, node, r, i, count, place);
+    part_places::note_case(cases, part, r, place.depth);
     let next = decode_at(flat, table, cases, k, end, inner);
     if next <= k {
         return next;
     }
-    decode_parts(flat, table, cases, node, r, i + 1, count, next, end, place)
+    decode_parts(
+        flat,
+        table,
+        cases,
+        node,
+        parts,
+        r,
+        i + 1,
+        count,
+        next,
+        end,
+        place,
+    )
 }
 
 // Where the body of function j stands: its numbers are named.

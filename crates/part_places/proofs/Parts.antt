@@ -14,12 +14,14 @@ use lib.Dec.{eqb}
 use lib.ListN.{length, set}
 use lib.Seq.{set-out}
 use Rattle.formats.specs.Records.{Kind}
-use Rattle.formats.specs.Records.{Add as anAdd, IfZero as anIfZero, Let as aLet, Leaf as aLeaf, Node as aNode, Case as aCase, Call as aCall}
+use Rattle.formats.specs.Records.{Add as anAdd, IfZero as anIfZero, Let as aLet, Leaf as aLeaf, Node as aNode, Call as aCall}
+use Rattle.records.proofs.Part as ThePart
 use Rattle.records.proofs.Record as TheRecord
-use Rattle.records.specs.Read.{meant}
+use Rattle.records.specs.Read.{meant, partOf}
+use Rattle.records.specs.declared.Part.{Part}
+use Rattle.records.specs.declared.Part.the-variants.{Number, Tree, Whole, UnderNumber, UnderTrees}
 use Rattle.records.specs.declared.Record.{Record}
 use Rattle.records.specs.declared.Record.the-variants.{Const, Var, Add, IfZero, Let, Leaf, Node, Case, Call}
-use Rattle.records.specs.declared.TreeName.{TreeName}
 use Rattle.records.specs.declared.Called.{Called}
 use Rattle.stepwise.specs.Rows.{kept, lastArgument, lastWord, roleOf, slotOf}
 use Rattle.part_places.specs.declared.Place.{Place}
@@ -64,18 +66,55 @@ last-is i count some = by (eqb i (count - 1)) refl
 
 pub ruleset lasts = (last-none, last-is)
 
+-- ---- `names_inside`, `depth_inside`
+
+module _ (part : Part) (n : ℕ) where
+  pub names-more : (m : ℕ) → part ≡ UnderNumber → m ≡ capped (n + 1) → m ≡ namesInside (partOf part) n
+  unfolding namesInside
+  names-more m case e = rw case e
+
+  pub depth-more : (m : ℕ) → part ≡ UnderTrees → m ≡ capped (n + 1) → m ≡ depthInside (partOf part) n
+  unfolding depthInside
+  depth-more m case e = rw case e
+
+-- parts in which no number is named ..
+abbrev unnamedTags : List ℕ
+unnamedTags = 0 ∷ 1 ∷ 2 ∷ 4 ∷ []
+
+pub names-same : (part : Part) (n : ℕ) → OneOf unnamedTags (tagOf ThePart.the-type part) → n ≡ namesInside (partOf part) n
+unfolding namesInside
+names-same Number n h = refl
+names-same Tree n h = refl
+names-same Whole n h = refl
+names-same UnderNumber n h = absurd (miss unnamedTags 3 tt h)
+names-same UnderTrees n h = refl
+
+-- .. and no trees
+abbrev shallowTags : List ℕ
+shallowTags = 0 ∷ 1 ∷ 2 ∷ 3 ∷ []
+
+pub depth-same : (part : Part) (n : ℕ) → OneOf shallowTags (tagOf ThePart.the-type part) → n ≡ depthInside (partOf part) n
+unfolding depthInside
+depth-same Number n h = refl
+depth-same Tree n h = refl
+depth-same Whole n h = refl
+depth-same UnderNumber n h = refl
+depth-same UnderTrees n h = absurd (miss shallowTags 4 tt h)
+
+pub ruleset namings = (names-more, depth-more, names-same, depth-same)
+
 -- ---- `argument`
 
 -- a place with these
-abbrev placed : (role parent slot names keeps depth : ℕ) → Place
+abbrev pub placed : (role parent slot names keeps depth : ℕ) → Place
 placed role parent slot names keeps depth = record { role = role; parent = parent; slot = slot; names = names; keeps = keeps; depth = depth }
 
-module _ (r keeps : ℕ) (last : Bool) (p q : Place) (slot : ℕ) (es : slot ≡ lastWord - keeps) where
-  pub argument-last : last ≡ true → q ≡ placed lastArgument r slot (p .names) keeps (p .depth) → q ≡ argumentIn r keeps last p
+module _ (r keeps : ℕ) (last : Bool) (names depth : ℕ) (q : Place) (slot : ℕ) (es : slot ≡ lastWord - keeps) where
+  pub argument-last : last ≡ true → q ≡ placed lastArgument r slot names keeps depth → q ≡ argumentIn r keeps last names depth
   unfolding argumentIn
   argument-last is e = rw (argumentIn, is, ← es) e
 
-  pub argument-other : last ≡ false → q ≡ placed kept r slot (p .names) keeps (p .depth) → q ≡ argumentIn r keeps last p
+  pub argument-other : last ≡ false → q ≡ placed kept r slot names keeps depth → q ≡ argumentIn r keeps last names depth
   unfolding argumentIn
   argument-other is e = rw (argumentIn, is, ← es) e
 
@@ -83,127 +122,116 @@ pub ruleset arguments = (argument-last, argument-other)
 
 -- ---- `inside`
 
-module _ (node : Record) (r i count : ℕ) (p q : Place) where
+-- records whose parts' values are the whole's, or that have no parts
+abbrev passedTags : List ℕ
+passedTags = 0 ∷ 1 ∷ 7 ∷ []
+
+passed-part : (part : Part) (node : Record) (r i count : ℕ) (p : Place) → OneOf passedTags (tagOf TheRecord.the-type node)
+    → placed 4 r 0 (namesInside (partOf part) (p .names)) (p .keeps) (depthInside (partOf part) (p .depth)) ≡ partIn (partOf part) (meant node) r i count p
+unfolding partIn roleOf slotOf keepsInside
+passed-part part (Const k) r i count p h = refl
+passed-part part (Var v) r i count p h = refl
+passed-part part Add r i count p h = absurd (miss passedTags 2 tt h)
+passed-part part IfZero r i count p h = absurd (miss passedTags 3 tt h)
+passed-part part Let r i count p h = absurd (miss passedTags 4 tt h)
+passed-part part Leaf r i count p h = absurd (miss passedTags 5 tt h)
+passed-part part Node r i count p h = absurd (miss passedTags 6 tt h)
+passed-part part (Case t) r i count p h = refl
+passed-part part (Call k) r i count p h = absurd (miss passedTags 8 tt h)
+
+module _ (part : Part) (node : Record) (r i count : ℕ) (p q : Place) (names depth : ℕ) (en : names ≡ namesInside (partOf part) (p .names))
+    (ed : depth ≡ depthInside (partOf part) (p .depth)) where
+  -- a place with what is named in the part
+  abbrev named : (role slot keeps : ℕ) → Place
+  named role slot keeps = placed role r slot (namesInside (partOf part) (p .names)) keeps (depthInside (partOf part) (p .depth))
+
   -- part j of a record of this kind
-  at-part : (kind : Kind) (j : ℕ) → meant node ≡ kind → i ≡ j → q ≡ partIn kind r j count p → q ≡ partIn (meant node) r i count p
-  at-part kind j is e same = same ∙ sym (ap₂ (λ k n. partIn k r n count p) is e)
+  at-part : (kind : Kind) (j role slot keeps : ℕ) → meant node ≡ kind → i ≡ j → q ≡ placed role r slot names keeps depth
+      → named role slot keeps ≡ partIn (partOf part) kind r j count p
+      → q ≡ partIn (partOf part) (meant node) r i count p
+  at-part kind j role slot keeps is e own same =
+      own
+      ∙ ap₂ (λ n d. placed role r slot n keeps d) en ed
+      ∙ same
+      ∙ sym (ap₂ (λ k n. partIn (partOf part) k r n count p) is e)
 
   -- a part after the first
   later : i ≢ 0 → i ≡ suc (i - 1)
   later h = omega arith
 
-  pub inside-add-first : (slot : ℕ) → node ≡ Add → i ≡ 0 → slot ≡ lastWord - p .keeps → q ≡ placed 1 r slot (p .names) (p .keeps) (p .depth) → q ≡ partIn (meant node) r i count p
-  unfolding partIn roleOf slotOf namesInside keepsInside depthInside
-  inside-add-first slot case first es e = at-part anAdd 0 (ap meant case) first (e ∙ ap (λ n. placed 1 r n (p .names) (p .keeps) (p .depth)) es)
+  pub inside-add-first : (slot : ℕ) → node ≡ Add → i ≡ 0 → slot ≡ lastWord - p .keeps → q ≡ placed 1 r slot names (p .keeps) depth
+      → q ≡ partIn (partOf part) (meant node) r i count p
+  unfolding partIn roleOf slotOf keepsInside
+  inside-add-first slot case first es e = at-part anAdd 0 1 slot (p .keeps) (ap meant case) first e (ap (λ n. named 1 n (p .keeps)) es)
 
   pub inside-add-second : (slot more : ℕ) → node ≡ Add → i ≢ 0 → slot ≡ lastWord - p .keeps → more ≡ capped (p .keeps + 1)
-      → q ≡ placed 2 r slot (p .names) more (p .depth)
-      → q ≡ partIn (meant node) r i count p
-  unfolding partIn roleOf slotOf namesInside keepsInside depthInside
+      → q ≡ placed 2 r slot names more depth
+      → q ≡ partIn (partOf part) (meant node) r i count p
+  unfolding partIn roleOf slotOf keepsInside
   inside-add-second slot more case other es em e =
-      at-part anAdd (suc (i - 1)) (ap meant case) (later other) (e ∙ ap₂ (λ n m. placed 2 r n (p .names) m (p .depth)) es em)
+      at-part anAdd (suc (i - 1)) 2 slot more (ap meant case) (later other) e (ap₂ (named 2) es em)
 
-  pub inside-if-test : node ≡ IfZero → i ≡ 0 → q ≡ placed 3 r 0 (p .names) (p .keeps) (p .depth) → q ≡ partIn (meant node) r i count p
-  unfolding partIn roleOf slotOf namesInside keepsInside depthInside
-  inside-if-test case first e = at-part anIfZero 0 (ap meant case) first e
+  pub inside-if-test : node ≡ IfZero → i ≡ 0 → q ≡ placed 3 r 0 names (p .keeps) depth → q ≡ partIn (partOf part) (meant node) r i count p
+  unfolding partIn roleOf slotOf keepsInside
+  inside-if-test case first e = at-part anIfZero 0 3 0 (p .keeps) (ap meant case) first e refl
 
-  pub inside-if-part : node ≡ IfZero → i ≢ 0 → q ≡ placed 4 r 0 (p .names) (p .keeps) (p .depth) → q ≡ partIn (meant node) r i count p
-  unfolding partIn roleOf slotOf namesInside keepsInside depthInside
-  inside-if-part case other e = at-part anIfZero (suc (i - 1)) (ap meant case) (later other) e
+  pub inside-if-part : node ≡ IfZero → i ≢ 0 → q ≡ placed 4 r 0 names (p .keeps) depth → q ≡ partIn (partOf part) (meant node) r i count p
+  unfolding partIn roleOf slotOf keepsInside
+  inside-if-part case other e = at-part anIfZero (suc (i - 1)) 4 0 (p .keeps) (ap meant case) (later other) e refl
 
-  pub inside-let-first : node ≡ Let → i ≡ 0 → q ≡ placed 1 r (p .names) (p .names) (p .keeps) (p .depth) → q ≡ partIn (meant node) r i count p
-  unfolding partIn roleOf slotOf namesInside keepsInside depthInside
-  inside-let-first case first e = at-part aLet 0 (ap meant case) first e
+  pub inside-let-first : node ≡ Let → i ≡ 0 → q ≡ placed 1 r (p .names) names (p .keeps) depth → q ≡ partIn (partOf part) (meant node) r i count p
+  unfolding partIn roleOf slotOf keepsInside
+  inside-let-first case first e = at-part aLet 0 1 (p .names) (p .keeps) (ap meant case) first e refl
 
-  pub inside-let-body : (more : ℕ) → node ≡ Let → i ≢ 0 → more ≡ capped (p .names + 1) → q ≡ placed 4 r (p .names) more (p .keeps) (p .depth)
-      → q ≡ partIn (meant node) r i count p
-  unfolding partIn roleOf slotOf namesInside keepsInside depthInside
-  inside-let-body more case other em e =
-      at-part aLet (suc (i - 1)) (ap meant case) (later other) (e ∙ ap (λ n. placed 4 r (p .names) n (p .keeps) (p .depth)) em)
+  pub inside-let-body : node ≡ Let → i ≢ 0 → q ≡ placed 4 r (p .names) names (p .keeps) depth → q ≡ partIn (partOf part) (meant node) r i count p
+  unfolding partIn roleOf slotOf keepsInside
+  inside-let-body case other e = at-part aLet (suc (i - 1)) 4 (p .names) (p .keeps) (ap meant case) (later other) e refl
 
-  pub inside-leaf : node ≡ Leaf → q ≡ placed 5 r 0 (p .names) (p .keeps) (p .depth) → q ≡ partIn (meant node) r i count p
-  unfolding partIn roleOf slotOf namesInside keepsInside depthInside
-  inside-leaf case e = at-part aLeaf i (ap meant case) refl e
+  pub inside-leaf : node ≡ Leaf → q ≡ placed 5 r 0 names (p .keeps) depth → q ≡ partIn (partOf part) (meant node) r i count p
+  unfolding partIn roleOf slotOf keepsInside
+  inside-leaf case e = at-part aLeaf i 5 0 (p .keeps) (ap meant case) refl e refl
 
-  pub inside-node-left : node ≡ Node → i ≡ 0 → q ≡ placed 6 r 0 (p .names) (p .keeps) (p .depth) → q ≡ partIn (meant node) r i count p
-  unfolding partIn roleOf slotOf namesInside keepsInside depthInside
-  inside-node-left case first e = at-part aNode 0 (ap meant case) first e
+  pub inside-node-left : node ≡ Node → i ≡ 0 → q ≡ placed 6 r 0 names (p .keeps) depth → q ≡ partIn (partOf part) (meant node) r i count p
+  unfolding partIn roleOf slotOf keepsInside
+  inside-node-left case first e = at-part aNode 0 6 0 (p .keeps) (ap meant case) first e refl
 
-  pub inside-node-right : node ≡ Node → i ≢ 0 → q ≡ placed 4 r 0 (p .names) (p .keeps) (p .depth) → q ≡ partIn (meant node) r i count p
-  unfolding partIn roleOf slotOf namesInside keepsInside depthInside
-  inside-node-right case other e = at-part aNode (suc (i - 1)) (ap meant case) (later other) e
+  pub inside-node-right : node ≡ Node → i ≢ 0 → q ≡ placed 4 r 0 names (p .keeps) depth → q ≡ partIn (partOf part) (meant node) r i count p
+  unfolding partIn roleOf slotOf keepsInside
+  inside-node-right case other e = at-part aNode (suc (i - 1)) 4 0 (p .keeps) (ap meant case) (later other) e refl
 
-  pub inside-case-leaf : (t : TreeName) (more : ℕ) → node ≡ Case t → i ≡ 0 → more ≡ capped (p .names + 1) → q ≡ placed 4 r 0 more (p .keeps) (p .depth)
-      → q ≡ partIn (meant node) r i count p
-  unfolding partIn roleOf slotOf namesInside keepsInside depthInside
-  inside-case-leaf t more case first em e = at-part (aCase (t .a)) 0 (ap meant case) first (e ∙ ap (λ n. placed 4 r 0 n (p .keeps) (p .depth)) em)
-
-  pub inside-case-node : (t : TreeName) (more : ℕ) → node ≡ Case t → i ≢ 0 → more ≡ capped (p .depth + 1) → q ≡ placed 4 r 0 (p .names) (p .keeps) more
-      → q ≡ partIn (meant node) r i count p
-  unfolding partIn roleOf slotOf namesInside keepsInside depthInside
-  inside-case-node t more case other em e =
-      at-part (aCase (t .a)) (suc (i - 1)) (ap meant case) (later other) (e ∙ ap (placed 4 r 0 (p .names) (p .keeps)) em)
-
-  pub inside-call : (c : Called) (more : ℕ) (last : Bool) → node ≡ Call c → more ≡ capped (p .keeps + i) → last ≡ eqb (suc i) count → q ≡ argumentIn r more last p
-      → q ≡ partIn (meant node) r i count p
-  unfolding partIn roleOf slotOf namesInside keepsInside depthInside argumentIn
+  pub inside-call : (c : Called) (more : ℕ) (last : Bool) → node ≡ Call c → more ≡ capped (p .keeps + i) → last ≡ eqb (suc i) count
+      → q ≡ argumentIn r more last names depth
+      → q ≡ partIn (partOf part) (meant node) r i count p
+  unfolding partIn roleOf slotOf keepsInside argumentIn
   inside-call c more last case em el e =
-      at-part (aCall (c .a) (c .b)) i (ap meant case) refl
-      (e
-      ∙ ap₂ (λ n b. argumentIn r n b p) em el
-      ∙ ap (λ n. placed (elim (eqb (suc i) count) [ true ↦ lastArgument | false ↦ kept ]) r n (p .names) (capped (p .keeps + i)) (p .depth)) (below-last (p .keeps + i)))
+      let role : ℕ = elim (eqb (suc i) count) [ true ↦ lastArgument | false ↦ kept ] in
+      at-part (aCall (c .a) (c .b)) i role (lastWord - capped (p .keeps + i)) (capped (p .keeps + i)) (ap meant case) refl
+      (e ∙ ap₂ (λ n b. argumentIn r n b names depth) em el) (ap (λ n. named role n (capped (p .keeps + i))) (below-last (p .keeps + i)))
 
--- a Const and a Var have no parts
-abbrev bareTags : List ℕ
-bareTags = 0 ∷ 1 ∷ []
+  -- the value of a Case's part is the Case's; a Const and a Var have no parts
+  pub inside-passed : OneOf passedTags (tagOf TheRecord.the-type node) → q ≡ placed 4 r 0 names (p .keeps) depth
+      → q ≡ partIn (partOf part) (meant node) r i count p
+  inside-passed h e = at-part (meant node) i 4 0 (p .keeps) refl refl e (passed-part part node r i count p h)
 
-pub inside-bare : (node : Record) (r i count : ℕ) (p q : Place) → OneOf bareTags (tagOf TheRecord.the-type node) → q ≡ placed 4 r 0 (p .names) (p .keeps) (p .depth)
-    → q ≡ partIn (meant node) r i count p
-unfolding partIn roleOf slotOf namesInside keepsInside depthInside
-inside-bare (Const k) r i count p q h e = e
-inside-bare (Var v) r i count p q h e = e
-inside-bare Add r i count p q h e = absurd (miss bareTags 2 tt h)
-inside-bare IfZero r i count p q h e = absurd (miss bareTags 3 tt h)
-inside-bare Let r i count p q h e = absurd (miss bareTags 4 tt h)
-inside-bare Leaf r i count p q h e = absurd (miss bareTags 5 tt h)
-inside-bare Node r i count p q h e = absurd (miss bareTags 6 tt h)
-inside-bare (Case t) r i count p q h e = absurd (miss bareTags 7 tt h)
-inside-bare (Call k) r i count p q h e = absurd (miss bareTags 8 tt h)
-
-pub ruleset insides = (inside-add-first, inside-add-second, inside-if-test, inside-if-part, inside-let-first, inside-let-body, inside-leaf, inside-node-left, inside-node-right, inside-case-leaf, inside-case-node, inside-call, inside-bare)
+pub ruleset insides = (inside-add-first, inside-add-second, inside-if-test, inside-if-part, inside-let-first, inside-let-body, inside-leaf, inside-node-left, inside-node-right, inside-call, inside-passed)
 
 -- ---- `note_case`
 
-module _ (node : Record) (r i depth : ℕ) (cases : List ℕ) (t : TreeName) (case : node ≡ Case t) where
-  -- part j of a Case
-  note-part : (j : ℕ) (after : List ℕ) → i ≡ j → after ≡ noted (aCase (t .a)) r j depth cases → after ≡ noted (meant node) r i depth cases
-  note-part j after e same = same ∙ sym (ap₂ (λ k n. noted (meant k) r n depth cases) case e)
-
-  pub note-leaf : i ≡ 0 → cases ≡ noted (meant node) r i depth cases
+module _ (part : Part) (r depth : ℕ) (cases : List ℕ) where
+  pub note-full : part ≡ UnderTrees → length cases ≤ depth → cases ≡ noted (partOf part) r depth cases
   unfolding noted
-  note-leaf first = note-part 0 cases first refl
+  note-full case full = rw case (sym (set-out cases depth (r % 65536) full))
 
-  pub note-full : i ≢ 0 → length cases ≤ depth → cases ≡ noted (meant node) r i depth cases
+  pub note-node : part ≡ UnderTrees → set cases depth (r % 65536) ≡ noted (partOf part) r depth cases
   unfolding noted
-  note-full other full = note-part (suc (i - 1)) cases (omega arith) (sym (set-out cases depth (r % 65536) full))
+  note-node case = rw case
 
-  pub note-node : i ≢ 0 → set cases depth (r % 65536) ≡ noted (meant node) r i depth cases
-  unfolding noted
-  note-node other = note-part (suc (i - 1)) _ (omega arith) refl
-
-abbrev otherTags : List ℕ
-otherTags = 0 ∷ 1 ∷ 2 ∷ 3 ∷ 4 ∷ 5 ∷ 6 ∷ 8 ∷ []
-
-pub note-other : (node : Record) (r i depth : ℕ) (cases : List ℕ) → OneOf otherTags (tagOf TheRecord.the-type node) → cases ≡ noted (meant node) r i depth cases
+pub note-other : (part : Part) (r depth : ℕ) (cases : List ℕ) → OneOf shallowTags (tagOf ThePart.the-type part) → cases ≡ noted (partOf part) r depth cases
 unfolding noted
-note-other (Const k) r i depth cases h = refl
-note-other (Var v) r i depth cases h = refl
-note-other Add r i depth cases h = refl
-note-other IfZero r i depth cases h = refl
-note-other Let r i depth cases h = refl
-note-other Leaf r i depth cases h = refl
-note-other Node r i depth cases h = refl
-note-other (Case t) r i depth cases h = absurd (miss otherTags 7 tt h)
-note-other (Call k) r i depth cases h = refl
+note-other Number r depth cases h = refl
+note-other Tree r depth cases h = refl
+note-other Whole r depth cases h = refl
+note-other UnderNumber r depth cases h = refl
+note-other UnderTrees r depth cases h = absurd (miss shallowTags 4 tt h)
 
-pub ruleset notes = (note-leaf, note-full, note-node, note-other, needs)
+pub ruleset notes = (note-full, note-node, note-other, needs)

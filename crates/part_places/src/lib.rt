@@ -1,11 +1,12 @@
 // Where the parts of a program's record stand, for the rows of the source run.
+use records::Part;
 use records::Record;
 ghost use Prim.Native.Nat.{suc, _+_, _-_};
 ghost use mathlib.Core.Path.{_≡_};
 ghost use lib.Dec.{eqb};
-ghost use Rattle.records.specs.Read.{meant};
+ghost use Rattle.records.specs.Read.{meant, partOf};
 ghost use Rattle.stepwise.specs.Rows.{lastWord};
-ghost use Rattle.part_places.specs.Parts.{capped, argumentIn, partIn, noted};
+ghost use Rattle.part_places.specs.Parts.{capped, namesInside, depthInside, argumentIn, partIn, noted};
 
 // The last word of a frame.
 const LAST_WORD: usize = 15;
@@ -67,7 +68,14 @@ fn is_last(i: usize, count: usize) -> bool
 }
 
 // A place with these.
-fn part(role: usize, parent: usize, slot: usize, names: usize, keeps: usize, depth: usize) -> Place
+fn placed(
+    role: usize,
+    parent: usize,
+    slot: usize,
+    names: usize,
+    keeps: usize,
+    depth: usize,
+) -> Place
     ensures { λ r. ⌜ r ≡ record { role = role; parent = parent; slot = slot; names = names; keeps = keeps; depth = depth } ⌝ }
 {
     Place {
@@ -80,71 +88,83 @@ fn part(role: usize, parent: usize, slot: usize, names: usize, keeps: usize, dep
     }
 }
 
+// Numbers named in a part, by what the part is, where so many are named at the record.
+fn names_inside(part: Part, names: usize) -> usize
+    ensures { λ r. ⌜ r ≡ namesInside (partOf part) names ⌝ }
+{
+    match part {
+        Part::UnderNumber => add_up(names, 1),
+        _ => names,
+    }
+}
+
+// In how many node parts of Cases a part stands, by what the part is, where the record stands in so many.
+fn depth_inside(part: Part, depth: usize) -> usize
+    ensures { λ r. ⌜ r ≡ depthInside (partOf part) depth ⌝ }
+{
+    match part {
+        Part::UnderTrees => add_up(depth, 1),
+        _ => depth,
+    }
+}
+
 // Where an argument stands, with so many numbers kept before it.
-fn argument(r: usize, kept: usize, last: bool, place: Place) -> Place
-    ensures { λ q. ⌜ q ≡ argumentIn r kept last place ⌝ }
+fn argument(r: usize, kept: usize, last: bool, names: usize, depth: usize) -> Place
+    ensures { λ q. ⌜ q ≡ argumentIn r kept last names depth ⌝ }
 {
     let slot = from_last(kept);
     if last {
-        return part(LAST_ARGUMENT, r, slot, place.names, kept, place.depth);
+        return placed(LAST_ARGUMENT, r, slot, names, kept, depth);
     }
-    part(KEPT, r, slot, place.names, kept, place.depth)
+    placed(KEPT, r, slot, names, kept, depth)
 }
 
-// Where part i of the record r stands, which has so many parts.
-pub fn inside(node: Record, r: usize, i: usize, count: usize, place: Place) -> Place
-    ensures { λ q. ⌜ q ≡ partIn (meant node) r i count place ⌝ }
+// Where part i of the record r stands, which has so many parts: what is named in it goes by the part, its role and its word by the record's kind.
+pub fn inside(part: Part, node: Record, r: usize, i: usize, count: usize, place: Place) -> Place
+    ensures { λ q. ⌜ q ≡ partIn (partOf part) (meant node) r i count place ⌝ }
 {
-    let names = place.names;
+    let names = names_inside(part, place.names);
+    let depth = depth_inside(part, place.depth);
     let keeps = place.keeps;
-    let depth = place.depth;
     match node {
         Record::Add => {
             let slot = from_last(keeps);
             if i == 0 {
-                return part(KEPT, r, slot, names, keeps, depth);
+                return placed(KEPT, r, slot, names, keeps, depth);
             }
-            part(ADDED, r, slot, names, add_up(keeps, 1), depth)
+            placed(ADDED, r, slot, names, add_up(keeps, 1), depth)
         }
         Record::IfZero => {
             if i == 0 {
-                return part(TESTED, r, 0, names, keeps, depth);
+                return placed(TESTED, r, 0, names, keeps, depth);
             }
-            part(PASSED, r, 0, names, keeps, depth)
+            placed(PASSED, r, 0, names, keeps, depth)
         }
         Record::Let => {
+            let slot = place.names;
             if i == 0 {
-                return part(KEPT, r, names, names, keeps, depth);
+                return placed(KEPT, r, slot, names, keeps, depth);
             }
-            part(PASSED, r, names, add_up(names, 1), keeps, depth)
+            placed(PASSED, r, slot, names, keeps, depth)
         }
-        Record::Leaf => part(LABELLED, r, 0, names, keeps, depth),
+        Record::Leaf => placed(LABELLED, r, 0, names, keeps, depth),
         Record::Node => {
             if i == 0 {
-                return part(FOLLOWED, r, 0, names, keeps, depth);
+                return placed(FOLLOWED, r, 0, names, keeps, depth);
             }
-            part(PASSED, r, 0, names, keeps, depth)
+            placed(PASSED, r, 0, names, keeps, depth)
         }
-        Record::Case(t) => {
-            if i == 0 {
-                return part(PASSED, r, 0, add_up(names, 1), keeps, depth);
-            }
-            part(PASSED, r, 0, names, keeps, add_up(depth, 1))
-        }
-        Record::Call(c) => argument(r, add_up(keeps, i), is_last(i, count), place),
-        _ => part(PASSED, r, 0, names, keeps, depth),
+        Record::Call(c) => argument(r, add_up(keeps, i), is_last(i, count), names, depth),
+        _ => placed(PASSED, r, 0, names, keeps, depth),
     }
 }
 
-// Before the node part of the Case at record r is entered, the record is put on top of the stack.
-pub fn note_case(cases: &mut [u16], node: Record, r: usize, i: usize, depth: usize)
-    ensures { λ _. ⌜ now (cases .exit) ≡ noted (meant node) r i depth (now (cases .entry)) ⌝ }
+// Before a part with two tree names more is entered, the Case's record r is put on top of the stack.
+pub fn note_case(cases: &mut [u16], part: Part, r: usize, depth: usize)
+    ensures { λ _. ⌜ now (cases .exit) ≡ noted (partOf part) r depth (now (cases .entry)) ⌝ }
 {
-    match node {
-        Record::Case(t) => {
-            if i == 0 {
-                return;
-            }
+    match part {
+        Part::UnderTrees => {
             if cases.len() <= depth {
                 return;
             }

@@ -4,13 +4,14 @@ use Prim.Native.Nat.{ℕ, _+_, _-_, _*_, _<_}
 use borrow.Author.Needs.{needs}
 use borrow.Fn.Kinds.{In}
 use borrow.Fn.PlainCycle.{Measures, is, falls, and}
-use Rattle.decode.proofs.Walk.{expressions, fill-read, parts, asked}
+use Rattle.decode.proofs.Walk.{expressions, fill-read, parts, parts-more, asked}
 use Rattle.decode.proofs.decode_at.Reads as decode-at
 use Rattle.decode.proofs.decode_at.Kinds as decode-at-kinds
 use Rattle.decode.proofs.+decode_at+decode_parts.Lts-decode_at as decode-at-lts
 use Rattle.decode.proofs.decode_parts.Reads as decode-parts
 use Rattle.decode.proofs.decode_parts.Kinds as decode-parts-kinds
 use Rattle.decode.proofs.+decode_at+decode_parts.Lts-decode_parts as decode-parts-lts
+use Rattle.parts.proofs.nth_part.Reads as nth-part-reads
 use Rattle.part_places.proofs.inside.Reads as inside-reads
 use Rattle.part_places.proofs.note_case.Reads as note-case-reads
 use Rattle.record_rows.proofs.own_of.Reads as own-of-reads
@@ -24,7 +25,7 @@ abbrev μ-decode-at : Measures 3 decode-at-kinds.ps ℕ
 μ-decode-at κs a = 2 * (a .1 .1 .1 .1 .0 - a .1 .1 .1 .0)
 
 abbrev μ-decode-parts : Measures 3 decode-parts-kinds.ps ℕ
-μ-decode-parts κs a = 2 * (a .1 .1 .1 .1 .1 .1 .1 .1 .0 - a .1 .1 .1 .1 .1 .1 .1 .0) + 1
+μ-decode-parts κs a = 2 * (a .1 .1 .1 .1 .1 .1 .1 .1 .1 .0 - a .1 .1 .1 .1 .1 .1 .1 .1 .0) + 1
 
 abbrev decode-at-at : ℕ → In 3 decode-at-kinds.ps
 decode-at-at t = and 3 decode-at-kinds.ps (is 3 decode-at-kinds.ps μ-decode-at t) decode-at.Pre
@@ -71,6 +72,8 @@ pub +decode-at+decode-parts-spec : {M : Type 1} → statement M
     (c .before .before .before .before .before .before .before .before .decode-parts .ensures)
     (c .before .before .write-row .ensures)))
     λ t. decode-parts-lts.spec (
+      nth-part-reads.Asked,
+      nth-part-reads.Learnt,
       inside-reads.Asked,
       inside-reads.Learnt,
       note-case-reads.Asked,
@@ -85,10 +88,19 @@ pub +decode-at+decode-parts-spec : {M : Type 1} → statement M
     (λ c. search parts)
     (λ c κs. search needs)
     (λ c κs. search needs)
+    (λ c κs. search needs)
     (λ c κs. search asked)
     (λ c. search needs) (λ c. search needs)
     (λ c. search parts)
     (λ c. search asked)
     (λ c κs. search asked)
     (λ c. search needs) (λ c. search needs)
-    (λ c. search parts)
+    (λ c.
+    let at-parts = c .before .before .before .before in
+    let at-part = at-parts .before .before .before .before .before .before .before .before in
+    let at-note = at-part .before .before .before .before .before in
+    let at-inside = at-note .before .before in
+    let at-nth = at-inside .before in
+    let more = at-nth .before in
+    parts-more _ _ _ _ _ _ _ _ _ _ _ (more .before .before .before .before .pre .1) (at-nth .nth-part .result) (at-nth .nth-part .ensures) _ _ _ _ _ (at-inside .inside .ensures)
+    (at-note .note-case .ensures) (at-part .decode-at .ensures) (more .if1 .left) _ _ _ (at-parts .decode-parts .ensures))

@@ -1,4 +1,4 @@
--- `part_places::note_case` meets its contract: only the node part of a Case changes the stack.
+-- `part_places::note_case` meets its contract: only a part with two tree names more changes the stack.
 use borrow.Author.Needs.{needs}
 use Rattle.part_places.proofs.Parts.{notes}
 use Rattle.part_places.proofs.note_case.Statement.{statement}
@@ -9,7 +9,6 @@ note-case-spec =
     tie.close
     (tie.spec
     (λ c. search needs)
-    (λ c. search notes)
     (λ c. search notes)
     (λ c. search needs) (λ c. search needs) (λ c. search needs) (λ c. search needs)
     (λ c. search notes)

@@ -1,4 +1,4 @@
--- What comes of a record that begins, whatever the table, the input and the words hold.
+-- The next stage after a record begins, whatever the table, the input and the words hold.
 use Prim.Native.Nat.{ℕ}
 use mathlib.Core.Bool.{true, false}
 use mathlib.Core.List.{List}

@@ -1,2 +1,2 @@
--- What comes of a record that begins.
+-- The next stage after a record begins.
 pub mod Begins

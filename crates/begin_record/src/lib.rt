@@ -1,4 +1,4 @@
-// A record of a program begins, in the source run: what comes of it.
+// A record of a program begins, in the source run: the next stage.
 use stages::Stage;
 ghost use Prim.Native.Nat.{_+_, _*_, _<_};
 ghost use mathlib.Core.Path.{_≡_};
@@ -94,7 +94,7 @@ fn named_number(table: &[u16], values: &[u32], s: Stage) -> u32
     frames::frame_word(values, s.calls, frames::field(table, s.node, OPERAND))
 }
 
-// What comes of a record that begins, by its action: a number is given; a tree is looked at; a call without arguments opens; else the first part
+// The next stage after a record begins, by its action: a number is given; a tree is looked at; a call without arguments opens; else the first part
 // begins.
 pub fn begin(table: &[u16], input: &[u8], values: &mut [u32], s: Stage) -> Stage
     ensures { λ r. ⌜ Begins (now (table .entry)) (now (input .entry)) (now (values .entry)) (now (values .exit)) s r ⌝ }

@@ -1,5 +1,5 @@
 -- A program's functions one after the other: what is left of them at function j, whose body is at record k.
-use Prim.Native.Nat.{ℕ, zero, suc, _+_, _-_, _*_, _≤_, _<_}
+use Prim.Native.Nat.{ℕ, zero, suc, _+_, _*_, _≤_, _<_}
 use mathlib.Core.List.{List, [], _∷_, _++_, map}
 use mathlib.Core.Path.{_≡_, refl, sym, ap, ap₂, subst, _∙_}
 use native.Mathlib.Numerals.{add-one}
@@ -142,7 +142,7 @@ module _ (s : List ℕ) (functions end : ℕ) (table₀ cases₀ table cases : L
           depth = rw (starts .is) (omega (arith, l .few));
         }
 
-    -- function j, and those behind it
+    -- function j, and those after it
     record Turn (program : Program) : Type 0 where
       here : Function
       others : List Function
@@ -208,7 +208,7 @@ module _ (s : List ℕ) (functions end : ℕ) (table₀ cases₀ table cases : L
           let v = l .some-program in
           ap length (filled (v .value) (v .is) .rows) ∙ wrote table (rowWords * k) _ .same-length
 
-      -- those behind it are left
+      -- those after it are left
       rest-left : (program : Program) → readProgram s ≡ done program → Left s functions end table₀ table′ next (j + 1) program
       unfolding rowsOfAll
       rest-left program e =

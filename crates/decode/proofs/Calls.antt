@@ -22,7 +22,7 @@ use Rattle.decode.specs.Decoding.{tableWords, decoded, orElse, Decodes}
 use Rattle.decode.specs.Walk.{Ready, FillsAll}
 
 module _ (s table : List ℕ) where
-  -- the refusal that is told
+  -- the refusal that is reported
   refused : (why : Refusal) (place : ℕ) → decoded s table ≡ refusal (number why) place → Decodes s table table (Refused why place)
   unfolding orElse
   refused why place e = record { said-so = sym (ap verdict e); after-is = sym (rw (e, orElse)) }

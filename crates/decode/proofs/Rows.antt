@@ -30,7 +30,7 @@ module _ (entry arity : ℕ → ℕ) where
     rows-args i k noArgs = refl
     rows-args i k (arg x xs) = ap (λ (l : List ℕ). rowsOf entry arity (partPlace entry arity p kind r i) k x ++ l) (rows-args (suc i) (k + size x) xs)
 
-  -- a row with the record behind it said in another way, in front of rows
+  -- a row with the record after it said in another way, in front of rows
   in-front : (p : Place) (kind : Kind) {m n : ℕ} {xs ys : List ℕ} → m ≡ n → xs ≡ ys → rowOf entry arity p m kind ++ xs ≡ rowOf entry arity p n kind ++ ys
   in-front p kind e f = ap₂ (λ b l. rowOf entry arity p b kind ++ l) e f
 
@@ -49,7 +49,7 @@ module _ (entry arity : ℕ → ℕ) where
   rows-split p r (caseOf a x y) = in-front p (Case a) (omega (arith, size-case x y a)) (rows-two p (Case a) r 0 (suc r) x y)
   rows-split p r (call a b xs) = in-front p (Call a b) (omega (arith, behind-args entry arity (suc r) xs, size-call a b xs)) (rows-args p (Call a b) r 0 (suc r) xs)
 
-  -- rows of parts that stand one behind the other reach up to their end
+  -- rows of parts that stand one after the other reach up to their end
   pub length-parts : (p : Place) (kind : Kind) (r i : ℕ) {s : List ℕ} {gs : List Signature} {k m : ℕ} {ps : List Placed} → Row s gs k ps m
       → rowWords * k + length (rowsOfParts entry arity p kind r i ps) ≡ rowWords * m
   unfolding rowsOfParts

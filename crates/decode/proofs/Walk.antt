@@ -159,7 +159,7 @@ pub ruleset expressions = (fill-past, fill-unread, fill-read)
 -- ---- `decode_parts`
 
 module _ (s table cases : List ℕ) (node : Record) (parts : Parts) (r i count k end : ℕ) (p : Place) (small : SmallParts r i k end p) where
-  -- the parts are through
+  -- the parts are finished
   pub parts-done : count ≤ i → FillsParts s table table cases cases node parts r i count k end p k
   unfolding rowsOfParts
   parts-done over = record {
@@ -182,7 +182,7 @@ module _ (s table cases : List ℕ) (node : Record) (parts : Parts) (r i count k
     is-inner = is-part ∙ inside-plain (partOf part) r count (meant node) i p (grows r i k end p small)
 
     module _ {entry arity : ℕ → ℕ} {ps : List Placed} {m : ℕ} (h : EnteringParts s table cases entry arity node parts i count k end p ps m) where
-      -- the part that stands here, and those behind it
+      -- the part that stands here, and those after it
       first : FirstOf s (h .signed) k ps m
       first = row-first (h .row) (omega (arith, h .many))
 
@@ -255,7 +255,7 @@ module _ (s table cases : List ℕ) (node : Record) (parts : Parts) (r i count k
       is = λ entry arity ps m h. absurd (omega (arith, some-record (first h .expr), filled h .behind));
     }
 
-    -- the part's rows, and behind them those of the others
+    -- the part's rows, and after them those of the others
     pub parts-more : (table′ cases′ : List ℕ) (n : ℕ) → FillsParts s between table′ cases₁ cases′ node parts r (i + 1) count next end p n
         → FillsParts s table table′ cases cases′ node parts r i count k end p n
     unfolding rowsOfParts
@@ -299,11 +299,11 @@ few-parts k end p small more = record {
   depth = omega (arith, small .depth);
 }
 
--- the measure, from a part to those behind it
+-- the measure, from a part to those after it
 pub fall-on : (t k end next : ℕ) → 2 * (end - k) + 1 ≡ t → Went k end next → k < next → 2 * (end - next) + 1 < t
 fall-on t k end next is went on = omega (arith, went .inside)
 
--- the parts behind it
+-- the parts after it
 pub few-rest : (r i k end : ℕ) (p : Place) (next : ℕ) → SmallParts r i k end p → Went k end next → k < next → SmallParts r (i + 1) next end p
 few-rest r i k end p next small went on = record {
   before-end = went .inside;

@@ -1,6 +1,6 @@
 -- What the functions answer that fill a table, over flat records s. `table` and `cases` hold at entry the words of the table and of the stack of Cases,
 -- `table′` and `cases′` those at exit.
-use Prim.Native.Nat.{ℕ, zero, suc, _+_, _-_, _*_, _%_, _≤_, _<_}
+use Prim.Native.Nat.{ℕ, suc, _+_, _-_, _*_, _%_, _≤_, _<_}
 use mathlib.Core.List.{List, [], _∷_, _++_}
 use mathlib.Core.Path.{_≡_}
 use lib.ListN.{length, getD, take}
@@ -146,7 +146,7 @@ pub record SmallParts (r i k end : ℕ) (p : Place) : Type 0 where
 pub record Counted (arity : ℕ → ℕ) (kind : Kind) (count : ℕ) : Type 0 where
   pub is : partCount arity (partsOf kind) ≡ count
 
--- Parts of the record r from part i on stand one behind the other, the next at record k and the last before record m.
+-- Parts of the record r from part i on stand one after the other, the next at record k and the last before record m.
 pub record EnteringParts (s table cases : List ℕ) (entry arity : ℕ → ℕ) (node : Record) (parts : Parts) (i count k end : ℕ) (p : Place) (ps : List Placed) (m : ℕ) : Type 0 where
   pub own : listed parts ≡ partsOf (meant node)
   pub many : i + length ps ≡ count

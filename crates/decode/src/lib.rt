@@ -43,7 +43,7 @@ fn write_row(table: &mut [u16], k: usize, own: Own, place: Place, behind: usize)
     table[p + 7] = (behind % 65536) as u16;
 }
 
-// Fills the rows of the expression at record k, and says which record is behind it. A record's row is written once its parts are through: then that is
+// Fills the rows of the expression at record k, and says which record is after it. A record's row is written once its parts are finished: then that is
 // known.
 fn decode_at(
     flat: &[u8],

@@ -1,4 +1,4 @@
--- A record is through: a law for each way out of the functions.
+-- A record is finished: a law for each way out of the functions.
 use Prim.Native.Nat.{ℕ, suc, _+_, _-_, _*_, _/_, _%_, _≤_, _<_}
 use mathlib.Core.Bool.{Bool, true, false, _&&_}
 use mathlib.Core.List.{List}
@@ -40,7 +40,7 @@ then-false true b e = e
 then-false false b e = refl
 
 module _ (T input : List ℕ) (r own code : ℕ) (is : code ≡ treeAt T r) where
-  -- the tests behind the first and the second
+  -- the tests after the first and the second
   abbrev deeper : Bool
   deeper = ltb own (length input) && eqb (getD input own 0) nodeTag
 

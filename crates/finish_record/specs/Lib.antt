@@ -1,2 +1,2 @@
--- What comes of a record that is through.
+-- The next stage after a record that is finished.
 pub mod Rises

@@ -1,4 +1,4 @@
--- What comes of a record that is through, whatever the table, the input and the words hold.
+-- The next stage after a record that is finished, whatever the table, the input and the words hold.
 use Prim.Native.Nat.{ℕ}
 use mathlib.Core.List.{List}
 use mathlib.Core.Logic.{_≢_}
@@ -7,7 +7,7 @@ use Rattle.stepwise.specs.Steps.{behindAt, knownAfter, closing, following, risi
 use Rattle.stages.specs.declared.Stage.{Stage}
 use Rattle.stages.specs.Stages.{stateOf, Reaches}
 
--- The step of a stage whose record is through.
+-- The step of a stage whose record is finished.
 pub record Rises (T input values values′ places : List ℕ) (s r : Stage) : Type 0 where
   pub is : Reaches (rising T input (s .node) (s .number) (stateOf values places s)) values values′ places places s r
 

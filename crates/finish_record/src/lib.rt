@@ -1,4 +1,4 @@
-// A record of a program is through, in the source run: what comes of its value.
+// A record of a program is finished, in the source run: the next stage, by its value.
 use stages::Stage;
 ghost use Prim.Native.Nat.{_+_, _*_};
 ghost use mathlib.Core.Path.{_≡_};
@@ -111,7 +111,7 @@ fn close(table: &[u16], input: &[u8], places: &[u64], s: Stage) -> Stage
     }
 }
 
-// The number of a record that is through, put on its word.
+// The number of a record that is finished, put on its word.
 fn keep(table: &[u16], values: &mut [u32], s: Stage)
     ensures { λ _. ⌜ now (values .exit) ≡ set (now (values .entry)) (frameWords * s .calls + slotAt (now (table .entry)) (s .node)) (s .number) ⌝ }
 {
@@ -123,7 +123,7 @@ fn keep(table: &[u16], values: &mut [u32], s: Stage)
     )
 }
 
-// The number of a record that is through, added to the one kept.
+// The number of a record that is finished, added to the one kept.
 fn sum_kept(table: &[u16], values: &[u32], s: Stage) -> u32
     ensures { λ r. ⌜ r ≡ sum32 (getD (now (values .entry)) (frameWords * s .calls + slotAt (now (table .entry)) (s .node)) 0) (s .number) ⌝ }
 {
@@ -131,7 +131,7 @@ fn sum_kept(table: &[u16], values: &[u32], s: Stage) -> u32
     numbers::add32(left, s.number)
 }
 
-// The record of the part that IfZero takes: the zero part is behind the test, the other part behind that.
+// The record of the part that IfZero takes: the zero part is after the test, the other part after that.
 fn picked(table: &[u16], s: Stage) -> u16
     ensures { λ r. ⌜ Picks (now (table .entry)) s r ⌝ }
 {
@@ -142,7 +142,7 @@ fn picked(table: &[u16], s: Stage) -> u16
     frames::field(table, zero_part, BEHIND)
 }
 
-// What comes of a part whose value is the whole's, a leaf's label, or Node's left tree, after which the next part begins; the last argument else, after which
+// The next stage after a part whose value is the whole's, a leaf's label, or Node's left tree, after which the next part begins; the last argument else, after which
 // the call opens.
 fn follow(table: &[u16], values: &mut [u32], s: Stage) -> Stage
     ensures { λ r. ⌜ Follows (now (table .entry)) (now (values .entry)) (now (values .exit)) s r ⌝ }
@@ -159,7 +159,7 @@ fn follow(table: &[u16], values: &mut [u32], s: Stage) -> Stage
     }
 }
 
-// What comes of a record that is through, by what it is to its parent: a function's body, a number that is put on a word before the next part begins, Add's
+// The next stage after a record that is finished, by what it is to its parent: a function's body, a number that is put on a word before the next part begins, Add's
 // second part, IfZero's test, or one of those that `follow` has.
 pub fn rise(table: &[u16], input: &[u8], values: &mut [u32], places: &[u64], s: Stage) -> Stage
     ensures { λ r. ⌜ Rises (now (table .entry)) (now (input .entry)) (now (values .entry)) (now (values .exit)) (now (places .entry)) s r ⌝ }

@@ -128,7 +128,7 @@ pub opened-found : (T input : List ℕ) (r p : ℕ) (s : State) → r < mostReco
 opened-found T input r p s few found =
     opened-in T input r s few ∙ ap (λ q. opening T q r s) (found-place T input s found)
 
--- nothing is through after it, and no other call opens
+-- nothing is finished after it, and no other call opens
 module _ (s : Stage) (r f : ℕ) (t : State) where
   settled-by : (a b : Bool)
       → (stageOf s (elim a [ true ↦ elim b [ true ↦ deep r | false ↦ begin f t ] | false ↦ stuck ]) .mode ≢ isThrough)

@@ -1,2 +1,2 @@
--- What comes of a call that opens.
+-- The next stage after a call opens.
 pub mod Opens

@@ -1,4 +1,4 @@
--- What comes of a call that opens, whatever the table, the input and the words hold.
+-- The next stage after a call opens, whatever the table, the input and the words hold.
 use Prim.Native.Nat.{ℕ}
 use mathlib.Core.Bool.{true, false}
 use mathlib.Core.List.{List}

@@ -28,7 +28,7 @@ pub struct Own {
     pub more: u16,
 }
 
-// The first record of function b: behind the header, the function records, and the nodes of the functions before it. It is exact: counts of 16 bits, fewer
+// The first record of function b: after the header, the function records, and the nodes of the functions before it. It is exact: counts of 16 bits, fewer
 // than 65,536 of them.
 fn first_record(flat: &[u8], b: u16) -> usize
     ensures { λ r. ⌜ r ≡ firstIn (now (flat .entry)) b ⌝ }

@@ -1,4 +1,4 @@
-// The bytes of a result, written by the source run as its records begin and are through.
+// The bytes of a result, written by the source run as its records begin and are finished.
 use stages::Stage;
 ghost use mathlib.Core.List.{[], _∷_};
 ghost use mathlib.Core.Path.{_≡_};
@@ -70,7 +70,7 @@ pub fn say_first(table: &[u16], output: &mut [u8], s: Stage) -> usize
     count(s.written, 1)
 }
 
-// A leaf is written when its number is through, where it fits. Gives the bytes written.
+// A leaf is written when its number is finished, where it fits. Gives the bytes written.
 pub fn say_last(table: &[u16], output: &mut [u8], s: Stage) -> usize
     ensures { λ r. ⌜ Says (saidLast (now (table .entry)) (s .node) (s .number)) (now (output .entry)) (now (output .exit)) (s .written) r ⌝ }
 {

@@ -48,7 +48,7 @@ use Rattle.stepwise.proofs.Whole.{comes}
 use Rattle.source.specs.declared.SourceAnswer.{SourceAnswer}
 use Rattle.source.specs.Answers.{answered, toldResult, tellSteps, Always, Evaluates, Sourced, OfFile}
 
--- ---- the evaluation's outcome and that of the steps are told alike
+-- ---- the evaluation's outcome and that of the steps are reported alike
 
 tell-same : (o : Outcome Val) (fuel begun : ℕ) (output : List ℕ) → tellSteps begun (within fuel (next o toldOf)) output ≡ tellFrom begun (within fuel o) output
 unfolding tellSteps tellFrom within next toldResult toldValue

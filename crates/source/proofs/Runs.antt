@@ -1,4 +1,4 @@
--- The run: a law for each way out of the functions that tell an answer.
+-- The run: a law for each way out of the functions that report an answer.
 use Prim.Native.Nat.{ℕ, zero, suc, _+_, _≤_, _<_}
 use mathlib.Core.List.{List, [], _∷_}
 use mathlib.Core.Bool.{false}
@@ -64,7 +64,7 @@ stop-late : (stop : ℕ) → (stop ≡ fuelUsedUp) ⊎ (stop ≡ tooManyCalls) �
 stop-late stop (inl e) = rw e fuel-late
 stop-late stop (inr e) = rw e calls-late
 
--- ---- what an outcome is told as
+-- ---- what an outcome is reported as
 
 -- expressions begun are counted
 tell-after : (n k : ℕ) (o : Outcome Told) (output : List ℕ) → tellSteps k (after n o) output ≡ tellSteps (k + n) o output
@@ -96,7 +96,7 @@ module _ (output : List ℕ) where
   told-stop n why at o e =
       ap (λ p. tellSteps 0 p output) e ∙ tell-after n 0 (stops why at) output ∙ ap (λ i. refusedAfter i why 0 output) (zero-add n)
 
--- a value is told once
+-- a value is reported once
 same-value : {A : Type 0} (n m : ℕ) (a b : A) → after n (gives a) ≡ after m (gives b) → a ≡ b
 same-value {A} n m a b e = comes-value {form = λ x. x} {P = λ k x. x ≡ b} {S = λ why. Unit {0}} n a (given m b refl) (sym e)
 
@@ -105,7 +105,7 @@ same-value {A} n m a b e = comes-value {form = λ x. x} {P = λ k x. x ≡ b} {S
 module _ (T input : List ℕ) (first fuel : ℕ) (output values values₁ places places₁ nothing nothing′ : List ℕ) (c : Walked)
     (counted : Walks T input first fuel nothing nothing′ values values₁ places places₁ c)
   where
-    -- what the first walk tells
+    -- what the first walk reports
     the-first : (o : Outcome Told) → Always T input first o → valueWords ≤ length values → returnWords ≤ length places → Tells (within fuel o) nothing nothing′ c
     the-first o always v p =
         walk-tells T input first fuel nothing nothing′ values values₁ places places₁ c counted o (always .comes values places v p)

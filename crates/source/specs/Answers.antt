@@ -44,7 +44,7 @@ pub record Room (l : List ℕ) (r : ℕ) : Type 0 where
 
 -- ---- the outcome of the steps
 
--- The result's bytes written from the output's start, its number told; 17 where they do not fit.
+-- The result's bytes written from the output's start, its number reported; 17 where they do not fit.
 unfoldable pub toldResult : ℕ → Told → List ℕ → SourceRan
 toldResult begun t output =
     elim (leb (length (t .bytes)) (length output)) [

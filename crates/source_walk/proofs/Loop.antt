@@ -96,7 +96,7 @@ module _ (T input : List ℕ) where
   unfolding climbing
   climb-sticks n p e stays = simp (climbing, eq-eqb _ _ e, le-ltb _ _ stays)
 
-  -- what is through has some weight
+  -- what is finished has some weight
   some-weight : (s : Stage) → s .mode ≡ isThrough → 0 < weightOf s
   some-weight s e = omega (arith, weight-through s e)
 

@@ -31,7 +31,7 @@ stepped p t bytes =
     run (written (p .output) (p .stage .written) bytes) (wordsOf (p .values) t) (placesOf (p .places) t)
     (withWritten (stageOf (p .stage) t) (counted (p .stage .written) (length bytes)))
 
--- While records are through this falls.
+-- While records are finished this falls.
 unfoldable pub weightOf : Stage → ℕ
 weightOf s = elim (eqb (s .mode) isThrough) [ true ↦ 1 + 65536 * s .calls + s .node | false ↦ 0 ]
 
@@ -40,7 +40,7 @@ module _ (T input : List ℕ) where
   unfoldable pub beginStep : Run → Run
   beginStep p = stepped p (begun T input (p .stage .node) (stateOf (p .values) (p .places) (p .stage))) (saidFirst T (p .stage .node))
 
-  -- It is through.
+  -- It is finished.
   unfoldable pub riseStep : Run → Run
   riseStep p =
       stepped p (rising T input (p .stage .node) (p .stage .number) (stateOf (p .values) (p .places) (p .stage))) (saidLast T (p .stage .node) (p .stage .number))
@@ -55,7 +55,7 @@ module _ (T input : List ℕ) where
         | false ↦ p
       ]
 
-  -- Up to n steps while records are through; where the weight does not fall there is no next one.
+  -- Up to n steps while records are finished; where the weight does not fall there is no next one.
   unfoldable pub climbing : ℕ → Run → Run
   climbing zero p = p
   climbing (suc n) p =

@@ -15,7 +15,7 @@ const ENDED: u32 = 3;
 
 const STUCK: u32 = 5;
 
-// While records are through this falls.
+// While records are finished this falls.
 fn weight_of(s: Stage) -> usize
     ensures { λ r. ⌜ r ≡ weightOf s ⌝ }
 {
@@ -25,7 +25,7 @@ fn weight_of(s: Stage) -> usize
     0
 }
 
-// Goes on while records are through.
+// Goes on while records are finished.
 fn climb(
     table: &[u16],
     input: &[u8],
@@ -99,7 +99,7 @@ const FUEL_USED_UP: u32 = 14;
 
 const TOO_MANY_CALLS: u32 = 18;
 
-// What a walk that stops at this stage tells. A program's rows lead to no stage that is stuck, so what has not ended is a call too many.
+// What a walk that stops at this stage reports. A program's rows lead to no stage that is stuck, so what has not ended is a call too many.
 fn finish(s: Stage, begun: u64) -> Walked
     ensures { λ r. ⌜ r ≡ finished s begun ⌝ }
 {

@@ -8,7 +8,7 @@ use lib.ListN.{length}
 use Rattle.stepwise.specs.Steps.{State, Turn, begin, through, opens, ended, deep, stuck}
 use Rattle.stages.specs.declared.Stage.{Stage}
 
--- What is to be done next, as a stage's mode tells it.
+-- What is to be done next, as a stage's mode says.
 abbrev pub toBegin : ℕ
 toBegin = 0
 

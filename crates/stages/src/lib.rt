@@ -2,7 +2,7 @@
 ghost use mathlib.Core.Path.{_≡_};
 ghost use Rattle.stages.specs.Stages.{staged};
 
-// What is to be done next, by its number (`specs/Stages`); the record that it is done to, and the record's number where it is through; how many calls wait, and
+// What is to be done next, by its number (`specs/Stages`); the record that it is done to, and the record's number where it is finished; how many calls wait, and
 // the place of the frame's tree; a tree that was passed, by its place and its end (0 as long as there is none); and the bytes written.
 pub struct Stage {
     pub mode: u32,

@@ -1,5 +1,5 @@
 -- What holds of a run of the loop, up to the outcome that its turn comes to: each step keeps it.
-use Prim.Native.Nat.{ℕ, zero, suc, _+_, _-_, _*_, _≤_, _<_}
+use Prim.Native.Nat.{ℕ, zero, suc, _+_, _*_, _≤_, _<_}
 use mathlib.Core.Bool.{Bool, true, false}
 use mathlib.Core.List.{List, _++_}
 use mathlib.Core.Logic.{_≢_}
@@ -90,7 +90,7 @@ counts-more at out bytes c =
           rw same (record { few = λ h. omega arith; many = λ h. omega arith })
     ]
 
--- and written behind the others, where all fit
+-- and written after the others, where all fit
 wrote-more :
     (output₀ output output′ : List ℕ) (at : ℕ) (out bytes : List ℕ)
     → Counts at out
@@ -166,7 +166,7 @@ module _ (T input output₀ : List ℕ) where
             (rw (begun-found T input (p .stage .node) (b .place) s (b .few) (b .found)) (b .comes));
       }
 
-  -- a record that is through
+  -- a record that is finished
   module _ (p : Run) (o : Outcome Told) (mode : p .stage .mode ≡ isThrough) (h : Holding T input output₀ p o) where
     from-it : RisesFrom T input (h .out) (p .stage .node) (p .stage .number) (stateOf (p .values) (p .places) (p .stage)) o
     from-it = comes-through T input (rw (turn-through (p .values) (p .places) (p .stage) mode) at (h .comes))
@@ -257,12 +257,12 @@ abbrev modeOf : Run → ℕ
 modeOf p = p .stage .mode
 
 module _ (T input : List ℕ) where
-  -- what is through has some weight
+  -- what is finished has some weight
   some-weight : (s : Stage) → s .mode ≡ isThrough → 0 < weightOf s
   unfolding weightOf
   some-weight s e = rw (weightOf, eq-eqb _ _ e) (omega arith)
 
-  -- nothing is through after a climb
+  -- nothing is finished after a climb
   climb-settles : (n : ℕ) (p : Run) → weightOf (p .stage) ≤ n → climbing T input n p .stage .mode ≢ isThrough
   unfolding climbing
   climb-settles zero p low = λ e. absurd (omega (arith, some-weight (p .stage) e))

@@ -1,4 +1,4 @@
--- The whole walk: what it answers, and what it leaves in the output, is what the outcome is told as.
+-- The whole walk: what it answers, and what it leaves in the output, is what the outcome is reported as.
 use Prim.Native.Nat.{ℕ, zero, suc, _+_, _≤_}
 use mathlib.Core.Bool.{Bool, true, false}
 use mathlib.Core.List.{List, []}
@@ -79,7 +79,7 @@ module _ (T input : List ℕ) where
 
 -- ---- the walk
 
--- What the outcome is told as, where so many expressions have begun before.
+-- What the outcome is reported as, where so many expressions have begun before.
 data From (begun : ℕ) (o : Outcome Told) (output₀ : List ℕ) (e : Ending) : Type 0 where
   from-value :
       (k : ℕ) (out : List ℕ)

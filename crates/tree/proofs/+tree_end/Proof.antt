@@ -1,5 +1,5 @@
 -- The proof of the cycle of calls {tree_end}. The measure is what is left of the input from the place on: the left tree begins behind the node's
--- tag, and the right one behind the left one's end. Each way out is a law of proofs/Laws.antt.
+-- tag, and the right one behind the left one's end. Each way out is a law of proofs/Told.
 use borrow.Author.Needs.{needs}
 use Prim.Native.Nat.{ℕ, _<_, _+_, _-_}
 use native.Mathlib.Omega.{arith}

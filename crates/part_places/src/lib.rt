@@ -165,10 +165,9 @@ pub fn note_case(cases: &mut [u16], part: Part, r: usize, depth: usize)
 {
     match part {
         Part::UnderTrees => {
-            if cases.len() <= depth {
-                return;
+            if depth < cases.len() {
+                cases[depth] = (r % 65536) as u16;
             }
-            cases[depth] = (r % 65536) as u16;
         }
         _ => {}
     }

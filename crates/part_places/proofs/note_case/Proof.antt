@@ -8,8 +8,7 @@ pub note-case-spec : {M : Type 1} → statement M
 note-case-spec =
     tie.close
     (tie.spec
-    (λ c. search needs)
+    (λ c. search needs) (λ c. search needs) (λ c. search needs) (λ c. search needs) (λ c. search needs)
     (λ c. search notes)
-    (λ c. search needs) (λ c. search needs) (λ c. search needs) (λ c. search needs)
     (λ c. search notes)
     (λ c. search notes))

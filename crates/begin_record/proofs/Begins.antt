@@ -9,14 +9,14 @@ use lib.ListN.{length, getD, set, length-set}
 use Rattle.formats.specs.Numbers.{numberAt}
 use Rattle.formats.specs.Tokens.{leafTag, leafBytes}
 use Rattle.stepwise.specs.Rows.{givesConstant, givesNamed, looksAtTree, callsFunction}
-use Rattle.stepwise.specs.Steps.{State, begin, stuck, actionAt, operandAt, treeAt, moreAt, behindAt, frameWords, mostRecords, Found, beginning}
+use Rattle.stepwise.specs.Steps.{State, begin, stuck, actionAt, operandAt, treeAt, moreAt, behindAt, frameWords, recordLimit, Found, beginning}
 use Rattle.stepwise.proofs.Steps.{looks-leaf, looks-node, looks-past, begins-const, begins-var, begins-case, begins-bare, begins-args, begins-first}
 use Rattle.stages.specs.declared.Stage.{Stage}
 use Rattle.stages.specs.Stages.{toBegin, isThrough, toOpen, isStuck, stateOf, staged, stageOf, wordsOf, placesOf}
 use Rattle.stages.proofs.Stages.{reach-begin, reach-through, reach-open, reach-stuck}
-use Rattle.named_trees.specs.Places.{placeOf, namedBy}
+use Rattle.named_trees.specs.Places.{treePlace, namedBy}
 use Rattle.named_trees.proofs.Places.{found-place}
-use Rattle.begin_record.specs.Begins.{begun, Begins, Looks}
+use Rattle.begin_record.specs.Begins.{begunTurn, Begins, Looks}
 
 -- ---- `put_label`, `named_number`
 
@@ -31,7 +31,7 @@ pub ruleset slots = (label-put, slot-there)
 
 -- ---- `look`
 
-module _ (T input values : List ℕ) (s : Stage) (q : ℕ) (found : q ≡ placeOf T input (s .tree) (s .known) (s .end) (treeAt T (s .node))) where
+module _ (T input values : List ℕ) (s : Stage) (q : ℕ) (found : q ≡ treePlace T input (s .tree) (s .known) (s .end) (treeAt T (s .node))) where
   -- The next record begins, and the end of the leaf at q is known.
   abbrev leafStage : ℕ → Stage
   leafStage r =
@@ -91,20 +91,20 @@ pub ruleset looks = (look-past, look-leaf, look-node)
 -- ---- `begin`
 
 module _ (T input : List ℕ) (r : ℕ) (s : State) where
-  begun-in : r < mostRecords → begun T input r s ≡ beginning T input (namedBy T input r s) r s
-  unfolding begun
-  begun-in few = simp (begun, lt-ltb _ _ few)
+  begun-in : r < recordLimit → begunTurn T input r s ≡ beginning T input (namedBy T input r s) r s
+  unfolding begunTurn
+  begun-in few = simp (begunTurn, lt-ltb _ _ few)
 
-  begun-past : mostRecords ≤ r → begun T input r s ≡ stuck
-  unfolding begun
-  begun-past past = simp (begun, le-ltb _ _ past)
+  begun-past : recordLimit ≤ r → begunTurn T input r s ≡ stuck
+  unfolding begunTurn
+  begun-past past = simp (begunTurn, le-ltb _ _ past)
 
 module _ (T input values : List ℕ) (s : Stage) where
-  pub begin-past : (r : Stage) → mostRecords ≤ s .node → r ≡ staged s isStuck (s .node) 0 → Begins T input values values s r
+  pub begin-past : (r : Stage) → recordLimit ≤ s .node → r ≡ staged s isStuck (s .node) 0 → Begins T input values values s r
   begin-past r past e =
       rw e (record { is = λ places. rw (begun-past T input (s .node) (stateOf values places s) past) (reach-stuck values places s) })
 
-  module _ (few : s .node < mostRecords) (k : ℕ) (action : k ≡ actionAt T (s .node)) where
+  module _ (few : s .node < recordLimit) (k : ℕ) (action : k ≡ actionAt T (s .node)) where
     -- The place in front of the record, whatever the return words hold.
     abbrev at : List ℕ → ℕ
     at places = namedBy T input (s .node) (stateOf values places s)
@@ -206,6 +206,6 @@ pub ruleset beginnings = (begin-past, begin-const, begin-var, begin-case, begin-
 -- ---- the steps
 
 -- where the steps find the tree, the record begins as they say
-pub begun-found : (T input : List ℕ) (r p : ℕ) (s : State) → r < mostRecords → Found T input s (treeAt T r) p → begun T input r s ≡ beginning T input p r s
+pub begun-found : (T input : List ℕ) (r p : ℕ) (s : State) → r < recordLimit → Found T input s (treeAt T r) p → begunTurn T input r s ≡ beginning T input p r s
 begun-found T input r p s few found =
     begun-in T input r s few ∙ ap (λ q. beginning T input q r s) (found-place T input s found)

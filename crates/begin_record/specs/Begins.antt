@@ -3,18 +3,18 @@ use Prim.Native.Nat.{ℕ}
 use mathlib.Core.Bool.{true, false}
 use mathlib.Core.List.{List}
 use lib.Dec.{ltb}
-use Rattle.stepwise.specs.Steps.{State, Turn, stuck, mostRecords, looking, beginning}
+use Rattle.stepwise.specs.Steps.{State, Turn, stuck, recordLimit, looking, beginning}
 use Rattle.stages.specs.declared.Stage.{Stage}
 use Rattle.stages.specs.Stages.{stateOf, Reaches}
 use Rattle.named_trees.specs.Places.{namedBy}
 
 -- The turn of `beginning`, with that place.
-unfoldable pub begun : (T input : List ℕ) → ℕ → State → Turn
-begun T input r s = elim (ltb r mostRecords) [ true ↦ beginning T input (namedBy T input r s) r s | false ↦ stuck ]
+unfoldable pub begunTurn : (T input : List ℕ) → ℕ → State → Turn
+begunTurn T input r s = elim (ltb r recordLimit) [ true ↦ beginning T input (namedBy T input r s) r s | false ↦ stuck ]
 
 -- The step of a stage whose record begins. Return words are not looked at.
 pub record Begins (T input values values′ : List ℕ) (s r : Stage) : Type 0 where
-  pub is : (places : List ℕ) → Reaches (begun T input (s .node) (stateOf values places s)) values values′ places places s r
+  pub is : (places : List ℕ) → Reaches (begunTurn T input (s .node) (stateOf values places s)) values values′ places places s r
 
 -- .. and of one whose record looks at a tree.
 pub record Looks (T input values values′ : List ℕ) (s r : Stage) : Type 0 where

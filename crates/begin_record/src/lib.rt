@@ -4,7 +4,7 @@ ghost use Prim.Native.Nat.{_+_, _*_, _<_};
 ghost use mathlib.Core.Path.{_≡_};
 ghost use lib.ListN.{getD, set};
 ghost use Rattle.formats.specs.Numbers.{numberAt};
-ghost use Rattle.stepwise.specs.Steps.{operandAt, moreAt, frameWords, mostRecords};
+ghost use Rattle.stepwise.specs.Steps.{operandAt, moreAt, frameWords, recordLimit};
 ghost use Rattle.begin_record.specs.Begins.{Looks, Begins};
 
 // Fields of a row.
@@ -26,7 +26,7 @@ const LOOKS_AT_TREE: u16 = 4;
 const CALLS_FUNCTION: u16 = 5;
 
 // Records are numbered below.
-const MOST_RECORDS: u16 = 2048;
+const RECORD_LIMIT: u16 = 2048;
 
 // What is to be done next.
 const BEGIN: u32 = 0;
@@ -63,7 +63,7 @@ fn put_label(table: &[u16], input: &[u8], at: usize, values: &mut [u32], s: Stag
 
 // A Case looks at its tree: a label is put on its word, and the leaf part begins; or the node part does.
 fn look(table: &[u16], input: &[u8], values: &mut [u32], s: Stage) -> Stage
-    requires { ⌜ s .node < mostRecords ⌝ }
+    requires { ⌜ s .node < recordLimit ⌝ }
     ensures { λ r. ⌜ Looks (now (table .entry)) (now (input .entry)) (now (values .entry)) (now (values .exit)) s r ⌝ }
 {
     let r = s.node;
@@ -100,7 +100,7 @@ pub fn begin(table: &[u16], input: &[u8], values: &mut [u32], s: Stage) -> Stage
     ensures { λ r. ⌜ Begins (now (table .entry)) (now (input .entry)) (now (values .entry)) (now (values .exit)) s r ⌝ }
 {
     let r = s.node;
-    if MOST_RECORDS <= r {
+    if RECORD_LIMIT <= r {
         return stages::staged_at(s, STUCK, r, 0);
     }
     match frames::field(table, r, ACTION) {

@@ -22,7 +22,7 @@ use Rattle.rules.proofs.Walks.{program-held, signature-of}
 use Rattle.stepwise.specs.Rows.{rowWords, bodyPlace, rowsOf, rowsOfAll, tabled}
 use Rattle.stepwise.proofs.Rows.{length-rows, length-rows-all}
 use Rattle.part_places.specs.declared.Place.{Place}
-use Rattle.part_places.specs.Parts.{placeOf}
+use Rattle.part_places.specs.Parts.{placeWith}
 use Rattle.record_rows.specs.Halves.{firstIn}
 use Rattle.decode.specs.Decoding.{tableWords}
 use Rattle.decode.specs.Walk.{Agrees, Small, Entering, Filled, Fills, Starts, Ready, FillsAll}
@@ -190,10 +190,10 @@ module _ (s : List ℕ) (functions end : ℕ) (table₀ cases₀ table cases : L
         }
 
     -- its place is the one wanted
-    body-place : (program : Program) (f : Function) → functionIn s j ≡ done (signatureOf f) → placeOf p cases ≡ bodyPlace (firstRecord program) (arityOf (signatures program)) f
+    body-place : (program : Program) (f : Function) → functionIn s j ≡ done (signatureOf f) → placeWith p cases ≡ bodyPlace (firstRecord program) (arityOf (signatures program)) f
     unfolding signatureOf
     body-place program f signed =
-        ap (λ q. placeOf q cases) (starts .is)
+        ap (λ q. placeWith q cases) (starts .is)
         ∙ ap (λ n. record { role = 0; parent = 0; slot = 0; names = n; keeps = 0; cases = [] }) (sym (function-read s j (signatureOf f) signed .arity))
 
     module _ (table′ cases′ : List ℕ) (next : ℕ) (fills : Fills s table table′ cases cases′ k end p next) where

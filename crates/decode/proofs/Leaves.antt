@@ -12,7 +12,7 @@ use Rattle.formats.specs.Records.{Kind, Const, Var, Add, IfZero, Let, Leaf, Nod
 use Rattle.formats.specs.Rows.{headerIn}
 use Rattle.stepwise.specs.Rows.{actionOf, codeOf, operandOf, treeOf, moreOf}
 use Rattle.part_places.specs.declared.Place.{Place}
-use Rattle.part_places.specs.Parts.{placeOf}
+use Rattle.part_places.specs.Parts.{placeWith}
 use Rattle.record_rows.specs.Halves.{firstIn, operandIn, treeIn, ownIn}
 use Rattle.record_rows.proofs.Halves.{case-above}
 use Rattle.decode.specs.Walk.{Agrees, Stacked, Told}
@@ -35,7 +35,7 @@ low-word : (n most : ℕ) → n ≤ most → most < 65536 → n % 65536 ≡ n
 low-word n most h g = omega arith
 
 module _ (s cases : List ℕ) (p : Place) (entry arity : ℕ → ℕ) (more : ℕ) (agrees : Agrees s entry arity) (few : p .names ≤ 4000) (stacked : Stacked cases (p .depth) more) where
-  pub told : (kind : Kind) → below (headerIn s .functions) kind ≡ true → Told entry arity (placeOf p cases) kind (ownIn s cases (p .names) (p .depth) kind)
+  pub told : (kind : Kind) → below (headerIn s .functions) kind ≡ true → Told entry arity (placeWith p cases) kind (ownIn s cases (p .names) (p .depth) kind)
   unfolding ownIn actionOf operandIn treeIn operandOf treeOf moreOf below
   told (Const i) low = record { action = refl; operand = refl; tree = refl; more = refl }
   told (Var a) low = record { action = refl; operand = refl; tree = refl; more = refl }

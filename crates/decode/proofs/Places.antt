@@ -18,7 +18,7 @@ use Rattle.records.specs.declared.Part.{Part as RecordPart}
 use Rattle.records.specs.declared.Record.{Record}
 use Rattle.stepwise.specs.Rows.{roleOf, slotOf, namesIn, keepsIn, casesIn, partPlace}
 use Rattle.part_places.specs.declared.Place.{Place}
-use Rattle.part_places.specs.Parts.{placeOf, capped, namesInside, keepsInside, depthInside, partIn, noted}
+use Rattle.part_places.specs.Parts.{placeWith, capped, namesInside, keepsInside, depthInside, partIn, noted}
 use Rattle.part_places.proofs.Parts.{cap-low, placed}
 use Rattle.decode.specs.Walk.{namesUnder, deeper, insidePlace, Grows, Stacked, Small, SmallParts, Counted, Same, Starts}
 
@@ -62,9 +62,9 @@ module _ (part : Part) (r count : ℕ) where
   pub inside-plain : (kind : Kind) (i : ℕ) (p : Place) → Grows i p → partIn part kind r i count p ≡ insidePlace part kind r i count p
   unfolding partIn insidePlace
   inside-plain kind i p g =
-      ap₂ (λ n k. placed (roleOf (λ b. 0) (λ b. count) kind i) r (slotOf (λ b. 0) (λ b. count) (placeOf p []) kind i) n k (depthInside part (p .depth)))
+      ap₂ (λ n k. placed (roleOf (λ b. 0) (λ b. count) kind i) r (slotOf (λ b. 0) (λ b. count) (placeWith p []) kind i) n k (depthInside part (p .depth)))
       (names-plain part (p .names) (g .names)) (keeps-plain kind i p (g .keeps))
-      ∙ ap (placed (roleOf (λ b. 0) (λ b. count) kind i) r (slotOf (λ b. 0) (λ b. count) (placeOf p []) kind i) _ _) (depth-plain part (p .depth) (g .depth))
+      ∙ ap (placed (roleOf (λ b. 0) (λ b. count) kind i) r (slotOf (λ b. 0) (λ b. count) (placeWith p []) kind i) _ _) (depth-plain part (p .depth) (g .depth))
 
 -- ---- `start`
 
@@ -150,7 +150,7 @@ module _ (part : RecordPart) (node : Record) (r i count k end : ℕ) (p q : Plac
 
 -- it is the place wanted, on the stack as it is noted: what a part names by its kind is what it names by itself
 pub place-inside : (entry arity : ℕ → ℕ) (kind : Kind) (r i count : ℕ) (p : Place) (cases : List ℕ) → Counted arity kind count → i < count → r ≤ 2000 → p .depth < length cases
-    → placeOf (insidePlace (nthPart (partsOf kind) i) kind r i count p) (noted (nthPart (partsOf kind) i) r (p .depth) cases) ≡ partPlace entry arity (placeOf p cases) kind r i
+    → placeWith (insidePlace (nthPart (partsOf kind) i) kind r i count p) (noted (nthPart (partsOf kind) i) r (p .depth) cases) ≡ partPlace entry arity (placeWith p cases) kind r i
 unfolding insidePlace namesUnder noted roleOf slotOf namesIn keepsIn casesIn deeper partsOf partCount nthPart nth
 place-inside entry arity (aConst c) r i count p cases counted more low room = absurd (omega (arith, counted .is))
 place-inside entry arity (aVar a) r i count p cases counted more low room = absurd (omega (arith, counted .is))
@@ -176,7 +176,7 @@ place-inside entry arity (aCase a) r (suc zero) count p cases counted more low r
     (take-suc-set cases (p .depth) (r % 65536) room ∙ ap (λ n. take (p .depth) cases ++ (n ∷ [])) own)
 place-inside entry arity (aCase a) r (suc (suc i)) count p cases counted more low room = absurd (omega (arith, counted .is))
 place-inside entry arity (aCall a b) r i count p cases counted more low room =
-    ap (λ n. placeOf (insidePlace aNumber (aCall a b) r i n p) cases) (sym (counted .is))
+    ap (λ n. placeWith (insidePlace aNumber (aCall a b) r i n p) cases) (sym (counted .is))
 
 -- ---- the stack
 

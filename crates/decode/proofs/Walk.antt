@@ -32,7 +32,7 @@ use Rattle.rules.proofs.Walks.{node-held, parts-held, parts-counted, FirstOf, r
 use Rattle.stepwise.specs.Rows.{rowWords, partPlace, rowOf, rowsOf}
 use Rattle.stepwise.proofs.Rows.{length-rows}
 use Rattle.part_places.specs.declared.Place.{Place}
-use Rattle.part_places.specs.Parts.{placeOf, partIn, noted}
+use Rattle.part_places.specs.Parts.{placeWith, partIn, noted}
 use Rattle.record_rows.specs.declared.Own.{Own}
 use Rattle.record_rows.specs.Halves.{ownIn}
 use Rattle.decode.specs.Walk.{insidePlace, Agrees, Told, rowIn, Small, Went, Entering, Same, Filled, Fills, rowsOfParts, SmallParts, Counted, EnteringParts, FillsParts}
@@ -43,8 +43,8 @@ use Rattle.decode.proofs.Rows.{rows-split, length-parts}
 -- ---- `decode_at`
 
 -- a row's words, where they are small
-row-is : (entry arity : ℕ → ℕ) (cases : List ℕ) (k end : ℕ) (p : Place) (kind : Kind) (own : Own) (next : ℕ) → Told entry arity (placeOf p cases) kind own → Small k end p → next ≤ end
-    → rowIn own p next ≡ rowOf entry arity (placeOf p cases) next kind
+row-is : (entry arity : ℕ → ℕ) (cases : List ℕ) (k end : ℕ) (p : Place) (kind : Kind) (own : Own) (next : ℕ) → Told entry arity (placeWith p cases) kind own → Small k end p → next ≤ end
+    → rowIn own p next ≡ rowOf entry arity (placeWith p cases) next kind
 row-is entry arity cases k end p kind own next half small inside =
     let role : p .role % 65536 ≡ p .role = omega (arith, small .role) in
     let parent : p .parent % 65536 ≡ p .parent = omega (arith, small .parent) in
@@ -133,7 +133,7 @@ module _ (s table cases : List ℕ) (k end : ℕ) (p : Place) where
         went = record { on = omega (arith, l .went .on); inside = l .went .inside };
         is = λ entry arity e h.
             let f = l .is entry arity (partsAt k e) (k + size e) (parts-entered h more) in
-            let P = placeOf p cases in
+            let P = placeWith p cases in
             let row = rowOf entry arity P (k + size e) (headOf e) in
             let rows = rowsOfParts entry arity P (headOf e) k 0 (partsAt k e) in
             let own-row : rowIn own p next ≡ row =
@@ -170,7 +170,7 @@ module _ (s table cases : List ℕ) (node : Record) (parts : Parts) (r i count k
           behind = sym (none .1);
           rows =
               sym
-              (ap (λ qs. written table (rowWords * k) (rowsOfParts entry arity (placeOf p cases) (meant node) r i qs)) (none .0) ∙ written-none table (rowWords * k));
+              (ap (λ qs. written table (rowWords * k) (rowsOfParts entry arity (placeWith p cases) (meant node) r i qs)) (none .0) ∙ written-none table (rowWords * k));
           stack = record { long = refl; below-depth = refl };
         };
   }
@@ -209,12 +209,12 @@ module _ (s table cases : List ℕ) (node : Record) (parts : Parts) (r i count k
       kept = same-inside (partOf part) r (p .depth) cases cases₁ (rw (← is-noted) (rw is-inner at (filled .stack)))
 
       -- the others see the same place
-      same-place : placeOf p cases₁ ≡ placeOf p cases
+      same-place : placeWith p cases₁ ≡ placeWith p cases
       same-place = ap (λ (c : List ℕ). record { role = p .role; parent = p .parent; slot = p .slot; names = p .names; keeps = p .keeps; cases = c }) (kept .below-depth)
 
       -- its rows are those wanted
       abbrev own-rows : List ℕ
-      own-rows = rowsOf entry arity (partPlace entry arity (placeOf p cases) (meant node) r i) k (first .expr)
+      own-rows = rowsOf entry arity (partPlace entry arity (placeWith p cases) (meant node) r i) k (first .expr)
 
       own-written : between ≡ written table (rowWords * k) own-rows
       own-written =
@@ -223,8 +223,8 @@ module _ (s table cases : List ℕ) (node : Record) (parts : Parts) (r i count k
           let own-part : partOf part ≡ nthPart (partsOf kind) i = here ∙ ap (λ ps. nthPart ps i) (h .own) in
           filled .rows
           ∙ ap (λ q. written table (rowWords * k) (rowsOf entry arity q k (first .expr)))
-          (ap₂ placeOf is-inner is-noted
-          ∙ ap (λ x. placeOf (insidePlace x kind r i count p) (noted x r (p .depth) cases)) own-part
+          (ap₂ placeWith is-inner is-noted
+          ∙ ap (λ x. placeWith (insidePlace x kind r i count p) (noted x r (p .depth) cases)) own-part
           ∙ place-inside entry arity kind r i count p cases (h .counted) more (small .parent) room)
 
       -- the table keeps its length
@@ -263,7 +263,7 @@ module _ (s table cases : List ℕ) (node : Record) (parts : Parts) (r i count k
       went = record { on = omega (arith, f .went .on, l .went .on); inside = l .went .inside };
       is = λ entry arity ps m h.
           let g = l .is entry arity (first h .others) m (rest-entered h) in
-          let P = placeOf p cases in
+          let P = placeWith p cases in
           let kind = meant node in
           let place = rowWords * k in
           let own = own-rows h in

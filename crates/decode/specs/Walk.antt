@@ -16,7 +16,7 @@ use Rattle.rules.proofs.Parts.{Known, Holds, Row}
 use Rattle.stepwise.specs.Rows.{whole, actionOf, roleOf, slotOf, keepsIn, partPlace, operandOf, treeOf, moreOf, rowsOf, rowWords, tabled}
 use Rattle.stepwise.specs.Rows.{Place as PlaceThere}
 use Rattle.part_places.specs.declared.Place.{Place}
-use Rattle.part_places.specs.Parts.{placeOf}
+use Rattle.part_places.specs.Parts.{placeWith}
 use Rattle.record_rows.specs.declared.Own.{Own}
 use Rattle.record_rows.specs.Halves.{firstIn}
 use Rattle.decode.specs.Decoding.{tableWords}
@@ -45,9 +45,9 @@ insidePlace part kind r i count p =
     record {
       role = roleOf (λ b. 0) (λ b. count) kind i;
       parent = r;
-      slot = slotOf (λ b. 0) (λ b. count) (placeOf p []) kind i;
+      slot = slotOf (λ b. 0) (λ b. count) (placeWith p []) kind i;
       names = namesUnder part (p .names);
-      keeps = keepsIn (λ b. 0) (λ b. count) (placeOf p []) kind i;
+      keeps = keepsIn (λ b. 0) (λ b. count) (placeWith p []) kind i;
       depth = deeper part (p .depth);
     }
 
@@ -118,7 +118,7 @@ pub record Same (cases cases′ : List ℕ) (depth : ℕ) : Type 0 where
 -- The expression's rows, at the places of its records.
 pub record Filled (table table′ cases cases′ : List ℕ) (entry arity : ℕ → ℕ) (k : ℕ) (p : Place) (e : Expr) (next : ℕ) : Type 0 where
   pub behind : next ≡ k + size e
-  pub rows : table′ ≡ written table (rowWords * k) (rowsOf entry arity (placeOf p cases) k e)
+  pub rows : table′ ≡ written table (rowWords * k) (rowsOf entry arity (placeWith p cases) k e)
   pub stack : Same cases cases′ (p .depth)
 
 pub record Fills (s table table′ cases cases′ : List ℕ) (k end : ℕ) (p : Place) (next : ℕ) : Type 0 where
@@ -161,7 +161,7 @@ pub record EnteringParts (s table cases : List ℕ) (entry arity : ℕ → ℕ) 
 
 pub record FilledParts (table table′ cases cases′ : List ℕ) (entry arity : ℕ → ℕ) (kind : Kind) (r i k : ℕ) (p : Place) (ps : List Placed) (m next : ℕ) : Type 0 where
   pub behind : next ≡ m
-  pub rows : table′ ≡ written table (rowWords * k) (rowsOfParts entry arity (placeOf p cases) kind r i ps)
+  pub rows : table′ ≡ written table (rowWords * k) (rowsOfParts entry arity (placeWith p cases) kind r i ps)
   pub stack : Same cases cases′ (p .depth)
 
 pub record FillsParts (s table table′ cases cases′ : List ℕ) (node : Record) (parts : Parts) (r i count k end : ℕ) (p : Place) (next : ℕ) : Type 0 where

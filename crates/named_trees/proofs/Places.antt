@@ -15,7 +15,7 @@ use Rattle.tree.specs.declared.TreeAnswer.{TreeAnswer}
 use Rattle.tree.specs.declared.TreeAnswer.the-variants as tree-is
 use Rattle.tree.specs.Answer.{answered}
 use Rattle.stepwise.specs.Steps.{State, Found, the-own, the-left, the-right, the-known, treeAt}
-use Rattle.named_trees.specs.Places.{afterTree, partAt, placeWithin, placeOf}
+use Rattle.named_trees.specs.Places.{afterTree, partAt, placeWithin, treePlace}
 use Rattle.named_trees.proofs.Ends.{end-inside}
 
 -- ---- `part_of`
@@ -74,7 +74,7 @@ pub ruleset parts = (part-past, part-left, part-known, part-broken, part-right, 
 module _ (T input : List ℕ) (own known end : ℕ) where
   -- The place of a code, and the code of the tree that its Case looks at.
   abbrev place : ℕ → ℕ
-  place = placeOf T input own known end
+  place = treePlace T input own known end
 
   abbrev outerOf : ℕ → ℕ
   outerOf code = treeAt T ((code - 1) / 2)
@@ -141,8 +141,8 @@ pub ruleset placed = (place-own, place-none, place-part)
 
 -- ---- `named_place`
 
-pub place-named : (T input : List ℕ) (own known end code tree r : ℕ) → code ≡ tree → r ≡ placeOf T input own known end code → r ≡ placeOf T input own known end tree
-place-named T input own known end code tree r e at = at ∙ ap (placeOf T input own known end) e
+pub place-named : (T input : List ℕ) (own known end code tree r : ℕ) → code ≡ tree → r ≡ treePlace T input own known end code → r ≡ treePlace T input own known end tree
+place-named T input own known end code tree r e at = at ∙ ap (treePlace T input own known end) e
 
 pub ruleset named-trees = (place-named)
 
@@ -151,7 +151,7 @@ pub ruleset named-trees = (place-named)
 module _ (T input : List ℕ) (s : State) where
   -- The place in the state's frame.
   abbrev pub placeIn : ℕ → ℕ
-  placeIn = placeOf T input (s .tree) (s .known) (s .end)
+  placeIn = treePlace T input (s .tree) (s .known) (s .end)
 
   -- a part, from its node
   found-part : (c p code j : ℕ) → code ≡ suc j → j / 2 ≡ c → 2 * c < code → treeAt T c < suc (2 * c) → placeIn (treeAt T c) ≡ p

@@ -41,9 +41,9 @@ module _ (T input : List ℕ) (own known end : ℕ) where
             ]
       ]
 
-  abbrev pub placeOf : ℕ → ℕ
-  placeOf code = placeWithin code code
+  abbrev pub treePlace : ℕ → ℕ
+  treePlace code = placeWithin code code
 
 -- The place of the tree that record r names, in the frame of a state.
 abbrev pub namedBy : (T input : List ℕ) → ℕ → State → ℕ
-namedBy T input r s = placeOf T input (s .tree) (s .known) (s .end) (treeAt T r)
+namedBy T input r s = treePlace T input (s .tree) (s .known) (s .end) (treeAt T r)

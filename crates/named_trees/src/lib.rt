@@ -3,7 +3,7 @@ use stages::Stage;
 use tree::TreeAnswer;
 ghost use mathlib.Core.Path.{_≡_};
 ghost use Rattle.stepwise.specs.Steps.{treeAt};
-ghost use Rattle.named_trees.specs.Places.{partAt, placeOf};
+ghost use Rattle.named_trees.specs.Places.{partAt, treePlace};
 
 // The field of a row that has the tree's code.
 const TREE: u16 = 2;
@@ -40,7 +40,7 @@ fn part_of(input: &[u8], known: usize, end: usize, node: usize, j: u16) -> usize
 // Where the tree of this code begins, in a frame whose own tree is at `own`: 0 is that tree, 2c + 1 the left tree and 2c + 2 the right one of the tree
 // that the Case at record c looks at. The code falls at each call, and the Cases are nested.
 fn place_of(table: &[u16], input: &[u8], own: usize, known: usize, end: usize, code: u16) -> usize
-    ensures { λ r. ⌜ r ≡ placeOf (now (table .entry)) (now (input .entry)) own known end code ⌝ }
+    ensures { λ r. ⌜ r ≡ treePlace (now (table .entry)) (now (input .entry)) own known end code ⌝ }
 {
     if code == 0 {
         return own;
@@ -56,7 +56,7 @@ fn place_of(table: &[u16], input: &[u8], own: usize, known: usize, end: usize, c
 
 // Where the tree begins that the stage's record names.
 pub fn named_place(table: &[u16], input: &[u8], s: Stage) -> usize
-    ensures { λ r. ⌜ r ≡ placeOf (now (table .entry)) (now (input .entry)) (s .tree) (s .known) (s .end) (treeAt (now (table .entry)) (s .node)) ⌝ }
+    ensures { λ r. ⌜ r ≡ treePlace (now (table .entry)) (now (input .entry)) (s .tree) (s .known) (s .end) (treeAt (now (table .entry)) (s .node)) ⌝ }
 {
     let code = frames::field(table, s.node, TREE);
     place_of(table, input, s.tree, s.known, s.end, code)

@@ -9,16 +9,16 @@ use native.Mathlib.Omega.{arith}
 use borrow.Author.Tests.{eqb-false, lt-ltb, le-ltb}
 use lib.Dec.{leb, ltb}
 use lib.ListN.{length, getD, set, length-set}
-use Rattle.stepwise.specs.Steps.{State, begin, deep, stuck, operandAt, treeAt, moreAt, slotAt, frameWords, mostRecords, mostWaiting, Found, copied, opening}
+use Rattle.stepwise.specs.Steps.{State, begin, deep, stuck, operandAt, treeAt, moreAt, slotAt, frameWords, recordLimit, mostWaiting, Found, copied, opening}
 use Rattle.stepwise.proofs.Steps.{opens-deep, opens-frame}
 use Rattle.stepwise.proofs.Words.{copied-length}
 use Rattle.frames.proofs.Laws.{none-put}
 use Rattle.stages.specs.declared.Stage.{Stage}
-use Rattle.stages.specs.Stages.{toBegin, isThrough, toOpen, tooDeep, isStuck, stateOf, staged, stageOf, wordsOf, placesOf}
+use Rattle.stages.specs.Stages.{toBegin, isThrough, toOpen, tooManyOpen, isStuck, stateOf, staged, stageOf, wordsOf, placesOf}
 use Rattle.stages.proofs.Stages.{reach-deep, reach-stuck}
-use Rattle.named_trees.specs.Places.{placeOf, namedBy}
+use Rattle.named_trees.specs.Places.{treePlace, namedBy}
 use Rattle.named_trees.proofs.Places.{found-place}
-use Rattle.open_call.specs.Opens.{opened, Opens}
+use Rattle.open_call.specs.Opens.{openedTurn, Opens}
 
 -- ---- `put_return`
 
@@ -70,20 +70,20 @@ pub ruleset passing = (arguments-passed, both-saved)
 -- ---- `open`
 
 module _ (T input : List ℕ) (r : ℕ) (s : State) where
-  opened-in : r < mostRecords → opened T input r s ≡ opening T (namedBy T input r s) r s
-  unfolding opened
-  opened-in few = simp (opened, lt-ltb _ _ few)
+  opened-in : r < recordLimit → openedTurn T input r s ≡ opening T (namedBy T input r s) r s
+  unfolding openedTurn
+  opened-in few = simp (openedTurn, lt-ltb _ _ few)
 
-  opened-past : mostRecords ≤ r → opened T input r s ≡ stuck
-  unfolding opened
-  opened-past past = simp (opened, le-ltb _ _ past)
+  opened-past : recordLimit ≤ r → openedTurn T input r s ≡ stuck
+  unfolding openedTurn
+  opened-past past = simp (openedTurn, le-ltb _ _ past)
 
 module _ (T input values places : List ℕ) (s : Stage) where
-  pub open-past : (r : Stage) → mostRecords ≤ s .node → r ≡ staged s isStuck (s .node) 0 → Opens T input values values places places s r
+  pub open-past : (r : Stage) → recordLimit ≤ s .node → r ≡ staged s isStuck (s .node) 0 → Opens T input values values places places s r
   open-past r past e = rw e (record { is = rw (opened-past T input (s .node) (stateOf values places s) past) (reach-stuck values places s) })
 
-  module _ (few : s .node < mostRecords) where
-    pub open-deep : (r : Stage) → mostWaiting ≤ s .calls → r ≡ staged s tooDeep (s .node) 0 → Opens T input values values places places s r
+  module _ (few : s .node < recordLimit) where
+    pub open-deep : (r : Stage) → mostWaiting ≤ s .calls → r ≡ staged s tooManyOpen (s .node) 0 → Opens T input values values places places s r
     open-deep r full e =
         rw e
         (record {
@@ -98,7 +98,7 @@ module _ (T input values places : List ℕ) (s : Stage) where
     pub open-frame :
         (q f : ℕ) (values′ places′ : List ℕ)
         → s .calls < mostWaiting
-        → q ≡ placeOf T input (s .tree) (s .known) (s .end) (treeAt T (s .node))
+        → q ≡ treePlace T input (s .tree) (s .known) (s .end) (treeAt T (s .node))
         → values′ ≡ copied values (frameWords * s .calls) (slotAt T (suc (s .node))) (moreAt T (s .node))
         → places′ ≡ set (set places (2 * s .calls) (s .node)) (suc (2 * s .calls)) (s .tree)
         → f ≡ operandAt T (s .node)
@@ -124,7 +124,7 @@ pub ruleset opening-ways = (open-past, open-deep, open-frame)
 -- ---- the steps
 
 -- where the steps find the tree, the call opens as they say
-pub opened-found : (T input : List ℕ) (r p : ℕ) (s : State) → r < mostRecords → Found T input s (treeAt T r) p → opened T input r s ≡ opening T p r s
+pub opened-found : (T input : List ℕ) (r p : ℕ) (s : State) → r < recordLimit → Found T input s (treeAt T r) p → openedTurn T input r s ≡ opening T p r s
 opened-found T input r p s few found =
     opened-in T input r s few ∙ ap (λ q. opening T q r s) (found-place T input s found)
 
@@ -139,6 +139,6 @@ module _ (s : Stage) (r f : ℕ) (t : State) where
   settled-by false b = (eqb-false 5 1 refl, eqb-false 5 2 refl)
 
 pub opened-settled : (T input : List ℕ) (r : ℕ) (t : State) (s : Stage)
-    → (stageOf s (opened T input r t) .mode ≢ isThrough) × (stageOf s (opened T input r t) .mode ≢ toOpen)
-unfolding opened opening
-opened-settled T input r t s = settled-by s r _ _ (ltb r mostRecords) (leb mostWaiting (t .calls))
+    → (stageOf s (openedTurn T input r t) .mode ≢ isThrough) × (stageOf s (openedTurn T input r t) .mode ≢ toOpen)
+unfolding openedTurn opening
+opened-settled T input r t s = settled-by s r _ _ (ltb r recordLimit) (leb mostWaiting (t .calls))

@@ -3,7 +3,7 @@ use stages::Stage;
 ghost use Prim.Native.Nat.{suc, _-_, _*_, _<_};
 ghost use mathlib.Core.Path.{_≡_};
 ghost use lib.ListN.{set};
-ghost use Rattle.stepwise.specs.Steps.{slotAt, moreAt, frameWords, mostRecords, mostWaiting, copied};
+ghost use Rattle.stepwise.specs.Steps.{slotAt, moreAt, frameWords, recordLimit, mostWaiting, copied};
 ghost use Rattle.open_call.specs.Opens.{Opens};
 
 // Fields of a row.
@@ -17,7 +17,7 @@ const SLOT: u16 = 6;
 const MOST_WAITING: u16 = 1023;
 
 // Records are numbered below.
-const MOST_RECORDS: u16 = 2048;
+const RECORD_LIMIT: u16 = 2048;
 
 // What is to be done next.
 const BEGIN: u32 = 0;
@@ -51,7 +51,7 @@ fn copy(values: &mut [u32], calls: u16, slot: u16, count: u16)
 
 // Puts the arguments of the call at the stage's record on the first words of the next frame.
 fn pass_arguments(table: &[u16], values: &mut [u32], s: Stage)
-    requires { ⌜ (s .node < mostRecords) × (s .calls < mostWaiting) ⌝ }
+    requires { ⌜ (s .node < recordLimit) × (s .calls < mostWaiting) ⌝ }
     ensures { λ _. ⌜ now (values .exit) ≡ copied (now (values .entry)) (frameWords * s .calls) (slotAt (now (table .entry)) (suc (s .node))) (moreAt (now (table .entry)) (s .node)) ⌝ }
 {
     let slot = frames::field(table, s.node + 1, SLOT);
@@ -81,7 +81,7 @@ pub fn open(table: &[u16], input: &[u8], values: &mut [u32], places: &mut [u64],
     ensures { λ r. ⌜ Opens (now (table .entry)) (now (input .entry)) (now (values .entry)) (now (values .exit)) (now (places .entry)) (now (places .exit)) s r ⌝ }
 {
     let r = s.node;
-    if MOST_RECORDS <= r {
+    if RECORD_LIMIT <= r {
         return stages::staged_at(s, STUCK, r, 0);
     }
     if MOST_WAITING <= s.calls {

@@ -17,8 +17,8 @@ unfoldable pub capped : ℕ → ℕ
 capped n = elim (leb n largest) [ true ↦ n | false ↦ largest ]
 
 -- A place, with the Cases on the stack.
-abbrev pub placeOf : Place → List ℕ → PlaceThere
-placeOf p cases =
+abbrev pub placeWith : Place → List ℕ → PlaceThere
+placeWith p cases =
     record { role = p .role; parent = p .parent; slot = p .slot; names = p .names; keeps = p .keeps; cases = take (p .depth) cases }
 
 -- On entering a part, by what it is: numbers named, where so many are named at the record.
@@ -56,7 +56,7 @@ partIn part kind r i count p =
     record {
       role = roleOf (λ b. 0) (λ b. count) kind i;
       parent = r;
-      slot = slotOf (λ b. 0) (λ b. count) (placeOf p []) kind i;
+      slot = slotOf (λ b. 0) (λ b. count) (placeWith p []) kind i;
       names = namesInside part (p .names);
       keeps = keepsInside kind i (p .keeps);
       depth = depthInside part (p .depth);

@@ -10,8 +10,8 @@ use Rattle.formats.specs.Written.{written}
 use Rattle.stepwise.specs.Steps.{Turn, saidFirst, rising, saidLast}
 use Rattle.stages.specs.declared.Stage.{Stage}
 use Rattle.stages.specs.Stages.{toBegin, isThrough, toOpen, hasEnded, isStuck, stateOf, staged, withWritten, stageOf, wordsOf, placesOf}
-use Rattle.begin_record.specs.Begins.{begun}
-use Rattle.open_call.specs.Opens.{opened}
+use Rattle.begin_record.specs.Begins.{begunTurn}
+use Rattle.open_call.specs.Opens.{openedTurn}
 use Rattle.result_bytes.specs.Bytes.{countLimit, counted}
 use Rattle.source_walk.specs.declared.Walked.{Walked}
 
@@ -38,7 +38,7 @@ weightOf s = elim (eqb (s .mode) isThrough) [ true ↦ 1 + 65536 * s .calls + s 
 module _ (T input : List ℕ) where
   -- The stage's record begins.
   unfoldable pub beginStep : Run → Run
-  beginStep p = stepped p (begun T input (p .stage .node) (stateOf (p .values) (p .places) (p .stage))) (saidFirst T (p .stage .node))
+  beginStep p = stepped p (begunTurn T input (p .stage .node) (stateOf (p .values) (p .places) (p .stage))) (saidFirst T (p .stage .node))
 
   -- It is finished.
   unfoldable pub riseStep : Run → Run
@@ -50,7 +50,7 @@ module _ (T input : List ℕ) where
   openStep p =
       elim (eqb (p .stage .mode) toOpen) [
         | true ↦
-            let t = opened T input (p .stage .node) (stateOf (p .values) (p .places) (p .stage)) in
+            let t = openedTurn T input (p .stage .node) (stateOf (p .values) (p .places) (p .stage)) in
             run (p .output) (wordsOf (p .values) t) (placesOf (p .places) t) (stageOf (p .stage) t)
         | false ↦ p
       ]

@@ -8,7 +8,7 @@ use lib.ListN.{set, length-set}
 use Rattle.stepwise.specs.Steps.{Turn, begin, through, opens, ended, deep, stuck}
 use Rattle.stepwise.proofs.Steps.{off}
 use Rattle.stages.specs.declared.Stage.{Stage}
-use Rattle.stages.specs.Stages.{toBegin, isThrough, toOpen, hasEnded, tooDeep, isStuck, stateOf, turnOf, staged, withWritten, stageOf, wordsOf, placesOf, Reaches}
+use Rattle.stages.specs.Stages.{toBegin, isThrough, toOpen, hasEnded, tooManyOpen, isStuck, stateOf, turnOf, staged, withWritten, stageOf, wordsOf, placesOf, Reaches}
 
 -- ---- the turn of a stage
 
@@ -29,12 +29,12 @@ module _ (values places : List ℕ) (s : Stage) where
   unfolding turnOf
   turn-ended e = rw (turnOf, off _ 3 0 e refl, off _ 3 1 e refl, off _ 3 2 e refl, eq-eqb _ _ e)
 
-  pub turn-deep : s .mode ≡ tooDeep → turnOf values places s ≡ deep (s .node)
+  pub turn-deep : s .mode ≡ tooManyOpen → turnOf values places s ≡ deep (s .node)
   unfolding turnOf
   turn-deep e = rw (turnOf, off _ 4 0 e refl, off _ 4 1 e refl, off _ 4 2 e refl, off _ 4 3 e refl, eq-eqb _ _ e)
 
   -- no other mode is one of these
-  pub turn-none : s .mode ≢ toBegin → s .mode ≢ isThrough → s .mode ≢ toOpen → s .mode ≢ hasEnded → s .mode ≢ tooDeep → turnOf values places s ≡ stuck
+  pub turn-none : s .mode ≢ toBegin → s .mode ≢ isThrough → s .mode ≢ toOpen → s .mode ≢ hasEnded → s .mode ≢ tooManyOpen → turnOf values places s ≡ stuck
   unfolding turnOf
   turn-none a b c d e = rw (turnOf, ne-eqb _ _ a, ne-eqb _ _ b, ne-eqb _ _ c, ne-eqb _ _ d, ne-eqb _ _ e)
 
@@ -85,7 +85,7 @@ module _ (values places : List ℕ) (s : Stage) where
   unfolding stageOf wordsOf placesOf
   reach-ended x = record { stage = refl; words = refl; returns = refl; words-long = refl; returns-long = refl }
 
-  pub reach-deep : (r : ℕ) → Reaches (deep r) values values places places s (staged s tooDeep r 0)
+  pub reach-deep : (r : ℕ) → Reaches (deep r) values values places places s (staged s tooManyOpen r 0)
   unfolding stageOf wordsOf placesOf
   reach-deep r = record { stage = refl; words = refl; returns = refl; words-long = refl; returns-long = refl }
 

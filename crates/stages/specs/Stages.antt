@@ -21,8 +21,8 @@ toOpen = 2
 abbrev pub hasEnded : ℕ
 hasEnded = 3
 
-abbrev pub tooDeep : ℕ
-tooDeep = 4
+abbrev pub tooManyOpen : ℕ
+tooManyOpen = 4
 
 abbrev pub isStuck : ℕ
 isStuck = 5
@@ -43,7 +43,7 @@ turnOf values places s =
                   | false ↦
                       elim (eqb (s .mode) hasEnded) [
                         | true ↦ ended (s .number)
-                        | false ↦ elim (eqb (s .mode) tooDeep) [ true ↦ deep (s .node) | false ↦ stuck ]
+                        | false ↦ elim (eqb (s .mode) tooManyOpen) [ true ↦ deep (s .node) | false ↦ stuck ]
                       ]
                 ]
           ]
@@ -72,7 +72,7 @@ stageOf s (begin r t) = inState t toBegin r 0 (s .written)
 stageOf s (through r x t) = inState t isThrough r x (s .written)
 stageOf s (opens r t) = inState t toOpen r 0 (s .written)
 stageOf s (ended x) = staged s hasEnded 0 x
-stageOf s (deep r) = staged s tooDeep r 0
+stageOf s (deep r) = staged s tooManyOpen r 0
 stageOf s stuck = staged s isStuck (s .node) 0
 
 -- The value words in front of a turn: its own, or those that there were.

@@ -10,7 +10,7 @@ use Rattle.formats.specs.Refusals.{tooManyCalls}
 use Rattle.formats.specs.Tokens.{leaf, leafTag, nodeTag, leafBytes, tokens}
 use Rattle.meaning.specs.OpenCalls.{Outcome, gives, stops, begins, next}
 use Rattle.stepwise.specs.Rows.{whole, kept, added, tested, passed, labelled, followed, lastArgument}
-use Rattle.stepwise.specs.Steps.{State, Turn, begin, through, opens, ended, mostRecords, mostWaiting}
+use Rattle.stepwise.specs.Steps.{State, Turn, begin, through, opens, ended, recordLimit, mostWaiting}
 use Rattle.stepwise.specs.Rows.{givesConstant, givesNamed, entersPart, tagsNode, looksAtTree, callsFunction}
 use Rattle.stepwise.specs.Steps.{actionAt, treeAt, operandAt, moreAt, roleAt, parentAt, slotAt, behindAt}
 use Rattle.stepwise.specs.Steps.{Found, the-own, wordAt, withWord, withEnd, framed, beginning, closing, rising, weight}
@@ -33,7 +33,7 @@ own T input r s none = rw none the-own
 module _ (T input : List ℕ) {out : List ℕ} {o : Outcome Told} where
   -- ---- a record begins
 
-  module _ (p r : ℕ) (s : State) (low : r < mostRecords) (found : Found T input s (treeAt T r) p) where
+  module _ (p r : ℕ) (s : State) (low : r < recordLimit) (found : Found T input s (treeAt T r) p) where
     -- nothing is written, but by a Node
     begin-quiet : (t : Turn) → actionAt T r ≢ tagsNode → beginning T input p r s ≡ t → Comes T input out t o → Comes T input out (begin r s) (begins o)
     begin-quiet t kind is c = at-begin {out = out} {r = r} {s = s} {o = o} p low found (rw (said-nothing T r kind, append-nil, is) c)
@@ -83,7 +83,7 @@ module _ (T input : List ℕ) {out : List ℕ} {o : Outcome Told} where
     open-frame entry few is c = at-open {out = out} {r = r} {s = s} {o = o} p low found (rw (opens-frame T p r s few, is) c)
 
   -- the other kinds name no tree
-  module _ (r : ℕ) (s : State) (low : r < mostRecords) (none : treeAt T r ≡ 0) where
+  module _ (r : ℕ) (s : State) (low : r < recordLimit) (none : treeAt T r ≡ 0) where
     pub begin-const : (i : ℕ) → actionAt T r ≡ givesConstant → operandAt T r + 65536 * moreAt T r ≡ i → Comes T input out (through r i s) o
         → Comes T input out (begin r s) (begins o)
     begin-const i kind is c =

@@ -33,7 +33,7 @@ use Rattle.meaning.proofs.Proper.{proper-node, proper-case, proper-call, Proper
 use Rattle.meaning.proofs.Sorts.{ValuesOf, valueOf}
 use Rattle.stepwise.specs.Rows.{Place, passed, lastWord, codeOf, partPlace}
 use Rattle.stepwise.specs.Rows.{callsFunction, actionOf, roleOf, slotOf, namesIn, keepsIn, casesIn, operandOf, treeOf, moreOf}
-use Rattle.stepwise.specs.Steps.{State, Turn, begin, through, opens, frameWords, mostRecords, mostWaiting, wordAt, withWord, withEnd}
+use Rattle.stepwise.specs.Steps.{State, Turn, begin, through, opens, frameWords, recordLimit, mostWaiting, wordAt, withWord, withEnd}
 use Rattle.stepwise.specs.Steps.{actionAt, operandAt, treeAt, moreAt, roleAt, parentAt, slotAt, Found}
 use Rattle.stepwise.specs.Comes.{Told, Comes}
 use Rattle.stepwise.proofs.Words.{Leaves, leaves-all, leaves-both, leaves-less, leaves-word, leaves-end, word-named, word-kept, word-set, word-other}
@@ -166,7 +166,7 @@ module _ (program : Program) (T input : List ℕ) (k : ℕ) where
   Sim g n sort e =
       (p : Place) (r w : ℕ) (E : Environment) (s : State)
       → Stands entry arity T p r e
-      → r + size e ≤ mostRecords
+      → r + size e ≤ recordLimit
       → p .names ≡ g
       → g + p .keeps ≡ w
       → wordsOf gs w e ≤ mostWords
@@ -198,7 +198,7 @@ module _ (program : Program) (T input : List ℕ) (k : ℕ) where
   SimArgs g n count xs =
       (p : Place) (a b r i j w : ℕ) (E : Environment) (s : State) (before : List ℕ)
       → StandArgs entry arity T p (Call a b) r i j xs
-      → j + sizeArgs xs ≤ mostRecords
+      → j + sizeArgs xs ≤ recordLimit
       → p .names ≡ g
       → g + (p .keeps + i) ≡ w
       → wordsOfArgs gs w xs ≤ mostWords
@@ -213,7 +213,7 @@ module _ (program : Program) (T input : List ℕ) (k : ℕ) where
   -- A call of f is ready to open: its row names f's first record, its numbers are on their words, its tree and its frame's
   -- own tree lie at their places, and what is known of an end is right.
   pub record Ready (r b : ℕ) (f : Function) (numbers : List ℕ) (t : Tree) (s : State) : Type 0 where
-    pub low : r < mostRecords
+    pub low : r < recordLimit
     pub place : ℕ
     pub found : Found T input s (treeAt T r) place
     pub own : Tree
@@ -553,7 +553,7 @@ module _ (program : Program) (T input : List ℕ) (k : ℕ) where
   -- a Call's first argument begins, or the call opens
   call-begins :
       {out : List ℕ} {o : Outcome Told} (place r : ℕ) (xs : Args) (s : State)
-      → r < mostRecords
+      → r < recordLimit
       → Found T input s (treeAt T r) place
       → actionAt T r ≡ callsFunction
       → moreAt T r ≡ countArgs xs

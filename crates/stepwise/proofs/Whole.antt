@@ -26,7 +26,7 @@ use Rattle.meaning.specs.Meaning.{PassesOne}
 use Rattle.meaning.proofs.Levels.{level-below}
 use Rattle.meaning.proofs.Proper.{ProperProgram, proper}
 use Rattle.stepwise.specs.Rows.{rowWords, bodyPlace, tabled}
-use Rattle.stepwise.specs.Steps.{State, begin, frameWords, mostRecords, mostWaiting, wordAt, slotAt, moreAt, framed, copied}
+use Rattle.stepwise.specs.Steps.{State, begin, frameWords, recordLimit, mostWaiting, wordAt, slotAt, moreAt, framed, copied}
 use Rattle.stepwise.specs.Comes.{Told, toldOf, Comes}
 use Rattle.stepwise.proofs.Words.{copied-length, copied-there, backIn, closes-back, leaves-call}
 use Rattle.stepwise.proofs.Moves.{open-deep, open-frame, through-end, through-call}
@@ -69,7 +69,7 @@ record Standing (program : Program) (T : List ℕ) : Type 0 where
       → nth (program .functions) b ≡ some f
       → Stands (firstRecord program) (arityOf (signatures program)) T
       (bodyPlace (firstRecord program) (arityOf (signatures program)) f) (firstRecord program b) (f .body)
-  inside : (b : ℕ) (f : Function) → nth (program .functions) b ≡ some f → firstRecord program b + size (f .body) ≤ mostRecords
+  inside : (b : ℕ) (f : Function) → nth (program .functions) b ≡ some f → firstRecord program b + size (f .body) ≤ recordLimit
 
 -- a program that passes pass one, in its table
 standing : (program : Program) (table : List ℕ) → PassesOne program → rowWords * 1057 ≤ length table → Standing program (tabled table program)

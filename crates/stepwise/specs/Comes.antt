@@ -4,7 +4,7 @@ use mathlib.Core.List.{List, _++_}
 use Rattle.formats.specs.Refusals.{tooManyCalls}
 use Rattle.meaning.specs.Evaluation.{Value, resultBytes, resultNumber}
 use Rattle.meaning.specs.OpenCalls.{Outcome, gives, stops, begins}
-use Rattle.stepwise.specs.Steps.{State, Turn, begin, through, opens, ended, deep, Found, mostRecords, treeAt, beginning, saidFirst, rising, saidLast, weight, opening}
+use Rattle.stepwise.specs.Steps.{State, Turn, begin, through, opens, ended, deep, Found, recordLimit, treeAt, beginning, saidFirst, rising, saidLast, weight, opening}
 
 -- The result as it is told: its number and its bytes.
 pub record Told : Type 0 where
@@ -21,7 +21,7 @@ toldOf v = gives (told (resultNumber v) (resultBytes v))
 pub data Comes (T input : List ℕ) : List ℕ → Turn → Outcome Told → Type 0 where
   at-begin :
       {out : List ℕ} {r : ℕ} {s : State} {o : Outcome Told} (p : ℕ)
-      → r < mostRecords
+      → r < recordLimit
       → Found T input s (treeAt T r) p
       → Comes T input (out ++ saidFirst T r) (beginning T input p r s) o
       → Comes T input out (begin r s) (begins o)
@@ -32,7 +32,7 @@ pub data Comes (T input : List ℕ) : List ℕ → Turn → Outcome Told → Typ
       → Comes T input out (through r x s) o
   at-open :
       {out : List ℕ} {r : ℕ} {s : State} {o : Outcome Told} (p : ℕ)
-      → r < mostRecords
+      → r < recordLimit
       → Found T input s (treeAt T r) p
       → Comes T input out (opening T p r s) o
       → Comes T input out (opens r s) o

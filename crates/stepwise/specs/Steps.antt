@@ -24,8 +24,8 @@ abbrev pub mostWaiting : ℕ
 mostWaiting = 1023
 
 -- Records are numbered below.
-abbrev pub mostRecords : ℕ
-mostRecords = 2048
+abbrev pub recordLimit : ℕ
+recordLimit = 2048
 
 -- The lent words, how many calls wait, and the place of the frame's tree. Of one tree that was passed the end is known: it begins at `known` and ends at
 -- `end` (both 0 as long as there is none: no tree that is looked for begins at 0).

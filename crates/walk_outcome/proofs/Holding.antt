@@ -12,15 +12,15 @@ use lib.ListN.{length, length-append}
 use Rattle.formats.specs.Written.{written}
 use Rattle.formats.proofs.Written.{written-append, wrote}
 use Rattle.meaning.specs.OpenCalls.{Outcome, begins}
-use Rattle.stepwise.specs.Steps.{State, Turn, begin, through, opens, ended, deep, stuck, Found, mostRecords, treeAt, beginning, saidFirst, rising, saidLast, weight, opening}
+use Rattle.stepwise.specs.Steps.{State, Turn, begin, through, opens, ended, deep, stuck, Found, recordLimit, treeAt, beginning, saidFirst, rising, saidLast, weight, opening}
 use Rattle.stepwise.proofs.Steps.{off}
 use Rattle.stepwise.specs.Comes.{Told, Comes, at-begin, at-through, at-open}
 use Rattle.stages.specs.declared.Stage.{Stage}
 use Rattle.stages.specs.Stages.{toBegin, isThrough, toOpen, isStuck, stateOf, turnOf, staged, stageOf, wordsOf, placesOf}
 use Rattle.stages.proofs.Stages.{turn-begin, turn-through, turn-open, turn-written, turn-again, same-written}
-use Rattle.begin_record.specs.Begins.{begun}
+use Rattle.begin_record.specs.Begins.{begunTurn}
 use Rattle.begin_record.proofs.Begins.{begun-found}
-use Rattle.open_call.specs.Opens.{opened}
+use Rattle.open_call.specs.Opens.{openedTurn}
 use Rattle.open_call.proofs.Opens.{opened-found, opened-settled}
 use Rattle.result_bytes.specs.Bytes.{countLimit, counted}
 use Rattle.walk_outcome.specs.Tells.{Counts}
@@ -47,7 +47,7 @@ module _ (T input : List ℕ) where
   -- an expression begins
   record BeginsAt (out : List ℕ) (r : ℕ) (s : State) (o : Outcome Told) : Type 0 where
     place : ℕ
-    few : r < mostRecords
+    few : r < recordLimit
     found : Found T input s (treeAt T r) place
     rest : Outcome Told
     begun : o ≡ begins rest
@@ -65,7 +65,7 @@ module _ (T input : List ℕ) where
 
   record OpensAt (out : List ℕ) (r : ℕ) (s : State) (o : Outcome Told) : Type 0 where
     place : ℕ
-    few : r < mostRecords
+    few : r < recordLimit
     found : Found T input s (treeAt T r) place
     comes : Comes T input out (opening T place r s) o
 
@@ -221,7 +221,7 @@ module _ (T input output₀ : List ℕ) where
   open-holds p o h = by (eqb (p .stage .mode) toOpen) refl
     where
       t : Turn
-      t = opened T input (p .stage .node) (stateOf (p .values) (p .places) (p .stage))
+      t = openedTurn T input (p .stage .node) (stateOf (p .values) (p .places) (p .stage))
 
       opens-it : p .stage .mode ≡ toOpen → Holding T input output₀ (run (p .output) (wordsOf (p .values) t) (placesOf (p .places) t) (stageOf (p .stage) t)) o
       opens-it mode =
@@ -289,7 +289,7 @@ module _ (T input : List ℕ) where
   open-settles p settled = by (eqb (p .stage .mode) toOpen) refl
     where
       t : Turn
-      t = opened T input (p .stage .node) (stateOf (p .values) (p .places) (p .stage))
+      t = openedTurn T input (p .stage .node) (stateOf (p .values) (p .places) (p .stage))
 
       by : (b : Bool) → eqb (p .stage .mode) toOpen ≡ b
           → (modeOf (elim b [ true ↦ run (p .output) (wordsOf (p .values) t) (placesOf (p .places) t) (stageOf (p .stage) t) | false ↦ p ]) ≢ isThrough)

@@ -15,7 +15,7 @@ use Rattle.meaning.specs.OpenCalls.{Outcome, gives, stops, begins, after, withi
 use Rattle.stepwise.specs.Steps.{State, begin, ended, deep, stuck}
 use Rattle.stepwise.specs.Comes.{Told, told, Comes, at-begin, at-end, at-deep}
 use Rattle.stages.specs.declared.Stage.{Stage}
-use Rattle.stages.specs.Stages.{toBegin, isThrough, toOpen, hasEnded, tooDeep, turnOf}
+use Rattle.stages.specs.Stages.{toBegin, isThrough, toOpen, hasEnded, tooManyOpen, turnOf}
 use Rattle.stages.proofs.Stages.{turn-begin, turn-ended, turn-deep, turn-none}
 use Rattle.source_walk.specs.declared.Walked.{Walked}
 use Rattle.source_walk.specs.Loop.{Run, run, turned, finished, Ending, ending, walking, firstStage, Walks}
@@ -63,18 +63,18 @@ module _ (T input : List ℕ) where
   settled : (values places out : List ℕ) (s : Stage) (o : Outcome Told) → s .mode ≢ toBegin → s .mode ≢ isThrough → s .mode ≢ toOpen
       → Comes T input out (turnOf values places s) o
       → Settled values places out s o
-  settled values places out s o a b c come = by (eqb (s .mode) hasEnded) (eqb (s .mode) tooDeep) refl refl
+  settled values places out s o a b c come = by (eqb (s .mode) hasEnded) (eqb (s .mode) tooManyOpen) refl refl
     where
-      by : (e d : Bool) → eqb (s .mode) hasEnded ≡ e → eqb (s .mode) tooDeep ≡ d → Settled values places out s o
+      by : (e d : Bool) → eqb (s .mode) hasEnded ≡ e → eqb (s .mode) tooManyOpen ≡ d → Settled values places out s o
       by true d is deep-is =
           let mode = eqb-true (s .mode) hasEnded is in
           settled-end mode (comes-ended (rw (turn-ended values places s mode) at come))
       by false true is deep-is =
-          let mode = eqb-true (s .mode) tooDeep deep-is in
+          let mode = eqb-true (s .mode) tooManyOpen deep-is in
           settled-deep (eqb-false (s .mode) hasEnded is) (comes-deep (rw (turn-deep values places s mode) at come))
       by false false is deep-is =
           let none : turnOf values places s ≡ stuck =
-          turn-none values places s a b c (eqb-false (s .mode) hasEnded is) (eqb-false (s .mode) tooDeep deep-is) in
+          turn-none values places s a b c (eqb-false (s .mode) hasEnded is) (eqb-false (s .mode) tooManyOpen deep-is) in
           comes-stuck (rw none at come)
 
 -- ---- the walk

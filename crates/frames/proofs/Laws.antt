@@ -1,16 +1,14 @@
 -- Words read and put: a law for each way out of the functions that do it.
-use Prim.Native.Nat.{ℕ, zero, suc, _≤_}
-use mathlib.Core.List.{List, [], _∷_}
-use mathlib.Core.Path.{_≡_, refl, ap, _∙_}
-use native.Mathlib.Omega.{arith}
+use Prim.Native.Nat.{ℕ, _≤_}
+use mathlib.Core.List.{List}
+use mathlib.Core.Path.{_≡_, sym, ap, _∙_}
 use lib.ListN.{length, getD, set}
+use lib.Seq.{set-out}
 use Rattle.words.proofs.Bytes.{byte-cut}
 
 -- none is put past the end
 pub none-put : (l : List ℕ) (i x : ℕ) → length l ≤ i → l ≡ set l i x
-none-put [] i x cut = refl
-none-put (y ∷ l) zero x cut = absurd (omega arith)
-none-put (y ∷ l) (suc i) x cut = ap (λ (k : List ℕ). y ∷ k) (none-put l i x (omega arith))
+none-put l i x cut = sym (set-out l i x cut)
 
 module _ (l : List ℕ) (place i : ℕ) (is : i ≡ place) where
   pub word-there : getD l i 0 ≡ getD l place 0

@@ -8,7 +8,7 @@ use native.Mathlib.Nat.{add-zero}
 use native.Mathlib.Omega.{arith}
 use borrow.Author.Tests.{lt-ltb, le-ltb}
 use lib.Dec.{ltb}
-use lib.ListN.{length, set}
+use lib.ListN.{length}
 use Rattle.formats.specs.Numbers.{bytesOf}
 use Rattle.formats.specs.Tokens.{leaf, leafTag, nodeTag, leafBytes, tokens}
 use Rattle.formats.specs.Written.{written}
@@ -42,13 +42,10 @@ pub ruleset counting = (count-few, count-many)
 
 -- ---- `put_byte`
 
-pub byte-put : (l : List ℕ) (at x : ℕ) → at < length l → set l at x ≡ written l at (x ∷ [])
-byte-put l at x h = written-one l at x h
-
 pub byte-none : (l : List ℕ) (at x : ℕ) → length l ≤ at → l ≡ written l at (x ∷ [])
 byte-none l at x h = sym (written-short l at (x ∷ []) (omega arith))
 
-pub ruleset bytes = (byte-put, byte-none)
+pub ruleset bytes = (written-one, byte-none)
 
 -- ---- `write_leaf`
 

@@ -78,5 +78,5 @@ pub fn say_last(table: &[u16], output: &mut [u8], s: Stage) -> usize
         return s.written;
     }
     write_leaf(output, s.written, s.number);
-    count(s.written, 5)
+    count(s.written, LEAF_BYTES as u8)
 }

@@ -10,5 +10,5 @@ say-last-spec =
     (tie.spec
     (λ c κs. search needs)
     (λ c. search saying)
-    (λ c κs. search needs) (λ c κs. search needs) (λ c. search needs)
+    (λ c κs. search needs) (λ c. search needs) (λ c κs. search needs) (λ c. search needs)
     (λ c. search saying))

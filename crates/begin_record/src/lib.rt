@@ -1,5 +1,17 @@
 // A record of a program begins, in the source run: the next stage.
+use frames::ACTION;
+use frames::BEHIND;
+use frames::CALLS_FUNCTION;
+use frames::GIVES_CONSTANT;
+use frames::GIVES_NAMED;
+use frames::LOOKS_AT_TREE;
+use frames::MORE;
+use frames::OPERAND;
+use stages::BEGIN;
+use stages::OPEN;
+use stages::STUCK;
 use stages::Stage;
+use stages::THROUGH;
 ghost use Prim.Native.Nat.{_+_, _*_, _<_};
 ghost use mathlib.Core.Path.{_≡_};
 ghost use lib.ListN.{getD, set};
@@ -7,35 +19,8 @@ ghost use Rattle.formats.specs.Numbers.{numberAt};
 ghost use Rattle.stepwise.specs.Steps.{operandAt, moreAt, frameWords, recordLimit};
 ghost use Rattle.begin_record.specs.Begins.{Looks, Begins};
 
-// Fields of a row.
-const ACTION: u16 = 0;
-
-const OPERAND: u16 = 1;
-
-const MORE: u16 = 3;
-
-const BEHIND: u16 = 7;
-
-// What a record does when it begins, where that is not to enter its first part alone.
-const GIVES_CONSTANT: u16 = 0;
-
-const GIVES_NAMED: u16 = 1;
-
-const LOOKS_AT_TREE: u16 = 4;
-
-const CALLS_FUNCTION: u16 = 5;
-
 // Records are numbered below.
 const RECORD_LIMIT: u16 = 2048;
-
-// What is to be done next.
-const BEGIN: u32 = 0;
-
-const THROUGH: u32 = 1;
-
-const OPEN: u32 = 2;
-
-const STUCK: u32 = 5;
 
 const LEAF_TAG: u8 = 1;
 

@@ -1,46 +1,27 @@
 // A record of a program is finished, in the source run: the next stage, by its value.
+use frames::ADDED;
+use frames::BEHIND;
+use frames::FOLLOWED;
+use frames::KEPT;
+use frames::LABELLED;
+use frames::PARENT;
+use frames::PASSED;
+use frames::ROLE;
+use frames::SLOT;
+use frames::TESTED;
+use frames::TREE;
+use frames::WHOLE;
+use stages::BEGIN;
+use stages::ENDED;
+use stages::OPEN;
 use stages::Stage;
+use stages::THROUGH;
 ghost use Prim.Native.Nat.{_+_, _*_};
 ghost use mathlib.Core.Path.{_≡_};
 ghost use lib.ListN.{getD, set};
 ghost use Rattle.formats.specs.Numbers.{sum32};
 ghost use Rattle.stepwise.specs.Steps.{slotAt, frameWords, onRight};
 ghost use Rattle.finish_record.specs.Rises.{Knows, Closes, Picks, Follows, Rises};
-
-// Fields of a row.
-const TREE: u16 = 2;
-
-const ROLE: u16 = 4;
-
-const PARENT: u16 = 5;
-
-const SLOT: u16 = 6;
-
-const BEHIND: u16 = 7;
-
-// What a part is to the record that it is part of; the last argument of a call is none of these.
-const WHOLE: u16 = 0;
-
-const KEPT: u16 = 1;
-
-const ADDED: u16 = 2;
-
-const TESTED: u16 = 3;
-
-const PASSED: u16 = 4;
-
-const LABELLED: u16 = 5;
-
-const FOLLOWED: u16 = 6;
-
-// What is to be done next.
-const BEGIN: u32 = 0;
-
-const THROUGH: u32 = 1;
-
-const OPEN: u32 = 2;
-
-const ENDED: u32 = 3;
 
 const NODE_TAG: u8 = 2;
 

@@ -10,6 +10,49 @@ const ROW_WORDS: usize = 8;
 // Words of a frame.
 const FRAME_WORDS: usize = 16;
 
+// The fields of a row.
+pub const ACTION: u16 = 0;
+
+pub const OPERAND: u16 = 1;
+
+pub const TREE: u16 = 2;
+
+pub const MORE: u16 = 3;
+
+pub const ROLE: u16 = 4;
+
+pub const PARENT: u16 = 5;
+
+pub const SLOT: u16 = 6;
+
+pub const BEHIND: u16 = 7;
+
+// What a record does when it begins; else its first part begins.
+pub const GIVES_CONSTANT: u16 = 0;
+
+pub const GIVES_NAMED: u16 = 1;
+
+pub const TAGS_NODE: u16 = 3;
+
+pub const LOOKS_AT_TREE: u16 = 4;
+
+pub const CALLS_FUNCTION: u16 = 5;
+
+// What a part is to the record that it is part of; the last argument of a Call is none of these.
+pub const WHOLE: u16 = 0;
+
+pub const KEPT: u16 = 1;
+
+pub const ADDED: u16 = 2;
+
+pub const TESTED: u16 = 3;
+
+pub const PASSED: u16 = 4;
+
+pub const LABELLED: u16 = 5;
+
+pub const FOLLOWED: u16 = 6;
+
 // A field of a record's row; 0 where the table has none.
 pub fn field(table: &[u16], r: u16, f: u16) -> u16
     ensures { λ x. ⌜ x ≡ fieldOf (now (table .entry)) r f ⌝ }

@@ -1,12 +1,10 @@
 // Where the tree begins that a record of a program names, in a frame of the source run.
+use frames::TREE;
 use stages::Stage;
 use tree::TreeAnswer;
 ghost use mathlib.Core.Path.{_≡_};
 ghost use Rattle.stepwise.specs.Steps.{treeAt};
 ghost use Rattle.named_trees.specs.Places.{partAt, treePlace};
-
-// The field of a row that has the tree's code.
-const TREE: u16 = 2;
 
 // Where a tree of the node at place `node` begins: the left one for an even j, else the right one. The tree at `known` ends at `end`; of another left tree
 // the end is looked for.

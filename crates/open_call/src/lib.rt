@@ -1,4 +1,10 @@
 // A call of a program opens, in the source run.
+use frames::MORE;
+use frames::OPERAND;
+use frames::SLOT;
+use stages::BEGIN;
+use stages::DEEP;
+use stages::STUCK;
 use stages::Stage;
 ghost use Prim.Native.Nat.{suc, _-_, _*_, _<_};
 ghost use mathlib.Core.Path.{_≡_};
@@ -6,25 +12,11 @@ ghost use lib.ListN.{set};
 ghost use Rattle.stepwise.specs.Steps.{slotAt, moreAt, frameWords, recordLimit, mostWaiting, copied};
 ghost use Rattle.open_call.specs.Opens.{Opens};
 
-// Fields of a row.
-const OPERAND: u16 = 1;
-
-const MORE: u16 = 3;
-
-const SLOT: u16 = 6;
-
 // Calls that may wait.
 const MOST_WAITING: u16 = 1023;
 
 // Records are numbered below.
 const RECORD_LIMIT: u16 = 2048;
-
-// What is to be done next.
-const BEGIN: u32 = 0;
-
-const DEEP: u32 = 4;
-
-const STUCK: u32 = 5;
 
 // slot - n, and 0 where n is more.
 fn from_down(slot: u16, n: u16) -> u16

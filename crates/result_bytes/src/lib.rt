@@ -1,4 +1,8 @@
 // The bytes of a result, written by the source run as its records begin and are finished.
+use frames::ACTION;
+use frames::LABELLED;
+use frames::ROLE;
+use frames::TAGS_NODE;
 use stages::Stage;
 ghost use mathlib.Core.List.{[], _∷_};
 ghost use mathlib.Core.Path.{_≡_};
@@ -6,16 +10,6 @@ ghost use Rattle.formats.specs.Tokens.{leaf, tokens};
 ghost use Rattle.formats.specs.Written.{written};
 ghost use Rattle.stepwise.specs.Steps.{saidFirst, saidLast};
 ghost use Rattle.result_bytes.specs.Bytes.{counted, Says};
-
-// Fields of a row.
-const ACTION: u16 = 0;
-
-const ROLE: u16 = 4;
-
-// The action of a Node, and what a leaf's number is to its record.
-const TAGS_NODE: u16 = 3;
-
-const LABELLED: u16 = 5;
 
 const LEAF_TAG: u8 = 1;
 

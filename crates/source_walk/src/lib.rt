@@ -1,19 +1,13 @@
 // The walk of the source run: expressions begin one after the other, over the rows of a program, with the state in the lent words; no native recursion over
 // expressions or calls.
+use stages::BEGIN;
+use stages::ENDED;
+use stages::OPEN;
+use stages::STUCK;
 use stages::Stage;
+use stages::THROUGH;
 ghost use mathlib.Core.Path.{_≡_};
 ghost use Rattle.source_walk.specs.Loop.{weightOf, finished, BeginsOne, Climbs, OpensOne, Turns, Walks};
-
-// What is to be done next.
-const BEGIN: u32 = 0;
-
-const THROUGH: u32 = 1;
-
-const OPEN: u32 = 2;
-
-const ENDED: u32 = 3;
-
-const STUCK: u32 = 5;
 
 // While records are finished this falls.
 fn weight_of(s: Stage) -> usize

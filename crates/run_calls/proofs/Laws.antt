@@ -2,7 +2,7 @@
 use Prim.Native.Nat.{ℕ}
 use mathlib.Core.Bool.{Bool, true, false, not}
 use mathlib.Core.List.{List}
-use mathlib.Core.Path.{_≡_, refl, ap, sym, subst}
+use mathlib.Core.Path.{_≡_, refl}
 use native.Mathlib.Omega.{arith}
 use borrow.Author.Tests.{lt-ltb, le-ltb}
 use lib.Dec.{leb}
@@ -10,7 +10,6 @@ use lib.ListN.{length}
 use Rattle.formats.specs.Refusals.{spaceTooShort}
 use Rattle.machine.specs.Told.{answered}
 use Rattle.machine.specs.declared.Answer.{Answer}
-use Rattle.translation.specs.ThisCall.{ProgramRun}
 use Rattle.runner.specs.Runs.{Runs}
 use Rattle.run_answers.specs.RunAnswer.{runPlaces, Answers}
 use Rattle.run_answers.proofs.RunCall.{too-few, enough, not-called, called}

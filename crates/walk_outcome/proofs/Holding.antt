@@ -18,7 +18,6 @@ use Rattle.stepwise.specs.Comes.{Told, Comes, at-begin, at-through, at-open}
 use Rattle.stages.specs.declared.Stage.{Stage}
 use Rattle.stages.specs.Stages.{toBegin, isThrough, toOpen, isStuck, stateOf, turnOf, staged, stageOf, wordsOf, placesOf}
 use Rattle.stages.proofs.Stages.{turn-begin, turn-through, turn-open, turn-written, turn-again, same-written}
-use Rattle.begin_record.specs.Begins.{begunTurn}
 use Rattle.begin_record.proofs.Begins.{begun-found}
 use Rattle.open_call.specs.Opens.{openedTurn}
 use Rattle.open_call.proofs.Opens.{opened-found, opened-settled}

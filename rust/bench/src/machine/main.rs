@@ -2,6 +2,7 @@
 
 #![forbid(unsafe_code)]
 
+mod calls;
 mod count;
 mod inputs;
 mod machines;
@@ -85,6 +86,7 @@ fn compare() {
         inputs.iter().for_each(|input| assert_same(program, input));
     }
     print_all_times(&cases);
+    calls::print_all_ratios(&programs().map(|program| inputs(&program)));
     print_all_counts(&cases);
 }
 

@@ -148,9 +148,13 @@ fn an_answer_takes_four_places() {
 /// answer's places.
 #[test]
 fn a_call_refused_before_its_run_touches_nothing_else() {
-    let ended = one_of_each().into_iter().filter(|(_, gave)| gave.number == 0);
+    let ended = one_of_each()
+        .into_iter()
+        .filter(|(_, gave)| gave.number == 0);
     let short = ended.flat_map(|(case, _)| SHORT.map(|words| (with_words(&case, words), 13)));
-    let others = one_of_each().into_iter().map(|(case, gave)| (case, gave.number));
+    let others = one_of_each()
+        .into_iter()
+        .map(|(case, gave)| (case, gave.number));
     for (case, number) in others.chain(short) {
         if [0, 14, 17, 18].contains(&number) {
             continue;

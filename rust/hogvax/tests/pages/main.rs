@@ -5,9 +5,13 @@
 #![cfg(unix)]
 
 mod calling;
+mod columns;
 #[path = "../shared/compiler.rs"]
 mod compiler;
+mod contributing;
 mod edits;
+mod glossary;
+mod links;
 mod machinery;
 mod names;
 #[path = "../shared/page.rs"]
@@ -16,6 +20,8 @@ mod pending;
 mod readme;
 mod relying;
 mod stack;
+mod tables;
+mod tour;
 #[path = "../shared/trial.rs"]
 mod trial;
 mod writing;

@@ -10,14 +10,14 @@ use std::path::PathBuf;
 use crate::compiler::repository;
 
 /// A citation: where it points, and the names that must be declared there.
-struct Citation {
-    place: String,
+pub struct Citation {
+    pub place: String,
     names: Vec<String>,
 }
 
 impl Citation {
     /// The citation that a text between backticks is, if it is one.
-    fn new(text: &str) -> Option<Citation> {
+    pub fn new(text: &str) -> Option<Citation> {
         let words: Vec<&str> = text.split_whitespace().collect();
         let [place, name] = words[..] else {
             return None;
@@ -44,7 +44,7 @@ impl Citation {
         entries.map(|entry| entry.unwrap().path()).collect()
     }
 
-    fn is_true(&self) -> bool {
+    pub fn is_true(&self) -> bool {
         let texts = self.files().into_iter().map(fs::read_to_string);
         let texts: Vec<String> = texts.filter_map(Result::ok).collect();
         let declared = |name: &String| texts.iter().any(|text| declares(text, name));
@@ -94,7 +94,7 @@ pub fn documents() -> Vec<PathBuf> {
     let paths = entries.map(|entry| entry.unwrap().path());
     let is_page = |path: &PathBuf| path.extension().is_some_and(|end| end == "md");
     let mut documents: Vec<PathBuf> = paths.filter(is_page).collect();
-    documents.extend(["README.md", "samples/README.md"].map(repository));
+    documents.extend(["README.md", "CONTRIBUTING.md", "samples/README.md"].map(repository));
     documents
 }
 

@@ -1,0 +1,57 @@
+//! The documents' lines are short enough to be read in a terminal: prose has at
+//! most 100 columns, and a table's row at most 180.
+
+use std::path::PathBuf;
+
+use crate::names::documents;
+use crate::trial::text;
+
+const PROSE: usize = 100;
+
+const ROW: usize = 180;
+
+/// These are not held to it.
+const FREE: [&str; 1] = ["PROMISES.md"];
+
+/// The numbers of the lines that are too long, fenced blocks aside.
+fn too_long(text: &str) -> Vec<usize> {
+    let (mut found, mut inside) = (Vec::new(), false);
+    for (line, number) in text.lines().zip(1..) {
+        if line.starts_with("```") {
+            inside = !inside;
+        }
+        let most = if line.starts_with('|') { ROW } else { PROSE };
+        // A picture, and text that is shown as it is, can't be broken.
+        let whole = inside || line.starts_with("    ") || line.starts_with("![");
+        if !whole && line.chars().count() > most {
+            found.push(number);
+        }
+    }
+    found
+}
+
+#[test]
+fn no_line_of_a_document_is_too_long() {
+    let mut wrong = Vec::new();
+    let is_held = |path: &PathBuf| !FREE.iter().any(|name| path.ends_with(name));
+    for path in documents().into_iter().filter(is_held) {
+        let page = text(path.to_str().unwrap());
+        wrong.extend(
+            too_long(&page)
+                .iter()
+                .map(|line| format!("{path:?}:{line}")),
+        );
+    }
+    assert_eq!(wrong, [""; 0]);
+}
+
+#[test]
+fn a_line_that_is_too_long_is_noticed() {
+    let long = "x".repeat(101);
+    let row = format!("|{}|", "x".repeat(179));
+    let page = format!(
+        "{long}\n|{long}|\n{row}\n```\n{long}\n```\n    {long}\n{}",
+        &long[1..]
+    );
+    assert_eq!(too_long(&page), [1, 3]);
+}

@@ -1,7 +1,7 @@
 //! The must-fail edits that the documents cite are there.
 //!
 //! A citation stands between backticks as `crate/edit`. In a column of edits
-//! the crate may be left out, where the table's text or row says it.
+//! the crate may be left out, where the text before the table says it.
 
 use std::fs;
 
@@ -26,13 +26,13 @@ fn cited(text: &str) -> Option<(&str, &str)> {
     (is_crate && is_name(name) && !is_other).then_some((place, name))
 }
 
-fn is_there(place: &str, name: &str) -> bool {
+pub fn is_there(place: &str, name: &str) -> bool {
     let path = format!("crates/{place}/must-fail/{name}.edit");
     repository(&path).is_file()
 }
 
 /// Whether some crate has an edit of this name.
-fn is_anywhere(name: &str) -> bool {
+pub fn is_anywhere(name: &str) -> bool {
     let crates = fs::read_dir(repository("crates")).unwrap();
     let places = crates.map(|entry| entry.unwrap().file_name());
     let mut places = places.map(|place| place.into_string().unwrap());
@@ -58,8 +58,8 @@ fn cells(line: &str) -> Vec<&str> {
     inside.map_or(Vec::new(), |line| line.split('|').map(str::trim).collect())
 }
 
-/// The rows under each heading that has this column, with that cell.
-fn column<'a>(text: &'a str, heading: &str) -> Vec<(Vec<&'a str>, &'a str)> {
+/// The cells under each heading of this name.
+fn column<'a>(text: &'a str, heading: &str) -> Vec<&'a str> {
     let (mut rows, mut place) = (Vec::new(), None);
     for line in text.lines() {
         let cells = cells(line);
@@ -69,7 +69,7 @@ fn column<'a>(text: &'a str, heading: &str) -> Vec<(Vec<&'a str>, &'a str)> {
             place = Some(found);
         } else if let Some(cell) = place.and_then(|place| cells.get(place).copied()) {
             if !cell.starts_with("---") {
-                rows.push((cells, cell));
+                rows.push(cell);
             }
         }
     }
@@ -78,47 +78,11 @@ fn column<'a>(text: &'a str, heading: &str) -> Vec<(Vec<&'a str>, &'a str)> {
 
 /// The names in the column "must-fail edit" that no crate has.
 fn wrong_in_columns(text: &str) -> (Vec<String>, usize) {
-    let rows = column(text, "must-fail edit");
-    let names = rows.iter().flat_map(|(_, cell)| between_backticks(cell));
+    let cells = column(text, "must-fail edit");
+    let names = cells.iter().flat_map(|cell| between_backticks(cell));
     let names: Vec<String> = names.filter(|name| is_name(name)).collect();
     let wrong = names.iter().filter(|name| !is_anywhere(name));
     (wrong.cloned().collect(), names.len())
-}
-
-/// A row of the table of wrong answers: a function's crate and name, and what
-/// shows its wrong answers.
-struct Row<'a> {
-    place: &'a str,
-    function: &'a str,
-    answers: &'a str,
-}
-
-impl<'a> Row<'a> {
-    fn new((cells, answers): (Vec<&'a str>, &'a str)) -> Option<Row<'a>> {
-        let (place, function) = cells[0].trim_matches('`').split_once(": ")?;
-        Some(Row {
-            place,
-            function,
-            answers,
-        })
-    }
-
-    /// The names that are neither edits of its crate nor functions.
-    fn wrong(&self, functions: &[&str]) -> Vec<String> {
-        let mut names = between_backticks(self.answers);
-        names.retain(|name| is_name(name) && !functions.contains(&&name[..]));
-        names.retain(|name| !is_there(self.place, name));
-        names
-    }
-}
-
-/// The wrong names in the table of wrong answers, and how many rows it has.
-fn wrong_answers(text: &str) -> (Vec<String>, usize) {
-    let rows = column(text, "wrong answers, as must-fail edits");
-    let rows: Vec<Row> = rows.into_iter().filter_map(Row::new).collect();
-    let functions: Vec<&str> = rows.iter().map(|row| row.function).collect();
-    let wrong = rows.iter().flat_map(|row| row.wrong(&functions));
-    (wrong.collect(), rows.len())
 }
 
 #[test]
@@ -128,20 +92,16 @@ fn the_edits_that_the_documents_cite_are_there() {
         let text = fs::read_to_string(&path).unwrap();
         let (wrong, with_crates) = wrong_citations(&text);
         let (in_columns, bare) = wrong_in_columns(&text);
-        let (in_answers, functions) = wrong_answers(&text);
         if path.ends_with("PROMISES.md") {
-            assert!(
-                with_crates >= 100 && bare >= 10 && functions >= 50,
-                "{with_crates} {bare} {functions}"
-            );
+            assert!(with_crates >= 150 && bare >= 50, "{with_crates} {bare}");
         }
-        let wrong = wrong.into_iter().chain(in_columns).chain(in_answers);
+        let wrong = wrong.into_iter().chain(in_columns);
         all.extend(wrong.map(|name| format!("{path:?}: {name}")));
     }
     assert_eq!(all, [""; 0]);
 }
 
-/// An edit that is not there is found in a sentence, a column and a row.
+/// An edit that is not there is found in a sentence and in a column.
 #[test]
 fn an_edit_that_is_not_there_is_found() {
     let sentence = "`tree/no_such_edit`, `tree/nothing_for_a_tree`, `formats/proofs`, \
@@ -154,11 +114,4 @@ fn an_edit_that_is_not_there_is_found() {
         | sentence |\n|---|\n| `no_such_edit` |\n";
     let (wrong, all) = wrong_in_columns(table);
     assert_eq!((wrong, all), (vec!["no_such_edit".to_owned()], 2));
-
-    let table = "| function | wrong answers, as must-fail edits |\n|---|---|\n\
-        | `tree: first_tree` | `nothing_for_a_tree`, `exchanged` |\n\
-        | `refusal: number_of` | `exchanged`, those of `first_tree` and of `second_tree` |\n";
-    let (wrong, all) = wrong_answers(table);
-    let expected = ["exchanged", "second_tree"].map(str::to_owned);
-    assert_eq!((wrong, all), (expected.to_vec(), 2));
 }

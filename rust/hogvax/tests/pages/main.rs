@@ -17,6 +17,7 @@ mod names;
 #[path = "../shared/page.rs"]
 mod page;
 mod pending;
+mod promises;
 mod readme;
 mod relying;
 mod stack;

@@ -1,4 +1,5 @@
--- Worked cases of document 01's tokens, proved by computation. Each row of a table is a buffer and what the tree reader finds in it.
+-- Worked cases of tokens (01, Tokens), proved by computation. Each row of a table is a buffer and
+-- what the tree reader finds in it.
 use Prim.Native.Nat.{ℕ, zero, suc}
 use mathlib.Core.List.{List, [], _∷_, _++_, map}
 use mathlib.Core.Path.{_≡_, refl}
@@ -9,7 +10,7 @@ use Rattle.formats.specs.Written.{written}
 use Rattle.formats.specs.Tokens.{Tree, leaf, node, tips, depth, nodeTag, tokens, tagOf, tagAt, labelAt, partsAt, byTag, treeAt, firstTree, ownBytes, endFrom, firstEnd}
 use Rattle.formats.specs.Results.{done, refusal}
 
--- document 01's tree T, and its bytes 02 01 05 00 00 00 01 07 00 00 00
+-- tree T (01, Worked programs), and its bytes 02 01 05 00 00 00 01 07 00 00 00
 t : Tree
 t = node (leaf 5) (leaf 7)
 

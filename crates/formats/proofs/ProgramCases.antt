@@ -1,4 +1,5 @@
--- Worked cases of document 01's program file, proved by computation. Each row of a table is an input and what becomes of it.
+-- Worked cases of the program file (01, Program file), proved by computation. Each row of a table
+-- is an input and what becomes of it.
 use Prim.Native.Nat.{ℕ, _-_}
 use mathlib.Core.List.{List, [], _∷_, _++_, map}
 use mathlib.Core.Path.{_≡_, refl}
@@ -14,7 +15,7 @@ use Rattle.formats.specs.Blocks.{wordSum, checkWord, blockBody, blockOf,
 
 -- ---- Grow
 
--- document 01's Grow: Case 0, Leaf, Add, Var 0, Const 1, Node, Call 0 on 1, Call 0 on 2
+-- Grow (01, Worked programs): Case 0, Leaf, Add, Var 0, Const 1, Node, Call 0 on 1, Call 0 on 2
 unfoldable pub grow : Program
 grow = record {
   edition = 1;

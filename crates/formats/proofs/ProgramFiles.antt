@@ -1,5 +1,6 @@
--- Document 01's program files: a file and its flat records determine one another (proofs/Files), and so do flat records and their program
--- (proofs/Rows). Together: a program and its file.
+-- Program files (01, Program file): a file and its flat records determine one another
+-- (proofs/Files), and so do flat records and their program (proofs/Rows). Together: a program and
+-- its file.
 use Prim.Native.Nat.{ℕ, suc, _+_, _*_, _≤_}
 use mathlib.Core.List.{List}
 use mathlib.Core.Path.{_≡_, sym, ap, subst, _∙_}
@@ -117,7 +118,7 @@ measured r s program bs e h =
       few-blocks = rw n (blocks-few (records program) (few-records program l));
     }
 
--- Document 01's program files.
+-- Program files (01, Program file).
 pub program-files : ProgramFiles
 program-files = record {
   again = again;

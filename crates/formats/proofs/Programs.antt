@@ -81,7 +81,7 @@ unfolding nodes total signatureOf size
 length-nodes [] = refl
 length-nodes (f ∷ fs) = length-append (prefix (f .body)) (nodes fs) ∙ ap (λ (n : ℕ). length (prefix (f .body)) + n) (length-nodes fs)
 
--- 01: "There are 1 + F + N records."
+-- 01, Header: "There are 1 + F + N records."
 pub length-records : (program : Program) → length (recordsOf program) ≡ suc (length (program .functions) + total (signatures program))
 unfolding recordsOf
 length-records program = simp (length-append, length-map, length-nodes)

@@ -20,7 +20,7 @@ use Rattle.formats.proofs.Places.{lies-left, lies-right, lies-part, lie
 use Rattle.formats.specs.Results.{done, refusal}
 use Rattle.formats.proofs.Results.{Outcome, gave, stopped, outcome, done-not}
 
--- 01: "A tree of n leaves takes 6n − 1 bytes."
+-- 01, Tokens: "A tree of n leaves takes 6n − 1 bytes."
 six-a-tip : (t : Tree) → suc (length (tokens t)) ≡ 6 * tips t
 unfolding tokens tips
 six-a-tip (leaf x) = ap (λ (n : ℕ). suc (suc n)) (length-bytesOf labelBytes x)

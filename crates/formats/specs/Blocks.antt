@@ -1,4 +1,4 @@
--- Document 01, "Program file": blocks, the file of flat records, and the reading of a file.
+-- 01, Program file: blocks, the file of flat records, and the reading of a file.
 use Prim.Native.Nat.{ℕ, zero, suc, _+_, _*_, _-_, _/_, _%_, _^_}
 use mathlib.Core.Bool.{Bool, true, false, _&&_}
 use mathlib.Core.List.{List, [], _∷_, _++_}
@@ -12,21 +12,21 @@ use Rattle.formats.specs.Records.{recordBytes}
 use Rattle.formats.specs.Programs.{Program}
 use Rattle.formats.specs.Rows.{readProgram}
 
--- 01: "Blocks of 512 bytes, 1 to 17."
+-- 01, Blocks: "Blocks of 512 bytes, 1 to 17."
 abbrev pub blockBytes : ℕ
 blockBytes = 512
 
 abbrev pub mostBlocks : ℕ
 mostBlocks = 17
 
--- 01: "Bytes 0–503: 63 records of 8 bytes."
+-- 01, Blocks: "Bytes 0–503: 63 records of 8 bytes."
 abbrev pub blockRecords : ℕ
 blockRecords = 63
 
 abbrev pub partBytes : ℕ
 partBytes = recordBytes * blockRecords
 
--- 01: "504–505: block number from 0. 506–507: records used .. 508–509: number of blocks."
+-- 01, Blocks: "504–505: block number from 0. 506–507: records used .. 508–509: number of blocks."
 abbrev pub numberPlace : ℕ
 numberPlace = 504
 
@@ -36,7 +36,7 @@ usedPlace = 506
 abbrev pub blocksPlace : ℕ
 blocksPlace = 508
 
--- 01: "510–511: check".
+-- 01, Blocks: "510–511: check".
 abbrev pub checkPlace : ℕ
 checkPlace = 510
 
@@ -46,7 +46,7 @@ wordSum [] = 0
 wordSum (low ∷ []) = 0
 wordSum (low ∷ (high ∷ s)) = numberOf (low ∷ high ∷ []) + wordSum s
 
--- 01: ".. so that the block's 256 16-bit words sum to 65,535 modulo 65,536."
+-- 01, Blocks: ".. so that the block's 256 16-bit words sum to 65,535 modulo 65,536."
 abbrev pub checkSum : ℕ
 checkSum = 65535
 
@@ -56,7 +56,8 @@ wordLimit = 2 ^ 16
 unfoldable pub checkWord : List ℕ → ℕ
 checkWord s = checkSum - wordSum s % wordLimit
 
--- The block with that number, of so many, whose used records are these. 01: "Unused records are zero."
+-- The block with that number, of so many, whose used records are these. 01, Blocks: "Unused records
+-- are zero."
 unfoldable pub blockBody : List ℕ → ℕ → ℕ → List ℕ
 blockBody part j blocks =
     part ++ (replicate (partBytes - length part) 0 ++ (bytesOf 2 j ++ (bytesOf 2 (length part / recordBytes) ++ bytesOf 2 blocks)))
@@ -64,7 +65,7 @@ blockBody part j blocks =
 unfoldable pub blockOf : List ℕ → ℕ → ℕ → List ℕ
 blockOf part j blocks = blockBody part j blocks ++ bytesOf 2 (checkWord (blockBody part j blocks))
 
--- So many blocks from number j on, with the flat records s. 01: "63 in all but the last".
+-- So many blocks from number j on, with the flat records s. 01, Blocks: "63 in all but the last".
 unfoldable pub blocksFrom : ℕ → ℕ → ℕ → List ℕ → List ℕ
 blocksFrom blocks zero j s = []
 blocksFrom blocks (suc n) j s = blockOf (take partBytes s) j blocks ++ blocksFrom blocks n (suc j) (drop partBytes s)
@@ -79,7 +80,7 @@ fileOf s = blocksFrom (blocksFor (length s)) (blocksFor (length s)) 0 s
 
 -- ---- the reading
 
--- 01: "1 length is not 1 to 17 whole blocks", at 0. The number of blocks.
+-- 01, The table of refusals: "1 length is not 1 to 17 whole blocks", at 0. The number of blocks.
 unfoldable pub lengthRow : List ℕ → Result ℕ
 lengthRow s =
     let n = length s / blockBytes in
@@ -90,7 +91,8 @@ unfoldable pub zeros : List ℕ → Bool
 zeros [] = true
 zeros (b ∷ s) = eqb b 0 && zeros s
 
--- 01: "records used, 1 to 63, 63 in all but the last", in the block with number j of so many.
+-- 01, Blocks: "records used, 1 to 63, 63 in all but the last", in the block with number j of so
+-- many.
 unfoldable pub usedFits : ℕ → ℕ → ℕ → Bool
 usedFits blocks j used = elim (ltb (suc j) blocks) [ true ↦ eqb used blockRecords | false ↦ leb 1 used && leb used blockRecords ]
 
@@ -102,7 +104,8 @@ fieldsFit blocks j block =
     && (eqb (numberAt 2 block blocksPlace) blocks
     && zeros (drop (recordBytes * numberAt 2 block usedPlace) (take partBytes block))))
 
--- 01: "2 check, then 3 other block fields or unused records", at the block. The records that it uses.
+-- 01, The order of the tests: "2 check, then 3 other block fields or unused records", at the block.
+-- The records that it uses.
 unfoldable pub usedOf : ℕ → ℕ → List ℕ → Result (List ℕ)
 usedOf blocks j block =
     elim (eqb (wordSum block % wordLimit) checkSum) [
@@ -113,7 +116,7 @@ usedOf blocks j block =
 unfoldable pub blockAt : ℕ → List ℕ → ℕ → Result (List ℕ)
 blockAt blocks s j = usedOf blocks j (take blockBytes (drop (blockBytes * j) s))
 
--- 01: "the two block tests go together block by block".
+-- 01, The order of the tests: "the two block tests go together block by block".
 unfoldable pub blockRow : ℕ → List ℕ → Result (List (List ℕ))
 blockRow blocks s = each (blockAt blocks s) blocks 0
 
@@ -138,13 +141,15 @@ programRecords r = onValue (λ program. r) (readProgram r)
 unfoldable pub readFile : List ℕ → Result (List ℕ)
 readFile s = andThen (flatIn s) programRecords
 
--- The file of flat records that are a program. 01: "The file writer takes records, applies rows header to prefix form".
+-- The file of flat records that are a program. 01, The file reader and the file writer: "The file
+-- writer takes records, applies rows header to prefix form".
 unfoldable pub writeFile : List ℕ → Result (List ℕ)
 writeFile r = onValue (λ program. fileOf r) (readProgram r)
 
 -- ---- into a lent buffer
 
--- 01: "13 code, file or work buffer too short", at 0: the bytes, where the buffer has room for them.
+-- 01, The table of refusals: "13 code, file or work buffer too short", at 0: the bytes, where the
+-- buffer has room for them.
 unfoldable pub within : ℕ → List ℕ → Result (List ℕ)
 within room bytes = check (leb (length bytes) room) spaceTooShort 0 bytes
 
@@ -160,7 +165,8 @@ readInto room s = andThen (readFile s) (within room)
 unfoldable pub writeInto : ℕ → List ℕ → Result (List ℕ)
 writeInto room r = andThen (writeFile r) (within room)
 
--- What the lent buffer then holds. 01: "A refusal leaves every output buffer untouched".
+-- What the lent buffer then holds. 01, What the lent buffers hold: "A refusal leaves every output
+-- buffer untouched".
 unfoldable pub lent : List ℕ → Result (List ℕ) → List ℕ
 lent before (done bytes) = written before 0 bytes
 lent before (refusal number place) = before

@@ -1,5 +1,5 @@
--- Document 01, the table of kinds: its column "code" as data, which a record read brings with it. What the instructions then are, with their addresses
--- and words: translation, Templates.
+-- 01, Templates: the column "code" as data, which a record read brings with it. What the
+-- instructions then are, with their addresses and words: translation, Templates.
 use Prim.Native.Nat.{ℕ, zero, suc}
 use mathlib.Core.List.{List, [], _∷_}
 use Rattle.formats.specs.Records.{Kind, Const, Var, Add, IfZero, Let, Leaf, Node, Case, Call}
@@ -39,7 +39,7 @@ pub record Template : Type 0 where
 abbrev pub onlyLast : List Item → Template
 onlyLast items = record { first = []; second = []; third = []; last = items }
 
--- 01's column "code", kind by kind: p and q (t, z and o for IfZero) are the parts.
+-- 01, Templates: the column "code", kind by kind: p and q (t, z and o for IfZero) are the parts.
 unfoldable pub templateOf : Kind → Template
 templateOf (Const i) = onlyLast (pushNumber i ∷ [])
 templateOf (Var a) = onlyLast (getName a ∷ [])

@@ -1,4 +1,4 @@
--- The formats of document 01, chapter by chapter.
+-- The formats of 01, Tokens and of 01, Program file.
 pub mod Numbers
 pub mod Places
 pub mod Written

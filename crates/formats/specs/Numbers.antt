@@ -10,7 +10,8 @@ use lib.IntN.{ℤ, pos, negsuc}
 abbrev pub Bytes : List ℕ → Type 0
 Bytes s = (i : ℕ) → getD s i 0 < 256
 
--- 01: "Numbers of several bytes stand low byte first." The bytes of n, as many as the width says.
+-- 01, Notation: "Numbers of several bytes stand low byte first." The bytes of n, as many as the
+-- width says.
 unfoldable pub bytesOf : ℕ → ℕ → List ℕ
 bytesOf zero n = []
 bytesOf (suc width) n = n % 256 ∷ bytesOf width (n / 256)
@@ -24,10 +25,11 @@ numberOf (b ∷ s) = b + 256 * numberOf s
 unfoldable pub numberAt : ℕ → List ℕ → ℕ → ℕ
 numberAt width s p = elim (leb (p + width) (length s)) [ true ↦ numberOf (take width (drop p s)) | false ↦ 0 ]
 
--- 01: "add (modulo 2^32)".
+-- 01, Opcodes: "add (modulo 2^32)".
 unfoldable pub sum32 : ℕ → ℕ → ℕ
 sum32 a b = (a + b) % 2 ^ 32
 
--- 01: "Labels, i and instruction numbers are two's complement." The number that a 32-bit word stands for.
+-- 01, Notation: "Labels, i and instruction numbers are two's complement." The number that a 32-bit
+-- word stands for.
 unfoldable pub signed32 : ℕ → ℤ
 signed32 w = elim (ltb w (2 ^ 31)) [ true ↦ pos w | false ↦ negsuc (2 ^ 32 - suc w) ]

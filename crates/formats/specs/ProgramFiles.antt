@@ -42,16 +42,16 @@ pub record Measured (s r : List ℕ) (program : Program) : Type 0 where
   pub few-functions : length (program .functions) ≤ mostFunctions
   pub some-node : 1 ≤ total (signatures program)
   pub few-nodes : total (signatures program) ≤ mostNodes
-  -- 01: "There are 1 + F + N records."
+  -- 01, Header: "There are 1 + F + N records."
   pub records : length r ≡ recordBytes * suc (length (program .functions) + total (signatures program))
   pub blocks : ℕ
   pub whole-blocks : length s ≡ blockBytes * blocks
   pub fewest : Fewest blocks (suc (length (program .functions) + total (signatures program)))
-  -- 01: "Blocks of 512 bytes, 1 to 17."
+  -- 01, Blocks: "Blocks of 512 bytes, 1 to 17."
   pub some-block : 1 ≤ blocks
   pub few-blocks : blocks ≤ mostBlocks
 
--- Document 01's program files, and the archive's "one file for one program".
+-- Program files (01, Program file), and the archive's "one file for one program".
 pub record ProgramFiles : Type 0 where
   -- What the reader accepts, written again from its records, is the same file, byte for byte.
   pub again : (s r : List ℕ) → Bytes s → readFile s ≡ done r → writeFile r ≡ done s

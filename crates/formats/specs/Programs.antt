@@ -1,4 +1,4 @@
--- Document 01, "Program file": programs as syntax trees, and their records.
+-- 01, Program file: programs as syntax trees, and their records.
 use Prim.Native.Nat.{ℕ, zero, suc, _+_, _^_, _≤_, _<_}
 use mathlib.Core.List.{List, [], _∷_, _++_, map}
 use mathlib.Core.Option.{none, some}
@@ -23,7 +23,7 @@ mutual
     noArgs : Args
     arg : Expr → Args → Args
 
--- 01: "in prefix order". An expression's records: its own, then its parts'.
+-- 01, Prefix order: "in prefix order". An expression's records: its own, then its parts'.
 unfoldable mutual
   pub prefix : Expr → List Kind
   prefix (const i) = Const i ∷ []
@@ -75,7 +75,8 @@ unfoldable pub countArgs : Args → ℕ
 countArgs noArgs = 0
 countArgs (arg x xs) = suc (countArgs xs)
 
--- 01: "Call .. its number arguments": each Call has as many as its function has number parameters.
+-- 01, Nine kinds of record: "Call .. its number arguments": each Call has as many as its function
+-- has number parameters.
 abbrev mutual
   pub Applied : (ℕ → ℕ) → Expr → Type 0
   Applied arity (const i) = Unit {0}
@@ -92,7 +93,7 @@ abbrev mutual
   AppliedArgs arity noArgs = Unit {0}
   AppliedArgs arity (arg x xs) = Applied arity x × AppliedArgs arity xs
 
--- 01: "byte 0 result (0 number, 1 tree)". The sort of a function.
+-- 01, Function records: "byte 0 result (0 number, 1 tree)". The sort of a function.
 pub data Sort : Type 0 where
   numberValued : Sort
   treeValued : Sort
@@ -101,8 +102,8 @@ unfoldable pub sortNumber : Sort → ℕ
 sortNumber numberValued = 0
 sortNumber treeValued = 1
 
--- 01: "F function records: byte 0 result .., byte 1 number parameters .., bytes 2–3 its node count". "Each function has besides one tree
--- parameter."
+-- 01, Function records: "F function records: byte 0 result .., byte 1 number parameters .., bytes
+-- 2–3 its node count". "Each function has besides one tree parameter."
 pub record Signature : Type 0 where
   pub sort : Sort
   pub parameters : ℕ
@@ -115,7 +116,7 @@ signatureRecord g = fields (sortNumber (g .sort)) (g .parameters) (g .count) 0
 unfoldable pub arityOf : List Signature → ℕ → ℕ
 arityOf gs b = elim (nth gs b) [ none ↦ 0 | some g ↦ g .parameters ]
 
--- 01: "the counts sum to N".
+-- 01, Function records: "the counts sum to N".
 unfoldable pub total : List Signature → ℕ
 total [] = 0
 total (g ∷ gs) = g .count + total gs
@@ -135,12 +136,14 @@ pub record Program : Type 0 where
 abbrev pub signatures : Program → List Signature
 signatures program = map signatureOf (program .functions)
 
--- The nodes of the functions. 01: "Then the nodes, function by function, in prefix order."
+-- The nodes of the functions. 01, Nine kinds of record: "Then the nodes, function by function, in
+-- prefix order."
 unfoldable pub nodes : List Function → List Kind
 nodes [] = []
 nodes (f ∷ fs) = prefix (f .body) ++ nodes fs
 
--- 01: "Record 0 is the header: byte 0 edition 1, byte 1 functions F .., bytes 2–3 nodes N .., rest zero."
+-- 01, Header: "Record 0 is the header: byte 0 edition 1, byte 1 functions F .., bytes 2–3 nodes N
+-- .., rest zero."
 pub record Header : Type 0 where
   pub edition : ℕ
   pub functions : ℕ
@@ -152,7 +155,7 @@ headerRecord h = fields (h .edition) (h .functions) (h .nodes) 0
 unfoldable pub headerOf : Program → Header
 headerOf program = record { edition = program .edition; functions = length (program .functions); nodes = total (signatures program) }
 
--- 01: "There are 1 + F + N records": the header, the function records, the nodes.
+-- 01, Header: "There are 1 + F + N records": the header, the function records, the nodes.
 unfoldable pub recordsOf : Program → List Record
 recordsOf program =
     headerRecord (headerOf program) ∷ (map signatureRecord (signatures program) ++ map fieldsOf (nodes (program .functions)))
@@ -172,7 +175,7 @@ mostFunctions = 32
 abbrev pub mostNodes : ℕ
 mostNodes = 1024
 
--- 01: "number parameters (0 to 4; function 0 has none)".
+-- 01, Function records: "number parameters (0 to 4; function 0 has none)".
 unfoldable pub mostParameters : ℕ → ℕ
 mostParameters zero = 0
 mostParameters (suc j) = 4
@@ -205,7 +208,7 @@ abbrev pub LawfulFunctions : List Signature → ℕ → List Function → Type 0
 LawfulFunctions gs j [] = Unit {0}
 LawfulFunctions gs j (f ∷ fs) = LawfulFunction gs j f × LawfulFunctions gs (suc j) fs
 
--- A program within the limits of document 01's "Program file".
+-- A program within the limits of 01, Lawful programs.
 pub record Lawful (program : Program) : Type 0 where
   pub edition : program .edition ≡ firstEdition
   pub some-function : 1 ≤ length (program .functions)

@@ -66,7 +66,7 @@ pub record TooDeep (s : List ℕ) (p : ℕ) : Type 0 where
   pub tag : Lies s p (nodeTag ∷ [])
   pub under : Due s p mostDepth
 
--- Document 01's tree reader, sentence by sentence.
+-- 01, The tree reader, sentence by sentence.
 pub record TreeReader : Type 0 where
   -- "A tree of n leaves takes 6n − 1 bytes."
   pub length-of-tokens : (t : Tree) → length (tokens t) ≡ 6 * tips t - 1

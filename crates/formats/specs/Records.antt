@@ -1,4 +1,4 @@
--- Document 01, "Program file": records and the nine kinds.
+-- 01, Program file: records and the nine kinds.
 use Prim.Native.Nat.{ℕ, zero, suc, _+_, _*_, _^_, _<_}
 use mathlib.Core.Bool.{Bool, true, _&&_}
 use mathlib.Core.List.{List, [], _∷_, _++_}
@@ -9,11 +9,11 @@ use Rattle.formats.specs.Numbers.{bytesOf, numberAt}
 use Rattle.formats.specs.Refusals.{nodeField}
 use Rattle.formats.specs.Results.{Result, refusal, check}
 
--- 01: "63 records of 8 bytes".
+-- 01, Blocks: "63 records of 8 bytes".
 abbrev pub recordBytes : ℕ
 recordBytes = 8
 
--- A record's fields. 01: "byte 0 (byte 1 is a, bytes 2–3 b, bytes 4–7 i ..)".
+-- A record's fields. 01, Program file: "byte 0 (byte 1 is a, bytes 2–3 b, bytes 4–7 i ..)".
 pub data Record : Type 0 where
   fields : ℕ → ℕ → ℕ → ℕ → Record
 
@@ -36,7 +36,8 @@ recordAt s k =
     let p = recordBytes * k in
     fields (getD s p 0) (getD s (p + 1) 0) (numberAt 2 s (p + 2)) (numberAt 4 s (p + 4))
 
--- 01: "Nine kinds of record". A kind with its operands, in the order of the table.
+-- 01, Nine kinds of record: "Nine kinds of record". A kind with its operands, in the order of the
+-- table.
 pub data Kind : Type 0 where
   -- i
   Const : ℕ → Kind
@@ -52,7 +53,7 @@ pub data Kind : Type 0 where
   -- a: tree name, b: function
   Call : ℕ → ℕ → Kind
 
--- 01: "by byte 0 (.. unused ones zero)". The fields of each kind's record.
+-- 01, Nine kinds of record: "by byte 0 (.. unused ones zero)". The fields of each kind's record.
 unfoldable pub fieldsOf : Kind → Record
 fieldsOf (Const i) = fields 0 0 0 i
 fieldsOf (Var a) = fields 1 a 0 0
@@ -92,8 +93,9 @@ below functions Leaf = true
 below functions Node = true
 below functions (Case a) = true
 
--- 01: "A record read is its kind with its operands, or a refusal with its place." A node record whose number is k.
--- 01: "6 kind above 8, unused field not zero, b not below F". Unused fields are zero where the record is the one that its kind has.
+-- 01, Nine kinds of record: "A record read is its kind with its operands, or a refusal with its
+-- place." A node record whose number is k. 01, The table of refusals: "6 kind above 8, unused field
+-- not zero, b not below F". Unused fields are zero where the record is the one that its kind has.
 unfoldable pub nodeRecord : ℕ → ℕ → ℕ → Record → Result Kind
 nodeRecord edition functions k r =
     elim (kindOf edition r) [
@@ -101,9 +103,10 @@ nodeRecord edition functions k r =
       | some kind ↦ check (same (fieldsOf kind) r && below functions kind) nodeField k kind
     ]
 
--- A part: what is expected of it, and what more is named in it. 01: "Add's parts, tests, Let's first part, Leaf's part and arguments are numbers;
--- Node's parts are trees; other parts take the type expected of the whole." "Let's body and Case's leaf part add one number name, Case's node part two
--- tree names, left first."
+-- A part: what is expected of it, and what more is named in it. 01, Pass one: "Add's parts, tests,
+-- Let's first part, Leaf's part and arguments are numbers; Node's parts are trees; other parts take
+-- the type expected of the whole." 01, Names: "Let's body and Case's leaf part add one number name,
+-- Case's node part two tree names, left first."
 pub data Part : Type 0 where
   -- A number is expected. Before number part i stand i numbers, each on a word of its own.
   aNumber : Part

@@ -1,4 +1,4 @@
--- The numbers of document 01's table, "Where each refusal arises", each with its condition.
+-- 01, The table of refusals: the numbers, each with its condition.
 use Prim.Native.Nat.{ℕ}
 
 -- the file's length is not 1 to 17 whole blocks

@@ -1,5 +1,6 @@
--- Document 01, "Where each refusal arises": the rows header, functions, nodes and prefix form over flat records. "A check row is finished for the
--- whole file before the next begins."
+-- 01, Where each refusal arises: the rows header, functions, nodes and prefix form over flat
+-- records. 01, The order of the tests: "A check row is finished for the whole file before the next
+-- begins."
 use Prim.Native.Nat.{ℕ, zero, suc, _+_, _*_}
 use mathlib.Core.Bool.{_&&_}
 use mathlib.Core.List.{List, [], _∷_}
@@ -12,7 +13,8 @@ use Rattle.formats.specs.Records.{Record, fields, recordBytes, recordAt,
 use Rattle.formats.specs.Programs.{Expr, const, var, add, ifZero, letIn, leafOf, nodeOf, caseOf, call, Args, noArgs, arg}
 use Rattle.formats.specs.Programs.{Sort, numberValued, treeValued, Signature, arityOf, total, Function, Program, Header, firstEdition, mostFunctions, mostNodes, mostParameters}
 
--- 01: "4 a field, or the record count", at record 0. So many bytes of flat records begin with these fields.
+-- 01, The table of refusals: "4 a field, or the record count", at record 0. So many bytes of flat
+-- records begin with these fields.
 unfoldable pub headerFrom : ℕ → Record → Result Header
 headerFrom bytes (fields edition f n i) =
     check
@@ -33,7 +35,7 @@ headerIn s = elim (recordAt s 0) [ fields edition f n i ↦ record { edition = e
 unfoldable pub sorts : ℕ → List Sort
 sorts edition = numberValued ∷ treeValued ∷ []
 
--- 01: "5 a field", at the record, for function j.
+-- 01, The table of refusals: "5 a field", at the record, for function j.
 unfoldable pub functionFrom : ℕ → ℕ → Record → Result Signature
 functionFrom edition j (fields x a n i) =
     elim (nth (sorts edition) x) [
@@ -49,24 +51,26 @@ functionAt edition s j = functionFrom edition j (recordAt s (suc j))
 unfoldable pub functionIn : List ℕ → ℕ → Result Signature
 functionIn s j = functionAt (headerIn s .edition) s j
 
--- The fields of function j's record, right or not. 01: "byte 0 result (0 number, 1 tree)": the number of its sort ..
+-- The fields of function j's record, right or not. 01, Function records: "byte 0 result (0 number,
+-- 1 tree)": the number of its sort ..
 unfoldable pub sortIn : List ℕ → ℕ → ℕ
 sortIn s j = elim (recordAt s (suc j)) [ fields x a n i ↦ x ]
 
--- .. 01: "byte 1 number parameters" ..
+-- .. 01, Function records: "byte 1 number parameters" ..
 unfoldable pub arityIn : List ℕ → ℕ → ℕ
 arityIn s j = elim (recordAt s (suc j)) [ fields x a n i ↦ a ]
 
--- .. 01: "bytes 2–3 its node count".
+-- .. 01, Function records: "bytes 2–3 its node count".
 unfoldable pub countIn : List ℕ → ℕ → ℕ
 countIn s j = elim (recordAt s (suc j)) [ fields x a n i ↦ n ]
 
--- 01: "a wrong sum of counts at the last one". It is looked at once all fields are right.
+-- 01, The table of refusals: "a wrong sum of counts at the last one". It is looked at once all
+-- fields are right.
 unfoldable pub functionRow : Header → List ℕ → Result (List Signature)
 functionRow h s =
     andThen (each (functionAt (h .edition) s) (h .functions) 0) (λ gs. check (eqb (total gs) (h .nodes)) functionField (h .functions) gs)
 
--- 01: "6 ..", at the record.
+-- 01, The table of refusals: "6 ..", at the record.
 unfoldable pub nodeAt : Header → List ℕ → ℕ → Result Kind
 nodeAt h s k = nodeRecord (h .edition) (h .functions) k (recordAt s k)
 
@@ -106,7 +110,8 @@ unfoldable pub exprsOf : (ℕ → ℕ) → List Kind → Option (List Expr)
 exprsOf arity [] = some []
 exprsOf arity (k ∷ ks) = elim (exprsOf arity ks) [ none ↦ none | some es ↦ build arity k es ]
 
--- 01: "7 a function's records aren't exactly one expression", at "its first node's record".
+-- 01, The table of refusals: "7 a function's records aren't exactly one expression", at "its first
+-- node's record".
 unfoldable pub exactlyOne : ℕ → Option (List Expr) → Result Expr
 exactlyOne r none = refusal prefixForm r
 exactlyOne r (some []) = refusal prefixForm r

@@ -1,4 +1,4 @@
--- Document 01, "Tokens": trees, their tokens, and the reading of the first tree of a buffer.
+-- 01, Tokens: trees, their tokens, and the reading of the first tree of a buffer.
 use Prim.Native.Nat.{ℕ, zero, suc, _+_, _^_, _<_, max}
 use mathlib.Core.Bool.{true, false}
 use mathlib.Core.List.{List, [], _∷_, _++_}
@@ -28,7 +28,7 @@ unfoldable pub depth : Tree → ℕ
 depth (leaf x) = 0
 depth (node l r) = suc (max (depth l) (depth r))
 
--- 01: "A leaf is byte 1, then its label, 4 bytes" ..
+-- 01, Tokens: "A leaf is byte 1, then its label, 4 bytes" ..
 abbrev pub leafTag : ℕ
 leafTag = 1
 
@@ -38,7 +38,7 @@ labelBytes = 4
 abbrev pub leafBytes : ℕ
 leafBytes = suc labelBytes
 
--- 01: "A node is byte 2, then its left and right trees."
+-- 01, Tokens: "A node is byte 2, then its left and right trees."
 abbrev pub nodeTag : ℕ
 nodeTag = 2
 
@@ -46,7 +46,8 @@ unfoldable pub tokens : Tree → List ℕ
 tokens (leaf x) = leafTag ∷ bytesOf labelBytes x
 tokens (node l r) = nodeTag ∷ (tokens l ++ tokens r)
 
--- 01: "A node tag under 1,024 others is refused; a leaf under 1,024 nodes is read."
+-- 01, The tree reader: "A node tag under 1,024 others is refused; a leaf under 1,024 nodes is
+-- read."
 abbrev pub mostDepth : ℕ
 mostDepth = 1024
 
@@ -60,7 +61,8 @@ tagOf b = elim (eqb b leafTag) [ true ↦ aLeaf | false ↦ elim (eqb b nodeTag)
 unfoldable pub tagAt : List ℕ → ℕ → Tag
 tagAt s p = elim (ltb p (length s)) [ true ↦ tagOf (getD s p 0) | false ↦ ended ]
 
--- A leaf whose label begins at p. 01: "for 15 the start of the tag or label not whole".
+-- A leaf whose label begins at p. 01, The tree reader: "for 15 the start of the tag or label not
+-- whole".
 unfoldable pub labelAt : List ℕ → ℕ → Result Tree
 labelAt s p = elim (leb (p + labelBytes) (length s)) [ true ↦ done (leaf (numberAt labelBytes s p)) | false ↦ refusal inputEnded p ]
 
@@ -78,21 +80,23 @@ byTag s p below =
       | other ↦ refusal notATag p
     ]
 
--- The tree that begins at p, with room for so many nodes above its leaves. 01: "A tree's end is found by recursion on its two parts."
+-- The tree that begins at p, with room for so many nodes above its leaves. 01, The tree reader: "A
+-- tree's end is found by recursion on its two parts."
 unfoldable pub treeAt : ℕ → List ℕ → ℕ → Result Tree
 treeAt zero s p = byTag s p (λ q. refusal tooDeep q)
 treeAt (suc room) s p = byTag s p (λ q. partsAt (λ o. treeAt room s o) (suc q))
 
--- 01: "The tree reader takes the first tree of a buffer".
+-- 01, The tree reader: "The tree reader takes the first tree of a buffer".
 unfoldable pub firstTree : List ℕ → Result Tree
 firstTree s = treeAt mostDepth s 0
 
--- 01: ".. and hands back the tree's own bytes .., empty on a refusal".
+-- 01, The tree reader: ".. and hands back the tree's own bytes .., empty on a refusal".
 unfoldable pub ownBytes : Result Tree → List ℕ
 ownBytes (done t) = tokens t
 ownBytes (refusal number q) = []
 
--- 01: "which a call beside it names with its place". Where the tree ends that was read from p on, or the refusal.
+-- 01, The tree reader: "which a call beside it names with its place". Where the tree ends that was
+-- read from p on, or the refusal.
 unfoldable pub endFrom : ℕ → Result Tree → Result ℕ
 endFrom p (done t) = done (p + length (tokens t))
 endFrom p (refusal number q) = refusal number q

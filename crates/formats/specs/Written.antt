@@ -7,8 +7,8 @@ use mathlib.Core.Path.{_≡_}
 use lib.ListN.{length, getD, take, drop}
 use lib.Dec.{leb}
 
--- vs written at place p of s, and the rest of s untouched; all of s is untouched where vs does not fit.
--- (01: "Four bytes are read or written together or none.")
+-- vs written at place p of s, and the rest of s untouched; all of s is untouched where vs does not
+-- fit. (01, Notation: "Four bytes are read or written together or none.")
 unfoldable pub written : List ℕ → ℕ → List ℕ → List ℕ
 written s p vs = elim (leb (p + length vs) (length s)) [ true ↦ take p s ++ (vs ++ drop (p + length vs) s) | false ↦ s ]
 

@@ -9,7 +9,7 @@ use Rattle.translation.specs.Listing.{line as aLine}
 use Rattle.translation.specs.Listing.{Line as LineOfListing}
 use Rattle.listing.specs.declared.Line.{Line}
 
--- The longest code. 01: "At most 4,128 instructions".
+-- The longest code. 01, Limits: "At most 4,128 instructions".
 abbrev pub mostCode : ℕ
 mostCode = instructionBytes * mostInstructions
 

@@ -52,7 +52,7 @@ pub ruleset leaves = (left-first, left-back)
 -- ---- `call`
 
 module _ (entry n : ℕ) (places : List ℕ) (s : Machine) where
-  -- 01: "19 .. (.. missing .. words)"
+  -- 01, Instructions that cannot be performed: "19 .. (.. missing .. words)"
   pub call-few : (r : Machine) → s .top - s .base < n → r ≡ stoppedBy cannotPerform s → OnPlaces (Call entry n) places places s r
   unfolding operate
   call-few r few e =
@@ -69,7 +69,7 @@ module _ (entry n : ℕ) (places : List ℕ) (s : Machine) where
     unfolding operate
     calls m values output = rw (operate, length-words, le-leb n (s .top - s .base) there)
 
-    -- 01: "18 a call with 1,024 open"
+    -- 01, The table of refusals: "18 a call with 1,024 open"
     pub call-deep : (r : Machine) → returnWords - 2 ≤ s .saved → r ≡ stoppedBy tooManyCalls s → OnPlaces (Call entry n) places places s r
     unfolding call opened
     call-deep r deep e =
@@ -217,7 +217,7 @@ module _ (m : Setting) (values values′ places output words : List ℕ) (addres
       (h .read-there) (h .written-there))
       (cut .same-length) refl refl refl)
 
--- 01: "0 or 1 words kept"
+-- 01, Opcodes: "0 or 1 words kept"
 kept-more : (k : ℕ) (frame : List ℕ) → k ≢ 0 → k ≢ 1 → kept k frame ≡ none
 unfolding kept
 kept-more zero frame h g = absurd (h refl)
@@ -257,7 +257,7 @@ module _ (k : ℕ) (places values : List ℕ) (s r : Machine) where
   pub return-more : k ≢ 0 → k ≢ 1 → r ≡ stoppedBy cannotPerform s → FromPlaces (Return k) places values values s r
   return-more h g e = gives-none (kept-more k (frameOf values s) h g) e
 
-  -- 01: "19 .. (.. missing .. words)"
+  -- 01, Instructions that cannot be performed: "19 .. (.. missing .. words)"
   pub return-empty : k ≡ 1 → s .top ≤ s .base → r ≡ stoppedBy cannotPerform s → FromPlaces (Return k) places values values s r
   unfolding kept wordsFrom
   return-empty is empty e = let no-word : s .top - s .base ≡ 0 = omega arith in gives-none (rw (is, no-word)) e

@@ -58,7 +58,7 @@ pub held-moved :
 held-moved m values places output values′ output′ s address top read written h lv lo based topped there fits =
     held-as m values places output values′ places output′ s _ h lv refl lo based topped (h .saved-fits) (h .chained) there fits
 
--- 01: "A refused instruction .. changes nothing."
+-- 01, Fuel and units: "A refused instruction .. changes nothing."
 pub refused-so :
     (m : Setting) (due : Step) (values places output : List ℕ) (s r : Machine) (why : ℕ)
     → r ≡ stoppedBy why s

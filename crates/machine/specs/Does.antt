@@ -1,5 +1,6 @@
--- What the machine's functions do: an operation of document 01, on the state that the lent buffers and the machine's numbers stand for. A function is
--- lent only the buffers that it looks at; what it does is said for whatever the others hold.
+-- What the machine's functions do: an operation of 01, Opcodes, on the state that the lent buffers
+-- and the machine's numbers stand for. A function is lent only the buffers that it looks at; what
+-- it does is said for whatever the others hold.
 use Prim.Native.Nat.{ℕ}
 use mathlib.Core.List.{List, [], _∷_}
 use mathlib.Core.Logic.{_≢_}

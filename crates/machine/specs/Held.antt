@@ -90,7 +90,7 @@ pub record Held (m : Setting) (values places output : List ℕ) (s : Machine) : 
   pub read-there : s .read ≤ length (m .input)
   pub written-there : s .written ≤ length output
 
--- The buffers hold what the machine's numbers and document 01 ask of them.
+-- The buffers hold what the machine's numbers and 01, Work words, ask of them.
 pub record Lent (s : Machine) (input output values places : List ℕ) : Type 0 where
   pub values-lent : valueWords ≤ length values
   pub places-lent : returnWords ≤ length places

@@ -14,7 +14,7 @@ use Rattle.machine.specs.Held.{frameOf, hasEnded}
 use Rattle.machine.specs.declared.Machine.{Machine}
 use Rattle.machine.specs.declared.Answer.{Answer}
 
--- The answer, as document 01 has it.
+-- The answer, as 01, The answer of a stream run, has it.
 abbrev pub answered : Answer → Due
 answered a =
     record { outcome = said (a .verdict); units = a .units; bytesRead = a .read; bytesWritten = a .written; number = a .number }

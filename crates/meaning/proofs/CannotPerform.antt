@@ -329,7 +329,8 @@ module _ (m : Setting) (s : State) where
 
 -- ---- closed cases
 
--- One operation as code, with document 01's limits, no input and no output: whatever reads or writes is refused with 15 or 17.
+-- One operation as code, with the limits of 01, Limits, no input and no output: whatever reads or
+-- writes is refused with 15 or 17.
 alone : Operation → Setting
 alone op = ofCode (bytesOfRecord (instructionOf op)) [] 0
 

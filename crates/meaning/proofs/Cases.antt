@@ -17,7 +17,7 @@ use Rattle.meaning.specs.Running.{ofCode, Ran, Run, run, unitsOf, outcom
 codeOf : List Operation → List ℕ
 codeOf ops = flat (map instructionOf ops)
 
--- 01, "Worked programs": Grow's code.
+-- 01, Worked programs: Grow's code.
 grow-operations : List Operation
 grow-operations =
     ReadTag 9 ∷ ReadNumber ∷ LeafTag ∷ Get 0 ∷ Push 1 ∷ Add ∷ WriteNumber ∷ Drop ∷ Jump 12 ∷ NodeTag ∷ Call 0 0 ∷ Call 0 0 ∷ Return 0 ∷ []
@@ -34,7 +34,7 @@ unfoldable pub blank : ℕ → List ℕ
 blank zero = []
 blank (suc n) = 255 ∷ blank n
 
--- A call with the work space that document 01 asks for.
+-- A call with the work space of 01, Work words.
 record Row : Type 0 where
   code : List ℕ
   input : List ℕ
@@ -67,9 +67,10 @@ grown = 2 ∷ 1 ∷ 6 ∷ 0 ∷ 0 ∷ 0 ∷ 1 ∷ 8 ∷ 0 ∷ 0 ∷ 0 ∷ []
 on-grow : (input : List ℕ) (fuel space : ℕ) → Ran → Row
 on-grow input fuel space gives = record { code = grow; input = input; fuel = fuel; space = space; gives = gives }
 
--- 01: "Grow on T, fuel 25: ends, labels 6 and 8, units 25. fuel 24: 14, read 11, written 11. fuel 2: 14, read 1, written 1. fuel 0: 14, read 0."
--- "output of 10 bytes: 17, read 11, written 7." "empty input, fuel 1: 15, units 0. 01 05 00 00: 15, read 1. 03: 16, read 0."
--- "Call 0 on 0 ..; fuel 1,023 gives 14, 1,024 gives 18."
+-- 01, Worked programs: "Grow on T, fuel 25: ends, labels 6 and 8, units 25. fuel 24: 14, read 11,
+-- written 11. fuel 2: 14, read 1, written 1. fuel 0: 14, read 0." "output of 10 bytes: 17, read 11,
+-- written 7." "empty input, fuel 1: 15, units 0. 01 05 00 00: 15, read 1. 03: 16, read 0." "Call 0
+-- on 0 ..; fuel 1,023 gives 14, 1,024 gives 18."
 worked : List Row
 worked =
     on-grow two-leaves 25 12 (ended-with 25 11 0 grown (blank 1))
@@ -208,7 +209,8 @@ full-stack = refl
 long : List ℕ
 long = codeOf (Jump 4127 ∷ []) ++ (replicate 33008 ++ codeOf (LeafTag ∷ Return 0 ∷ []))
 
--- 01: "an address from 4,128 up .. holds no instruction and gives 19", also where 8 bytes of the buffer stand there. That at 4,127 is performed.
+-- 01, Instructions: "an address from 4,128 up .. holds no instruction and gives 19", also where 8
+-- bytes of the buffer stand there. That at 4,127 is performed.
 long-buffer : streamRun long [] (blank 6) 20 valueWords returnWords ≡ refused-with 19 2 0 (1 ∷ []) (blank 5)
 unfolding streamRun run step perform operate heldBy operationOf operations instructionOf nth recordAt flat bytesOfRecord bytesOf numberOf numberAt written write kept numberKept leave outcomeOf numberTold long replicate blank codeOf refused-with
 long-buffer = refl
@@ -232,7 +234,8 @@ with-others ReadNumber = fields 11 7 513 9
 with-others (Call entry n) = fields 12 n entry 9
 with-others (Return k) = fields 13 k 513 9
 
--- 01: "Unused fields are .. not looked at." The runs are those of the same code with zeros there. Each opcode is performed.
+-- 01, Instructions: "Unused fields are .. not looked at." The runs are those of the same code with
+-- zeros there. Each opcode is performed.
 others-set : List Row
 others-set =
     record { code = flat (map with-others grow-operations); input = two-leaves; fuel = 25; space = 12; gives = ended-with 25 11 0 grown (blank 1) }
@@ -249,8 +252,9 @@ unused-fields = refl
 lending : (values returns : ℕ) (code : List ℕ) (fuel : ℕ) → Ran
 lending values returns code fuel = streamRun code [] (blank 6) fuel values returns
 
--- 01: "The runs test 13 before tree or fuel." "Fuel is looked at first." Too few value words, or return words, without fuel or code and with both; no fuel;
--- no code; then a run that ends, with just enough words and with more.
+-- 01, The order of the tests: "The runs test 13 before tree or fuel." 01, Fuel and units: "Fuel is
+-- looked at first." Too few value words, or return words, without fuel or code and with both; no
+-- fuel; no code; then a run that ends, with just enough words and with more.
 first-refusal :
     lending 16383 2048 [] 0
     ∷ lending 16384 2047 [] 0

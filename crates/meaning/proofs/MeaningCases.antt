@@ -25,7 +25,7 @@ with-two body helper = programOf (numbered body ∷ record { sort = numberValued
 unfoldable pub on-two : ℕ → Expr → Expr → Expr
 on-two a x y = call a 1 (arg x (arg y noArgs))
 
--- 01, "Worked programs": "Call 0 on 0"; "Sum (Case 0, Var 0, Add, Call 0 on 1, Call 0 on 2)".
+-- 01, Worked programs: "Call 0 on 0"; "Sum (Case 0, Var 0, Add, Call 0 on 1, Call 0 on 2)".
 unfoldable pub again : Program
 again = programOf (numbered (on 0 0) ∷ [])
 

@@ -1,4 +1,4 @@
--- Closed cases of document 000's reductions: a redex for each rule, and what it becomes.
+-- Closed cases of the reductions of 000, Figure 3: a redex for each rule, and what it becomes.
 use Rattle.formats.specs.Numbers.{sum32}
 use Rattle.formats.specs.Records.{nth}
 use Rattle.formats.specs.Programs.{Function}

@@ -94,7 +94,7 @@ module _ (m : Setting) (s : State) where
 
 -- ---- closed cases
 
--- One operation as code, with document 01's limits.
+-- One operation as code, with the limits of 01, Limits.
 alone-with : Operation → List ℕ → ℕ → Setting
 alone-with op input space = ofCode (bytesOfRecord (instructionOf op)) input space
 

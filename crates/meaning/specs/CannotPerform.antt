@@ -1,5 +1,7 @@
--- Document 01, the refusal table: "19 instruction that can't be performed (opcode, address, return byte, missing or surplus words)". One rule for each
--- of these. None of them looks at the input, the output or how many calls are open, and none refers to how an instruction is performed.
+-- 01, Instructions that cannot be performed: "19 instruction that can't be performed (opcode,
+-- address, return byte, missing or surplus words)". One rule for each of these. None of them looks
+-- at the input, the output or how many calls are open, and none refers to how an instruction is
+-- performed.
 --
 -- The theorem is StreamRun.antt, `OneStep.cannot-first`: an instruction is refused with 19 exactly where one of these rules holds.
 use Prim.Native.Nat.{ℕ, suc, _+_, _<_}
@@ -10,7 +12,7 @@ use Rattle.formats.specs.Records.{fields}
 use Rattle.meaning.specs.Instructions.{Instruction, Operation, Push, Get, Add, Ifnot, Jump, Slide, Drop, LeafTag, NodeTag, WriteNumber, ReadTag, ReadNumber, Call, Return, operationOf}
 use Rattle.meaning.specs.Performing.{Setting, State, standing}
 
--- 01: "opcodes 0 to 13".
+-- 01, Opcodes: "opcodes 0 to 13".
 abbrev pub lastOpcode : ℕ
 lastOpcode = 13
 

@@ -1,7 +1,8 @@
--- Document 01, "The source evaluation": what a program means. "This is document 000's, without fuel or limits; it is fed a program's records and a
--- tree." "Nothing is refused."
+-- 01, The source evaluation: what a program means. "This is document 000's, without fuel or limits;
+-- it is fed a program's records and a tree." "Nothing is refused."
 --
--- What holds of it stands in Meaning.antt: among others that it gives the value that document 000's reductions (Reductions.antt) lead to.
+-- What holds of it stands in Meaning.antt: among others that it gives the value that the reductions
+-- of 000, Figure 3 (Reductions.antt) lead to.
 use Prim.Native.Nat.{ℕ, zero, suc, _+_, max}
 use mathlib.Core.List.{List, [], _∷_}
 use mathlib.Core.Option.{Option, some}
@@ -21,31 +22,32 @@ pub record Environment : Type 0 where
   pub numbers : List ℕ
   pub trees : List Tree
 
--- 01: "Names count from 0 along the path".
+-- 01, Names: "Names count from 0 along the path".
 abbrev pub numberNamed : Environment → ℕ → Option ℕ
 numberNamed E a = atLevel (E .numbers) a
 
 abbrev pub treeNamed : Environment → ℕ → Option Tree
 treeNamed E a = atLevel (E .trees) a
 
--- 01: "Let's body and Case's leaf part add one number name".
+-- 01, Names: "Let's body and Case's leaf part add one number name".
 abbrev pub withNumber : ℕ → Environment → Environment
 withNumber i E = record { numbers = i ∷ E .numbers; trees = E .trees }
 
--- 01: "Case's node part two tree names, left first".
+-- 01, Names: "Case's node part two tree names, left first".
 abbrev pub withTrees : Tree → Tree → Environment → Environment
 withTrees l r E = record { numbers = E .numbers; trees = r ∷ (l ∷ E .trees) }
 
--- 01: "with these numbers and the named tree alone".
+-- 01, The source evaluation: "with these numbers and the named tree alone".
 abbrev pub inCall : List ℕ → Tree → Environment
 inCall numbers t = record { numbers = numbers; trees = t ∷ [] }
 
--- 01: "IfZero takes its zero part on 0, else the other".
+-- 01, Let and IfZero: "IfZero takes its zero part on 0, else the other".
 unfoldable pub picked : ℕ → Expr → Expr → Expr
 picked zero z o = z
 picked (suc i) z o = o
 
--- 01: "Case, by its tree, takes the leaf part with the label named, or the node part with the two trees named."
+-- 01, The source evaluation: "Case, by its tree, takes the leaf part with the label named, or the
+-- node part with the two trees named."
 unfoldable pub branch : Tree → Expr → Expr → Expr
 branch (leaf x) p q = p
 branch (node l r) p q = q
@@ -54,8 +56,10 @@ unfoldable pub inBranch : Tree → Environment → Environment
 inBranch (leaf x) E = withNumber x E
 inBranch (node l r) E = withTrees l r E
 
--- `Takes program E e o n v`: in the environment E, e has the value v; n expressions begin, e among them; at most o calls are open at once, the one that
--- e stands in among them. 01: "Each expression begun adds 1; to take a part is to begin it and find its value." A rule for each kind of record:
+-- `Takes program E e o n v`: in the environment E, e has the value v; n expressions begin, e among
+-- them; at most o calls are open at once, the one that e stands in among them. 01, The source
+-- evaluation: "Each expression begun adds 1; to take a part is to begin it and find its value." A
+-- rule for each kind of record:
 mutual
   pub data Takes (program : Program) : Environment → Expr → ℕ → ℕ → Value → Type 0 where
     -- "Const gives i"
@@ -112,26 +116,28 @@ mutual
         → TakesArgs program E xs o m (i ∷ before) after
         → TakesArgs program E (arg x xs) o (n + m) before after
 
--- 01: "It starts in function 0's body, the tree being tree 0, with 0 expressions begun and 1 call open." "It ends where finitely many expressions
--- begin, n in all; the result is function 0's value". With at most o calls open at once, the first included.
+-- 01, The source evaluation: "It starts in function 0's body, the tree being tree 0, with 0
+-- expressions begun and 1 call open." "It ends where finitely many expressions begin, n in all; the
+-- result is function 0's value". With at most o calls open at once, the first included.
 pub record Ends (program : Program) (t : Tree) (o n : ℕ) (v : Value) : Type 0 where
   pub first : Function
   pub is-first : nth (program .functions) 0 ≡ some first
   pub takes : Takes program (inCall [] t) (first .body) o n v
 
--- 01: "its bytes the tokens, none for a number".
+-- 01, The source evaluation: "its bytes the tokens, none for a number".
 unfoldable pub resultBytes : Value → List ℕ
 resultBytes (number i) = []
 resultBytes (tree t) = tokens t
 
--- 01: "the number (0 for a tree ..)".
+-- 01, The answer of a stream run: "the number (0 for a tree ..)".
 unfoldable pub resultNumber : Value → ℕ
 resultNumber (number i) = i
 resultNumber (tree t) = 0
 
 -- ---- counted along a derivation
 
--- 01, the table's column "units": what a record spends by the part that it takes. IfZero: "2 zero, 1 other".
+-- 01, Templates: the column "units". What a record spends by the part that it takes. IfZero: "2
+-- zero, 1 other".
 unfoldable pub ifZeroUnits : ℕ → ℕ
 ifZeroUnits zero = 2
 ifZeroUnits (suc i) = 1

@@ -1,4 +1,4 @@
--- Document 01, "Code and the stream run": instructions, and what an address holds.
+-- 01, Code and the stream run: instructions, and what an address holds.
 use Prim.Native.Nat.{ℕ, _+_, _*_}
 use mathlib.Core.Bool.{true, false, _&&_}
 use mathlib.Core.List.{List, [], _∷_}
@@ -7,19 +7,20 @@ use lib.ListN.{length}
 use lib.Dec.{ltb, leb}
 use Rattle.formats.specs.Records.{Record, fields, recordAt, nth}
 
--- 01: "An instruction has 8 bytes: opcode; byte 1; operand in 2–3; number in 4–7." Its fields lie as a record's do, so `fields` and `recordAt` are
--- those of records: opcode, byte 1, operand, number.
+-- 01, Instructions: "An instruction has 8 bytes: opcode; byte 1; operand in 2–3; number in 4–7."
+-- Its fields lie as a record's do, so `fields` and `recordAt` are those of records: opcode, byte 1,
+-- operand, number.
 abbrev pub Instruction : Type 0
 Instruction = Record
 
 abbrev pub instructionBytes : ℕ
 instructionBytes = 8
 
--- 01: "At most 4,128 instructions."
+-- 01, Limits: "At most 4,128 instructions."
 abbrev pub mostInstructions : ℕ
 mostInstructions = 4128
 
--- 01: "an address from 4,128 up, or without 8 whole bytes, holds no instruction".
+-- 01, Instructions: "an address from 4,128 up, or without 8 whole bytes, holds no instruction".
 unfoldable pub heldBy : List ℕ → ℕ → Option Instruction
 heldBy code a =
     elim (ltb a mostInstructions && leb (instructionBytes * a + instructionBytes) (length code)) [
@@ -51,18 +52,21 @@ pub data Operation : Type 0 where
   -- how many words are kept
   Return : ℕ → Operation
 
--- 01: "0 push, 1 get (operand: word above the base), 2 add, 3 ifnot (.. goes to operand), 4 jump, 5 slide, 6 drop, 7 leaf tag, 8 node tag, 9 write
--- number, 10 read tag (.. goes to operand), 11 read number, 12 call (operand: entry; byte 1: arguments ..), 13 return (byte 1: .. words kept ..)".
+-- 01, Opcodes: "0 push, 1 get (operand: word above the base), 2 add, 3 ifnot (.. goes to operand),
+-- 4 jump, 5 slide, 6 drop, 7 leaf tag, 8 node tag, 9 write number, 10 read tag (.. goes to
+-- operand), 11 read number, 12 call (operand: entry; byte 1: arguments ..), 13 return (byte 1: ..
+-- words kept ..)".
 unfoldable pub operations : ℕ → ℕ → ℕ → List Operation
 operations byte1 operand number =
     Push number ∷ Get operand ∷ Add ∷ Ifnot operand ∷ Jump operand ∷ Slide ∷ Drop ∷ LeafTag ∷ NodeTag ∷ WriteNumber ∷ ReadTag operand ∷ ReadNumber
     ∷ Call operand byte1 ∷ Return byte1 ∷ []
 
--- The operation that the opcode names, if it is 0 to 13. 01: "Unused fields are .. not looked at."
+-- The operation that the opcode names, if it is 0 to 13. 01, Instructions: "Unused fields are ..
+-- not looked at."
 unfoldable pub operationOf : Instruction → Option Operation
 operationOf (fields opcode byte1 operand number) = nth (operations byte1 operand number) opcode
 
--- 01: "Unused fields are written zero". The instruction of each operation.
+-- 01, Instructions: "Unused fields are written zero". The instruction of each operation.
 unfoldable pub instructionOf : Operation → Instruction
 instructionOf (Push n) = fields 0 0 0 n
 instructionOf (Get k) = fields 1 0 k 0
@@ -79,9 +83,10 @@ instructionOf ReadNumber = fields 11 0 0 0
 instructionOf (Call entry n) = fields 12 n entry 0
 instructionOf (Return k) = fields 13 k 0 0
 
--- For each opcode, 0 to 13, the instruction with its unused fields zero. 01: "0 push, 1 get (operand ..), 2 add, 3 ifnot (.. operand), 4 jump, 5 slide,
--- 6 drop, 7 leaf tag, 8 node tag, 9 write number, 10 read tag (.. operand), 11 read number, 12 call (operand ..; byte 1 ..), 13 return (byte 1 ..)". A
--- push uses its number, a jump its operand.
+-- For each opcode, 0 to 13, the instruction with its unused fields zero. 01, Opcodes: "0 push, 1
+-- get (operand ..), 2 add, 3 ifnot (.. operand), 4 jump, 5 slide, 6 drop, 7 leaf tag, 8 node tag, 9
+-- write number, 10 read tag (.. operand), 11 read number, 12 call (operand ..; byte 1 ..), 13
+-- return (byte 1 ..)". A push uses its number, a jump its operand.
 unfoldable pub usedFields : ℕ → ℕ → ℕ → List Instruction
 usedFields byte1 operand number =
     fields 0 0 0 number

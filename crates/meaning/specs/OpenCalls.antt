@@ -52,7 +52,8 @@ resultTree (tree t) = t
 abbrev pub Handler : Type 0
 Handler = ℕ → ℕ → List ℕ → Tree → Outcome Value
 
--- The expression at record r, by kind. 01: "a call's depth is tested after its arguments".
+-- The expression at record r, by kind. 01, The source run: "a call's depth is tested after its
+-- arguments".
 unfoldable mutual
   pub evaluate : Handler → Environment → ℕ → Expr → Outcome Value
   evaluate h E r (const i) = begins (gives (number i))
@@ -89,7 +90,8 @@ unfoldable mutual
 unfoldable pub firstRecord : Program → ℕ → ℕ
 firstRecord program b = suc (length (program .functions)) + total (take b (signatures program))
 
--- A call where so many may be open, itself among them. 01: "18 a call with 1,024 open (the first frame counts)".
+-- A call where so many may be open, itself among them. 01, The table of refusals: "18 a call with
+-- 1,024 open (the first frame counts)".
 unfoldable pub called : Program → ℕ → Handler
 called program zero r b numbers t = stops tooManyCalls r
 called program (suc calls) r b numbers t =
@@ -98,11 +100,12 @@ called program (suc calls) r b numbers t =
       | some f ↦ evaluate (called program calls) (inCall numbers t) (firstRecord program b) (f .body)
     ]
 
--- 01: "It starts in function 0's body, the tree being tree 0". No Call opens the first.
+-- 01, The source evaluation: "It starts in function 0's body, the tree being tree 0". No Call opens
+-- the first.
 unfoldable pub evaluation : Program → ℕ → Tree → Outcome Value
 evaluation program calls t = called program calls 0 0 [] t
 
--- 01: "The source run's fuel is expressions begun, looked at before each".
+-- 01, The source run: "The source run's fuel is expressions begun, looked at before each".
 unfoldable pub within : {A : Type 0} → ℕ → Outcome A → Outcome A
 within fuel (gives x) = gives x
 within fuel (stops why r) = stops why r

@@ -1,4 +1,4 @@
--- Document 01, "Code and the stream run": the state, and one instruction performed.
+-- 01, Code and the stream run: the state, and one instruction performed.
 use Prim.Native.Nat.{ℕ, zero, suc, _+_}
 use mathlib.Core.Bool.{true, false}
 use mathlib.Core.List.{List, [], _∷_, _++_}
@@ -38,7 +38,7 @@ pub record State : Type 0 where
   -- the bytes written, in order
   pub output : List ℕ
 
--- 01: "from address 0".
+-- 01, The state of a stream run: "from address 0".
 abbrev pub start : State
 start = record { address = 0; frame = []; callers = []; read = 0; output = [] }
 
@@ -51,11 +51,12 @@ wordsBelow (c ∷ cs) = length (c .words) + wordsBelow cs
 unfoldable pub standing : State → ℕ
 standing s = length (s .frame) + wordsBelow (s .callers)
 
--- 01: "18 a call with 1,024 open (the first frame counts)". The calls open.
+-- 01, The table of refusals: "18 a call with 1,024 open (the first frame counts)". The calls open.
 unfoldable pub opened : State → ℕ
 opened s = suc (length (s .callers))
 
--- What becomes of an instruction. 01: "A refused instruction counts nothing and changes nothing." 01: "The run ends at the return of the first frame.
+-- What becomes of an instruction. 01, Fuel and units: "A refused instruction counts nothing and
+-- changes nothing." 01, The answer of a stream run: "The run ends at the return of the first frame.
 -- Its answer gives .. the number (0 for a tree ..)".
 pub data Step : Type 0 where
   goes : State → Step
@@ -94,9 +95,11 @@ calling entry arguments rest s =
 abbrev pub returning : List ℕ → Caller → List Caller → State → State
 returning kept c cs s = record { address = c .back; frame = kept ++ c .words; callers = cs; read = s .read; output = s .output }
 
--- ---- tests. 01: "19 instruction that can't be performed (.. missing or surplus words)"
+-- ---- tests. 01, Instructions that cannot be performed: "19 instruction that can't be performed
+-- (.. missing or surplus words)"
 
--- 01: "words are missing above the frame's base". One word, or two, the top one first, and those under them.
+-- 01, Instructions that cannot be performed: "words are missing above the frame's base". One word,
+-- or two, the top one first, and those under them.
 unfoldable pub one : List ℕ → (ℕ → List ℕ → Step) → Step
 one [] f = refuses cannotPerform
 one (x ∷ rest) f = f x rest
@@ -104,7 +107,7 @@ one (x ∷ rest) f = f x rest
 unfoldable pub two : List ℕ → (ℕ → ℕ → List ℕ → Step) → Step
 two frame f = one frame (λ x under. one under (λ y rest. f x y rest))
 
--- 01: "surplus above 16,384".
+-- 01, Instructions that cannot be performed: "surplus above 16,384".
 unfoldable pub room : Setting → State → Step → Step
 room m s then = elim (ltb (standing s) (m .mostWords)) [ true ↦ then | false ↦ refuses cannotPerform ]
 
@@ -112,11 +115,11 @@ room m s then = elim (ltb (standing s) (m .mostWords)) [ true ↦ then | false �
 unfoldable pub push : Setting → ℕ → State → Step
 push m x s = room m s (goes (next (holding (x ∷ s .frame) s)))
 
--- 01: "17 output full". "Four bytes are read or written together or none."
+-- 01, Opcodes: "17 output full". 01, Notation: "Four bytes are read or written together or none."
 unfoldable pub write : Setting → List ℕ → State → Step
 write m bytes s = elim (leb (length (s .output) + length bytes) (m .space)) [ true ↦ goes (next (writing bytes s)) | false ↦ refuses outputFull ]
 
--- 01: "leaf goes on, node goes to operand"; "15 input ended, 16 byte not 1 or 2".
+-- 01, Opcodes: "leaf goes on, node goes to operand"; "15 input ended, 16 byte not 1 or 2".
 unfoldable pub byTag : Tag → ℕ → State → Step
 byTag ended a s = refuses inputEnded
 byTag aLeaf a s = goes (next (reading 1 s))
@@ -131,7 +134,7 @@ readNumber m s =
       | false ↦ refuses inputEnded
     ]
 
--- 01: "call (operand: entry; byte 1: arguments, the new frame's first words)".
+-- 01, Opcodes: "call (operand: entry; byte 1: arguments, the new frame's first words)".
 unfoldable pub call : Setting → ℕ → ℕ → State → Step
 call m entry n s =
     elim (ltb (opened s) (m .mostOpen)) [
@@ -139,7 +142,7 @@ call m entry n s =
       | false ↦ refuses tooManyCalls
     ]
 
--- 01: "return (byte 1: 0 or 1 words kept ..)". The words kept, if so many can be.
+-- 01, Opcodes: "return (byte 1: 0 or 1 words kept ..)". The words kept, if so many can be.
 unfoldable pub kept : ℕ → List ℕ → Option (List ℕ)
 kept zero frame = some []
 kept (suc zero) [] = none
@@ -151,14 +154,16 @@ unfoldable pub numberKept : List ℕ → ℕ
 numberKept [] = 0
 numberKept (x ∷ rest) = x
 
--- 01: "the frame is cut, that word pushed". "The run ends at the return of the first frame."
+-- 01, Opcodes: "the frame is cut, that word pushed". 01, Fuel and units: "The run ends at the
+-- return of the first frame."
 unfoldable pub leave : List Caller → List ℕ → State → Step
 leave [] words s = ends (numberKept words)
 leave (c ∷ cs) words s = goes (returning words c cs s)
 
 -- ---- one instruction
 
--- One line for each opcode, 0 to 13. 01: "At one instruction 19 comes before 15 to 18".
+-- One line for each opcode, 0 to 13. 01, Instructions that cannot be performed: "At one instruction
+-- 19 comes before 15 to 18".
 unfoldable pub operate : Setting → State → Operation → Step
 operate m s (Push x) = push m x s
 operate m s (Get k) = elim (atLevel (s .frame) k) [ some x ↦ push m x s | none ↦ refuses cannotPerform ]
@@ -175,10 +180,11 @@ operate m s ReadNumber = room m s (readNumber m s)
 operate m s (Call entry n) = elim (leb n (length (s .frame))) [ true ↦ call m entry n s | false ↦ refuses cannotPerform ]
 operate m s (Return k) = elim (kept k (s .frame)) [ some words ↦ leave (s .callers) words s | none ↦ refuses cannotPerform ]
 
--- On its fields. 01: "19 .. (opcode ..)".
+-- On its fields. 01, Instructions that cannot be performed: "19 .. (opcode ..)".
 unfoldable pub perform : Setting → State → Instruction → Step
 perform m s i = elim (operationOf i) [ some op ↦ operate m s op | none ↦ refuses cannotPerform ]
 
--- 01: "an address is tested when its instruction is fetched".
+-- 01, Instructions that cannot be performed: "an address is tested when its instruction is
+-- fetched".
 unfoldable pub step : Setting → State → Step
 step m s = elim (m .holds (s .address)) [ some i ↦ perform m s i | none ↦ refuses cannotPerform ]

@@ -1,5 +1,6 @@
--- Document 000, Figure 3: the reductions of the source language, by substitution, with no environment and no counter. The terms are those that Figure 6
--- types (rules, Printed.antt): "let x = M₁ in M₂" and IfZero, document 01's, stand beside the paper's own.
+-- 000, Figure 3: the reductions of the source language, by substitution, with no environment and no
+-- counter. The terms are those that Figure 6 types (rules, Printed.antt): "let x = M₁ in M₂" and
+-- IfZero (01, Let and IfZero) stand beside the paper's own.
 use Prim.Native.Nat.{ℕ, zero, suc}
 use mathlib.Core.Bool.{Bool, true, false}
 use mathlib.Core.Option.{Option, none, some}
@@ -13,12 +14,12 @@ use Rattle.meaning.specs.Evaluation.{Value}
 
 -- ---- values
 
--- 000: "V (tree values) ::= leaf i | node V₁ V₂".
+-- 000, Figure 3: "V (tree values) ::= leaf i | node V₁ V₂".
 pub data TreeValue : Term → Type 0 where
   leaf-value : {i : ℕ} → TreeValue (leaf (int i))
   node-value : {V₁ V₂ : Term} → TreeValue V₁ → TreeValue V₂ → TreeValue (node V₁ V₂)
 
--- 000: "W (values) ::= i | λx.M | V".
+-- 000, Figure 3: "W (values) ::= i | λx.M | V".
 pub data IsValue : Term → Type 0 where
   an-integer : {i : ℕ} → IsValue (int i)
   an-abstraction : {x : Name} {M : Term} → IsValue (lam x M)
@@ -85,7 +86,8 @@ fixes program (number k) = none
 fixes program (tree k) = none
 fixes program (function b) = elim (nth (program .functions) b) [ none ↦ none | some f ↦ some (fixOf b f) ]
 
--- fix f.M/f. 000's fix binds one function; where functions call each other, their names are bound all at once, and each is replaced by its own fix.
+-- fix f.M/f. The fix of 000, Figure 3 binds one function; where functions call each other, their
+-- names are bound all at once, and each is replaced by its own fix.
 unfoldable pub fixing : Program → Name → Term → Substitution
 fixing program f M z = elim (sameName f z) [ true ↦ some (fix f M) | false ↦ fixes program z ]
 
@@ -97,7 +99,7 @@ pub data Redex (program : Program) : Term → Term → Type 0 where
   Es-Plus : {i₁ i₂ : ℕ} → Redex program (plus (int i₁) (int i₂)) (int (sum32 i₁ i₂))
   -- (λx.M) W ⟶ [W/x]M
   Es-App : {x : Name} {M W : Term} → IsValue W → Redex program (app (lam x M) W) (substitute (only x W) M)
-  -- 000: "We write let x = M₁ in M₂ for (λx.M₂) M₁."
+  -- 000, section 2.1: "We write let x = M₁ in M₂ for (λx.M₂) M₁."
   Es-App-let : {x : Name} {M W N : Term} → Redex program (app (lam x M) W) N → Redex program (let-01 x W M) N
   -- fix f.M ⟶ [fix f.M/f]M
   Es-Fix : {f : Name} {M : Term} → Redex program (fix f M) (substitute (fixing program f M) M)
@@ -109,11 +111,13 @@ pub data Redex (program : Program) : Term → Term → Type 0 where
       → TreeValue V₁
       → TreeValue V₂
       → Redex program (case (node V₁ V₂) x M₁ x₁ x₂ M₂) (substitute (both x₁ V₁ x₂ V₂) M₂)
-  -- Document 01's own: "IfZero takes its zero part on 0, else the other, like document 003's `if`."
+  -- 01, Let and IfZero: "IfZero takes its zero part on 0, else the other, like document 003's
+  -- `if`."
   IfZero-zero : {M₁ M₂ : Term} → Redex program (ifZero-01 (int zero) M₁ M₂) M₁
   IfZero-other : {i : ℕ} {M₁ M₂ : Term} → Redex program (ifZero-01 (int (suc i)) M₁ M₂) M₂
 
--- 000: E_s, the evaluation contexts, in the order of Figure 3; then that of let, which is (λx.M) E_s, and that of document 01's IfZero.
+-- 000, Figure 3: E_s, the evaluation contexts, in its order; then that of let, which is (λx.M) E_s,
+-- and that of IfZero (01, Let and IfZero).
 pub data Context : Type 0 where
   -- []
   hole : Context

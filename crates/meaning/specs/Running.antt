@@ -1,4 +1,4 @@
--- Document 01, "Code and the stream run": the run with its fuel, and its answer.
+-- 01, Code and the stream run: the run with its fuel, and its answer.
 use Prim.Native.Nat.{ℕ, zero, suc}
 use mathlib.Core.Bool.{true, false, _&&_}
 use mathlib.Core.List.{List, [], _∷_}
@@ -29,7 +29,8 @@ stopped s why = record { performed = []; last = s; stop = why }
 abbrev pub after : ℕ → Run → Run
 after a r = record { performed = a ∷ r .performed; last = r .last; stop = r .stop }
 
--- 01: "One unit of fuel is one instruction performed." "A refused instruction counts nothing and changes nothing. Fuel is looked at first."
+-- 01, Fuel and units: "One unit of fuel is one instruction performed." "A refused instruction
+-- counts nothing and changes nothing. Fuel is looked at first."
 unfoldable pub run : Setting → ℕ → State → Run
 run m zero s = stopped s (refused fuelUsedUp)
 run m (suc fuel) s =
@@ -43,7 +44,8 @@ run m (suc fuel) s =
 abbrev pub unitsOf : Run → ℕ
 unitsOf r = length (r .performed)
 
--- 01: "Its answer gives units, bytes read, bytes written, and the number (0 for a tree or a refusal)."
+-- 01, The answer of a stream run: "Its answer gives units, bytes read, bytes written, and the
+-- number (0 for a tree or a refusal)."
 pub record Answer : Type 0 where
   -- ended, or the refusal's number and place
   pub outcome : Result (Unit {0})
@@ -71,7 +73,8 @@ answerOf r =
       number = numberTold (r .stop);
     }
 
--- 01: "Both runs lend 16,384 value words and 1,024 return places of two words." "a call with 1,024 open".
+-- 01, Work words: "Both runs lend 16,384 value words and 1,024 return places of two words." 01, The
+-- table of refusals: "a call with 1,024 open".
 abbrev pub valueWords : ℕ
 valueWords = 16384
 
@@ -81,7 +84,7 @@ returnWords = 2048
 abbrev pub mostCalls : ℕ
 mostCalls = 1024
 
--- A run of any code, within document 01's limits.
+-- A run of any code, within the limits of 01, Limits.
 abbrev pub ofCode : List ℕ → List ℕ → ℕ → Setting
 ofCode code input space = record { holds = heldBy code; input = input; space = space; mostWords = valueWords; mostOpen = mostCalls }
 
@@ -90,18 +93,20 @@ pub record Ran : Type 0 where
   pub answer : Answer
   pub output : List ℕ
 
--- 01: "what it wrote stays, the rest is untouched".
+-- 01, What the lent buffers hold: "what it wrote stays, the rest is untouched".
 abbrev pub ranTo : List ℕ → Run → Ran
 ranTo output r = record { answer = answerOf r; output = written output 0 (r .last .output) }
 
--- 01: "The runs test 13 before tree or fuel." "A run refused before its first instruction .. answers 0 in every count."
+-- 01, The order of the tests: "The runs test 13 before tree or fuel." 01, What the lent buffers
+-- hold: "A run refused before its first instruction .. answers 0 in every count."
 abbrev pub noneDone : Answer
 noneDone = record { outcome = refusal spaceTooShort 0; units = 0; bytesRead = 0; bytesWritten = 0; number = 0 }
 
 abbrev pub tooShort : List ℕ → Ran
 tooShort output = record { answer = noneDone; output = output }
 
--- 01: "Any buffer may be run as code". With so many value words and return words lent.
+-- 01, Instructions: "Any buffer may be run as code". With so many value words and return words
+-- lent.
 unfoldable pub streamRun : (code input output : List ℕ) (fuel values returns : ℕ) → Ran
 streamRun code input output fuel values returns =
     elim (leb valueWords values && leb returnWords returns) [

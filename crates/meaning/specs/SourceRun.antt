@@ -1,4 +1,4 @@
--- Document 01: the source run, from a program file and token bytes to its answer and its output.
+-- 01, The source run: from a program file and token bytes to its answer and its output.
 use Prim.Native.Nat.{ℕ, suc}
 use mathlib.Core.Bool.{true, false, _&&_}
 use mathlib.Core.List.{List}
@@ -15,7 +15,7 @@ use Rattle.meaning.specs.Running.{valueWords, returnWords, mostCalls}
 use Rattle.meaning.specs.Evaluation.{Value, resultBytes, resultNumber}
 use Rattle.meaning.specs.OpenCalls.{Outcome, gives, stops, begins, evaluation, within}
 
--- 01: "The source run's gives expressions begun, bytes written and the number".
+-- 01, The source run: "The source run's gives expressions begun, bytes written and the number".
 pub record SourceAnswer : Type 0 where
   -- ended, or the refusal's number and place
   pub outcome : Result (Unit {0})
@@ -28,7 +28,8 @@ pub record SourceRan : Type 0 where
   pub answer : SourceAnswer
   pub output : List ℕ
 
--- 01: "refused, the last two are 0". "A refusal leaves every output buffer untouched".
+-- 01, The source run: "refused, the last two are 0". 01, What the lent buffers hold: "A refusal
+-- leaves every output buffer untouched".
 abbrev pub refusedAfter : ℕ → ℕ → ℕ → List ℕ → SourceRan
 refusedAfter begun number place output =
     record { answer = record { outcome = refusal number place; begun = begun; bytesWritten = 0; number = 0 }; output = output }
@@ -41,7 +42,7 @@ endedAfter begun v output =
       output = written output 0 (resultBytes v);
     }
 
--- 01: "17 output shorter than the result, after evaluation", at 0.
+-- 01, The source run: "17 output shorter than the result, after evaluation", at 0.
 unfoldable pub told : ℕ → Value → List ℕ → SourceRan
 told begun v output =
     elim (leb (length (resultBytes v)) (length output)) [
@@ -49,8 +50,9 @@ told begun v output =
       | false ↦ refusedAfter begun outputFull 0 output
     ]
 
--- What an evaluation's outcome is told as, where so many expressions have begun before. 01: "either run: 14 fuel used up, 18 a call with 1,024 open",
--- the place: "source run 0".
+-- What an evaluation's outcome is told as, where so many expressions have begun before. 01, The
+-- table of refusals: "either run: 14 fuel used up, 18 a call with 1,024 open", the place: "source
+-- run 0".
 unfoldable pub tellFrom : ℕ → Outcome Value → List ℕ → SourceRan
 tellFrom begun (gives v) output = told begun v output
 tellFrom begun (stops why r) output = refusedAfter begun why 0 output
@@ -61,8 +63,10 @@ pub record Checked : Type 0 where
   pub program : Program
   pub tree : Tree
 
--- All that comes before the evaluation, in this order: the rows of the file, pass one, 13, the tree reader. 01: "The source run needs pass one only".
--- "The runs test 13 before tree or fuel." "The source run applies the tree reader before it evaluates."
+-- All that comes before the evaluation, in this order: the rows of the file, pass one, 13, the tree
+-- reader. 01, Checking: "The source run needs pass one only". 01, The order of the tests: "The runs
+-- test 13 before tree or fuel." 01, The source run: "The source run applies the tree reader before
+-- it evaluates."
 unfoldable pub checkSource : (file input : List ℕ) (values returns : ℕ) → Result Checked
 checkSource file input values returns =
     andThen
@@ -73,7 +77,8 @@ checkSource file input values returns =
     (check (leb valueWords values && leb returnWords returns) spaceTooShort 0 (tt {0}))
     (λ w. andThen (firstTree input) (λ t. done (record { program = program; tree = t })))))
 
--- The source run, with so many value words and return words lent. 01: "A run refused before its first .. expression answers 0 in every count."
+-- The source run, with so many value words and return words lent. 01, What the lent buffers hold:
+-- "A run refused before its first .. expression answers 0 in every count."
 unfoldable pub sourceRun : (file input output : List ℕ) (fuel values returns : ℕ) → SourceRan
 sourceRun file input output fuel values returns =
     elim (checkSource file input values returns) [

@@ -33,13 +33,15 @@ pub data Prevented (m : Setting) (s : State) : Operation → ℕ → Type 0 wher
   -- "18 a call with 1,024 open (the first frame counts)" (the most of `ofCode`)
   all-open : {entry n : ℕ} → m .mostOpen ≤ opened s → Prevented m s (Call entry n) tooManyCalls
 
--- The instruction at the state's address is refused with this number. 01: "At one instruction 19 comes before 15 to 18".
+-- The instruction at the state's address is refused with this number. 01, Instructions that cannot
+-- be performed: "At one instruction 19 comes before 15 to 18".
 pub data Refused (m : Setting) (s : State) : ℕ → Type 0 where
   cannot : CannotPerform m s → Refused m s cannotPerform
   prevented : (op : Operation) (number : ℕ) → (CannotPerform m s → ⊥) → Fetches m s op → Prevented m s op number → Refused m s number
 
--- The first frame returns with this number: no frame waits for it. 01: "The run ends at the return of the first frame"; "return (byte 1: 0 or 1 words
--- kept; ..)". The number is the word kept, the top one, and 0 if none is kept.
+-- The first frame returns with this number: no frame waits for it. 01, Fuel and units: "The run
+-- ends at the return of the first frame"; 01, Opcodes: "return (byte 1: 0 or 1 words kept; ..)".
+-- The number is the word kept, the top one, and 0 if none is kept.
 pub data ReturnsFirst (m : Setting) (s : State) : ℕ → Type 0 where
   none-kept : Fetches m s (Return 0) → s .callers ≡ [] → ReturnsFirst m s 0
   one-kept : (x : ℕ) (rest : List ℕ) → Fetches m s (Return 1) → s .callers ≡ [] → s .frame ≡ x ∷ rest → ReturnsFirst m s x

@@ -41,7 +41,8 @@ pub record Grows (s t : State) : Type 0 where
 
 pub record OneStep (m : Setting) (s : State) : Type 0 where
   pub refusals : (number : ℕ) → step m s ≡ refuses number → StepRefusal number
-  -- 01: "At one instruction 19 comes before 15 to 18". It is 19 exactly where the instruction can't be performed, whatever the input, the output and the
+  -- 01, Instructions that cannot be performed: "At one instruction 19 comes before 15 to 18". It is
+  -- 19 exactly where the instruction can't be performed, whatever the input, the output and the
   -- open calls are.
   pub cannot-first : (step m s ≡ refuses cannotPerform) ↔ CannotPerform m s
   -- It is refused with 15 to 19 exactly where a rule says so, and the run ends there exactly at the return of the first frame.

@@ -1,5 +1,6 @@
--- Document 01: "Work words after a run are unspecified." What holds of them all the same: their number, and that a call which is refused before its run
--- leaves them as they were. (A run without fuel is a run: 14 is its own refusal.)
+-- 01, Work words: "Work words after a run are unspecified." What holds of them all the same: their
+-- number, and that a call which is refused before its run leaves them as they were. (A run without
+-- fuel is a run: 14 is its own refusal.)
 use Prim.Native.Nat.{ℕ}
 use mathlib.Core.Bool.{Bool, true, _||_}
 use mathlib.Core.List.{List}

@@ -1,4 +1,5 @@
-// Document 01's pass one, over flat records, 8 bytes each: at each record, in prefix order, name bound, then type, then words.
+// 01, Pass one, over flat records, 8 bytes each: at each record, in prefix order, name bound, then
+// type, then words.
 use records::Part;
 use records::Parts;
 use records::Record;

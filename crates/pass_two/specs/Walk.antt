@@ -38,7 +38,8 @@ found c = onValue (λ u. stand (c .next) (listOf (c .pending))) (said (c .verdic
 pub record Tells (c : Checked) (m : ℕ) (w : Result (List ℕ)) : Type 0 where
   pub is : found c ≡ onValue (stand m) w
 
--- 01: "Both branches of Case or IfZero must end with equal lists, compared once both are through".
+-- 01, Pass two: "Both branches of Case or IfZero must end with equal lists, compared once both are
+-- through".
 pub record Joined (one : Pending) (other : Checked) (k : ℕ) (r : Checked) : Type 0 where
   pub tells : other .verdict ≡ Passed
       → Tells r (other .next) (check (sameNames (listOf one) (listOf (other .pending))) outOfOrder k (listOf (other .pending)))
@@ -86,7 +87,7 @@ pub record OrderedList (s : List ℕ) (i count k end n : ℕ) (p : Pending) (r :
   pub on : r .verdict ≡ Passed → (k ≤ r .next) × (r .next ≤ end)
   pub tells : (ps : List Placed) (m : ℕ) → HereRow s end k ps m → i + length ps ≡ count → Tells r m (walkParts n (listOf p) ps)
 
--- 01: "a function ends with none". The function whose body is at record k.
+-- 01, Pass two: "a function ends with none". The function whose body is at record k.
 abbrev pub walkFunction : ℕ → Expr → Result (List ℕ)
 walkFunction k e = andThen (walk 1 k (0 ∷ []) e) (λ Δ. andThen (noneLeft k Δ) (λ u. done Δ))
 

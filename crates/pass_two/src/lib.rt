@@ -1,4 +1,4 @@
-// Document 01's pass two, over flat records, 8 bytes each: the order in which a program visits its trees.
+// 01, Pass two, over flat records, 8 bytes each: the order in which a program visits its trees.
 use pending::Pending;
 use records::Record;
 use records::RecordRead;

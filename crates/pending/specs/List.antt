@@ -13,14 +13,15 @@ use Rattle.rules.specs.PassTwo.{takeHead}
 use Rattle.pending.specs.declared.Pending.{Pending}
 use Rattle.pending.specs.declared.Taken.{Taken}
 
--- 01: "The pending trees are a list of at most 16 numbers". How many they are, and the list, its head first.
+-- 01, Pass two: "The pending trees are a list of at most 16 numbers". How many they are, and the
+-- list, its head first.
 abbrev pub lengthOf : Pending → ℕ
 lengthOf p = min (p .len) mostPending
 
 unfoldable pub listOf : Pending → List ℕ
 listOf p = fromLast (p .names) (lengthOf p)
 
--- 01: "at first the parameter alone". All names are 0, and one of them counts.
+-- 01, Pass two: "at first the parameter alone". All names are 0, and one of them counts.
 abbrev pub parameterAlone : Pending
 parameterAlone = record { names = replicate mostPending 0; len = 1 }
 
@@ -41,13 +42,13 @@ headTaken p a =
       | false ↦ record { head = false; pending = p }
     ]
 
--- 01: "11 not the head", whichever record takes tree a. What is no head is not taken.
+-- 01, Pass two: "11 not the head", whichever record takes tree a. What is no head is not taken.
 pub record Took (p : Pending) (a : ℕ) (r : Taken) : Type 0 where
   pub whole : r ≡ headTaken p a
   pub tells : (k : ℕ) → takeHead a k (listOf p) ≡ check (r .head) outOfOrder k (listOf (r .pending))
   pub kept : r .head ≡ false → r .pending ≡ p
 
--- 01: "puts its two names in front", where they fit.
+-- 01, Pass two: "puts its two names in front", where they fit.
 unfoldable pub putTwo : ℕ → ℕ → List ℕ → List ℕ
 putTwo left right Δ = elim (leb (length Δ + 2) mostPending) [ true ↦ left ∷ (right ∷ Δ) | false ↦ Δ ]
 

@@ -1,4 +1,5 @@
-// Document 01's pending trees, by value: their head is taken, two names are put in front, and two lists are compared.
+// The pending trees of 01, Pass two, by value: their head is taken, two names are put in front, and
+// two lists are compared.
 ghost use mathlib.Core.Path.{_≡_};
 ghost use lib.Dec.{leb};
 ghost use lib.ListN.{length};

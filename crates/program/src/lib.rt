@@ -1,4 +1,4 @@
-// Document 01's rows header to prefix form, over flat records, 8 bytes each.
+// The rows header to prefix form of 01, The order of the tests, over flat records, 8 bytes each.
 use refusal::Refusal;
 use refusal::Verdict;
 ghost use Prim.Native.Nat.{_≤_};

@@ -1,4 +1,4 @@
--- A record read, as document 01 has it: each case with its kind, operands and parts.
+-- A record read, as 01, Nine kinds of record, has it: each case with its kind, operands and parts.
 use Prim.Native.Nat.{ℕ, _+_, _*_, _≤_}
 use mathlib.Core.List.{List, [], _∷_}
 use mathlib.Core.Path.{_≡_}

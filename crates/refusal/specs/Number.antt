@@ -1,4 +1,4 @@
--- Each refusal has the number that document 01's table gives it.
+-- Each refusal has the number that 01, The table of refusals, gives it.
 use Prim.Native.Nat.{ℕ}
 use Rattle.refusal.specs.declared.Refusal.{Refusal}
 use Rattle.refusal.specs.declared.Refusal.the-variants.{FileLength, BlockCheck, BlockField, HeaderField, FunctionField, NodeField, PrefixForm, WrongType, NotBound, TooManyWords}

@@ -1,4 +1,5 @@
--- What a check says, as document 01 has it: passed, or the refusal's number and its place.
+-- What a check says, as 01, Where each refusal arises, has it: passed, or the refusal's number and
+-- its place.
 use Rattle.formats.specs.Results.{Result, done, refusal}
 use Rattle.refusal.specs.Number.{number}
 use Rattle.refusal.specs.declared.Verdict.{Verdict}

@@ -1,4 +1,4 @@
-// The refusals of document 01, "Where each refusal arises", in the order of their numbers.
+// The refusals of 01, The table of refusals, in the order of their numbers.
 ghost use mathlib.Core.Path.{_≡_};
 ghost use Rattle.refusal.specs.Number.{number};
 

@@ -63,7 +63,8 @@ record Row : Type 0 where
 says : Result (Unit {0}) → List Function → Row
 says verdict functions = record { functions = functions; verdict = verdict }
 
--- ---- document 01's worked programs and traps. A single function's first node is record 2, two functions' record 3.
+-- ---- 01, Worked programs and 01, Traps. A single function's first node is record 2, two
+-- functions' record 3.
 
 worked : List Row
 worked =
@@ -75,7 +76,7 @@ worked =
     ∷ says (refusal 11 2) (numbered (caseOf 0 (const 1) (on 0 1)) ∷ [])
     -- Call 0 on 0
     ∷ says (done tt) (numbered (on 0 0) ∷ [])
-    -- Sum; document 000's Figure 5, right part first
+    -- Sum; 000, Figure 5, right part first
     ∷ says (done tt) (numbered (caseOf 0 (var 0) (add (on 0 1) (on 0 2))) ∷ [])
     ∷ says (refusal 11 5) (numbered (caseOf 0 (var 0) (add (on 0 2) (on 0 1))) ∷ [])
     -- a Call's tree is taken after its arguments: g on 1 as argument, then f on 2

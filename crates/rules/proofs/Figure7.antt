@@ -1,4 +1,4 @@
--- Worked cases of the typing rules: document 000's Figure 7, and why Figure 2 has no derivation.
+-- Worked cases of the typing rules: 000, Figure 7, and why Figure 2 has no derivation.
 use Prim.Native.Nat.{ℕ}
 use mathlib.Core.List.{List, [], _∷_, _++_}
 use mathlib.Core.Path.{_≡_, refl, ap, ap₂}
@@ -12,7 +12,8 @@ use Rattle.rules.specs.Typing.{TypesName, Types, Applies, to-tree, Typed
 use Rattle.rules.specs.Printed.{tree, function, fix, here, Judges, termOf, lams, functionTerm}
 use Rattle.rules.proofs.Printed.{trees-differ}
 
--- 000, Figure 1, and document 01's Grow: case t of leaf x ⇒ leaf (x + 1) | node x₁ x₂ ⇒ node (f x₁) (f x₂)
+-- 000, Figure 1, and Grow of 01, Worked programs: case t of leaf x ⇒ leaf (x + 1) | node x₁ x₂ ⇒
+-- node (f x₁) (f x₂)
 grow-function : Function
 grow-function = record {
   sort = treeValued;

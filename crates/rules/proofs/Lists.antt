@@ -29,7 +29,7 @@ unfolding walkArgs walkParts argsAt
 walk-args n k Δ noArgs = refl
 walk-args n k Δ (arg x xs) = then-same (walk n k Δ x) _ _ (λ Δ′. walk-args n (k + size x) Δ′ xs)
 
--- 01: "Call takes the head after its arguments."
+-- 01, Pass two: "Call takes the head after its arguments."
 pub walk-call : (n k : ℕ) (Δ : List ℕ) (a b : ℕ) (xs : Args) → walk n k Δ (call a b xs) ≡ andThen (walkParts n Δ (argsAt (suc k) xs)) (takeHead a k)
 unfolding walk
 walk-call n k Δ a b xs = ap (λ r. andThen r (takeHead a k)) (walk-args n (suc k) Δ xs)

@@ -1,4 +1,5 @@
--- The order checker passes precisely what document 000's typing rules admit, within the limits: the proof of specs/OrderChecker.antt.
+-- The order checker passes precisely what the typing rules of 000, Figure 6 admit, within the
+-- limits: the proof of specs/OrderChecker.antt.
 use Prim.Native.Nat.{ℕ, zero, suc, _+_, _≤_, _<_}
 use mathlib.Core.List.{List, [], _∷_, append-nil}
 use mathlib.Core.Path.{_≡_, refl, ap, _∙_}

@@ -1,4 +1,5 @@
--- Document 000, Figure 19, for document 01's programs: the rules for type checking, under their names, with the environment that is left over.
+-- 000, Figure 19, for the programs of 01, Program file: the rules for type checking, under their
+-- names, with the environment that is left over.
 --
 -- A judgement Γ | Δ ⊢ M : τ ↗ Δ′ is `Checks gs g n r Δ e τ Δ′`: Γ and n are those of Typing, r is the number of e's own record. A derivation is
 -- data, and its lines are one fold over it.
@@ -50,13 +51,14 @@ mutual
         → Checks gs (suc g) n (suc r) Δ′ p τ Δ″
         → Checks gs g (suc (suc n)) (suc r + size p) (n ∷ (suc n ∷ Δ′)) q τ Δ″
         → Checks gs g n r Δ (caseOf a p q) τ Δ″
-    -- Document 01's own: "Let's number part comes first, then its body over the trees still pending".
+    -- 01, Let and IfZero: "Let's number part comes first, then its body over the trees still
+    -- pending".
     Let-01 :
         {g n r : ℕ} {Δ Δ′ Δ″ : List ℕ} {p body : Expr} {τ : Ty}
         → Checks gs g n (suc r) Δ p Int Δ′
         → Checks gs (suc g) n (suc r + size p) Δ′ body τ Δ″
         → Checks gs g n r Δ (letIn p body) τ Δ″
-    -- Document 01's own: IfZero's parts both begin with what its test left.
+    -- 01, Let and IfZero: IfZero's parts both begin with what its test left.
     IfZero-01 :
         {g n r : ℕ} {Δ Δ′ Δ″ : List ℕ} {t z o : Expr} {τ : Ty}
         → Checks gs g n (suc r) Δ t Int Δ′
@@ -105,7 +107,7 @@ unfoldable mutual
 
 -- ---- the limit of 16 pending
 
--- 01: "The pending trees are a list of at most 16 numbers".
+-- 01, Pass two: "The pending trees are a list of at most 16 numbers".
 abbrev pub mostPending : ℕ
 mostPending = 16
 

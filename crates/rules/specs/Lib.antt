@@ -1,4 +1,5 @@
--- The order checker: document 000's typing rules, document 01's two passes, and what ties them.
+-- The order checker: the typing rules of 000, Figure 6, the two passes of 01, Checking, and what
+-- ties them.
 pub mod Types
 pub mod Typing
 pub mod Leftover

@@ -89,8 +89,9 @@ Overfull gs r k fs = InFunction (λ f. mostWords < wordsOf gs (f .parameters) (f
 -- ---- the theorems
 
 pub record OrderChecker : Type 0 where
-  -- Figure 19's judgement holds with Δ′ left over exactly where the environment splits as Δ₁, Δ′ with Figure 6's judgement on Δ₁. (000, 3.4: "The
-  -- relation means that Γ | Δ₁ ⊢ M : τ holds for Δ₁ such that Δ = Δ₁, Δ′.")
+  -- Figure 19's judgement holds with Δ′ left over exactly where the environment splits as Δ₁, Δ′
+  -- with Figure 6's judgement on Δ₁. (000, section 3.4: "The relation means that Γ | Δ₁ ⊢ M : τ
+  -- holds for Δ₁ such that Δ = Δ₁, Δ′.")
   pub splits : (gs : List Signature) (g n r : ℕ) (Δ : List ℕ) (e : Expr) (τ : Ty) (Δ′ : List ℕ) → Checks gs g n r Δ e τ Δ′ ↔ Split gs g n Δ e τ Δ′
   -- A program passes both passes exactly when every function body has a derivation by Figure 6 and stays within the limits.
   pub passes : (program : Program) → Lawful program → (order program ≡ done tt) ↔ Admitted program

@@ -1,4 +1,4 @@
--- Document 01, "Checking": pass one. "Pass one, in prefix order, at each record: name bound, then type, then words."
+-- 01, Pass one: "Pass one, in prefix order, at each record: name bound, then type, then words."
 use Prim.Native.Nat.{ℕ, zero, suc, max}
 use mathlib.Core.Bool.{Bool, true, false}
 use mathlib.Core.List.{List, [], _∷_}
@@ -14,7 +14,7 @@ use Rattle.formats.specs.Rows.{readProgram}
 use Rattle.rules.specs.Types.{isInt, isTree, fits}
 use Rattle.rules.specs.Scopes.{Scope, scope, Entry, entry, enteredAll}
 
--- 01: "16 is the most".
+-- 01, Words: "16 is the most".
 abbrev pub mostWords : ℕ
 mostWords = 16
 
@@ -46,7 +46,8 @@ typed gs (scope g n w τ) (Call a b) = elim (nth gs b) [ none ↦ false | some s
 unfoldable pub bareNumber : Signature → Bool
 bareNumber s = elim (s .sort) [ treeValued ↦ false | numberValued ↦ elim (s .parameters) [ zero ↦ true | suc k ↦ false ] ]
 
--- 01: "It is tested on entering Const, Var, Case, and a number-valued Call with no arguments: refused where 16 stand already."
+-- 01, Words: "It is tested on entering Const, Var, Case, and a number-valued Call with no
+-- arguments: refused where 16 stand already."
 unfoldable pub wordsTested : List Signature → Kind → Bool
 wordsTested gs (Const i) = true
 wordsTested gs (Var a) = true
@@ -79,7 +80,8 @@ passOver gs (x ∷ xs) = andThen (atEntry gs x) (λ u. passOver gs xs)
 unfoldable pub passOne : Program → Result (Unit {0})
 passOne program = passOver (signatures program) (enteredAll (suc (length (program .functions))) (program .functions))
 
--- Flat records: the rows header to prefix form, then pass one. 01: "The source run needs pass one only".
+-- Flat records: the rows header to prefix form, then pass one. 01, Checking: "The source run needs
+-- pass one only".
 unfoldable pub checkOne : List ℕ → Result (Unit {0})
 checkOne s = andThen (readProgram s) passOne
 
@@ -107,8 +109,8 @@ pub data FirstFails (gs : List Signature) : List Entry → ℕ → ℕ → Type 
 
 -- ---- the limit of 16 words
 
--- 01: "The word count is that of the value stack above the frame's base". The most words that stand while an expression is taken, w on entering it. A
--- number is left on a word.
+-- 01, Words: "The word count is that of the value stack above the frame's base". The most words
+-- that stand while an expression is taken, w on entering it. A number is left on a word.
 unfoldable pub valueWords : Sort → ℕ → ℕ
 valueWords numberValued w = suc w
 valueWords treeValued w = w

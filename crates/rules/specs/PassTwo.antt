@@ -1,4 +1,4 @@
--- Document 01, "Checking": pass two. "The pending trees are a list of at most 16 numbers, at first the parameter alone."
+-- 01, Pass two: "The pending trees are a list of at most 16 numbers, at first the parameter alone."
 use Prim.Native.Nat.{ℕ, suc, _+_}
 use mathlib.Core.Bool.{Bool, true, false, _&&_}
 use mathlib.Core.List.{List, [], _∷_}
@@ -12,7 +12,7 @@ use Rattle.formats.specs.Blocks.{flatIn}
 use Rattle.rules.specs.Leftover.{mostPending}
 use Rattle.rules.specs.PassOne.{holdsAt, passOne}
 
--- 01: "11 not the head", at the record. What is left when the tree is taken.
+-- 01, Pass two: "11 not the head", at the record. What is left when the tree is taken.
 unfoldable pub takeHead : ℕ → ℕ → List ℕ → Result (List ℕ)
 takeHead a r [] = refusal outOfOrder r
 takeHead a r (x ∷ rest) = check (eqb x a) outOfOrder r rest
@@ -23,7 +23,8 @@ sameNames [] (y ∷ ys) = false
 sameNames (x ∷ xs) [] = false
 sameNames (x ∷ xs) (y ∷ ys) = eqb x y && sameNames xs ys
 
--- 01: "Both branches of Case or IfZero must end with equal lists, compared once both are through", 11 at the Case or IfZero.
+-- 01, Pass two: "Both branches of Case or IfZero must end with equal lists, compared once both are
+-- through", 11 at the Case or IfZero.
 unfoldable pub joined : ℕ → Result (List ℕ) → Result (List ℕ) → Result (List ℕ)
 joined r one other = andThen one (λ Δ₁. andThen other (λ Δ₂. check (sameNames Δ₁ Δ₂) outOfOrder r Δ₂))
 
@@ -38,21 +39,22 @@ unfoldable mutual
   walk n r Δ (letIn p body) = andThen (walk n (suc r) Δ p) (λ Δ′. walk n (suc r + size p) Δ′ body)
   walk n r Δ (leafOf p) = walk n (suc r) Δ p
   walk n r Δ (nodeOf p q) = andThen (walk n (suc r) Δ p) (λ Δ′. walk n (suc r + size p) Δ′ q)
-  -- 01: "Case takes the head, and puts its two names in front in the node part." "12 Case with 16 pending".
+  -- 01, Pass two: "Case takes the head, and puts its two names in front in the node part." "12 Case
+  -- with 16 pending".
   walk n r Δ (caseOf a p q) =
       andThen
       (takeHead a r Δ)
       (λ rest. andThen
       (holdsAt (ltb (length Δ) mostPending) tooManyPending r)
       (λ u. joined r (walk n (suc r) rest p) (walk (suc (suc n)) (suc r + size p) (n ∷ (suc n ∷ rest)) q)))
-  -- 01: "Call takes the head after its arguments."
+  -- 01, Pass two: "Call takes the head after its arguments."
   walk n r Δ (call a b xs) = andThen (walkArgs n (suc r) Δ xs) (λ Δ′. takeHead a r Δ′)
 
   pub walkArgs : ℕ → ℕ → List ℕ → Args → Result (List ℕ)
   walkArgs n r Δ noArgs = done Δ
   walkArgs n r Δ (arg x xs) = andThen (walk n r Δ x) (λ Δ′. walkArgs n (r + size x) Δ′ xs)
 
--- 01: "a function ends with none", 11 "at the function's first node", record r.
+-- 01, Pass two: "a function ends with none", 11 "at the function's first node", record r.
 unfoldable pub noneLeft : ℕ → List ℕ → Result (Unit {0})
 noneLeft r [] = done tt
 noneLeft r (x ∷ xs) = refusal outOfOrder r
@@ -66,11 +68,13 @@ walkAll r (f ∷ fs) =
 unfoldable pub passTwo : Program → Result (Unit {0})
 passTwo program = walkAll (suc (length (program .functions))) (program .functions)
 
--- Both passes. 01: "A check row is finished for the whole file before the next begins".
+-- Both passes. 01, The order of the tests: "A check row is finished for the whole file before the
+-- next begins".
 unfoldable pub order : Program → Result (Unit {0})
 order program = andThen (passOne program) (λ u. passTwo program)
 
--- Flat records: the rows header to prefix form, then both passes. 01: "the translator needs both passes".
+-- Flat records: the rows header to prefix form, then both passes. 01, Checking: "the translator
+-- needs both passes".
 unfoldable pub checkRecords : List ℕ → Result (Unit {0})
 checkRecords s = andThen (readProgram s) order
 

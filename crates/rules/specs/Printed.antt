@@ -1,17 +1,19 @@
--- Document 000, Figure 6, in its printed form on the paper's own terms, and a program's functions as such terms.
+-- 000, Figure 6, in its printed form on the paper's own terms, and a program's functions as such
+-- terms.
 use Prim.Native.Nat.{ℕ, zero, suc}
 use mathlib.Core.List.{List, [], _∷_, _++_}
 use mathlib.Core.Logic.{_≢_}
 use Rattle.formats.specs.Programs.{Expr, const, var, add, ifZero, letIn, leafOf, nodeOf, caseOf, call, Args, noArgs, arg, Every, Signature, Function}
 use Rattle.rules.specs.Types.{Ty, Int, Tree⁻, Tree⁺, arrow, functionType}
 
--- Variables. 000: "bound variables are always different from each other and free variables"; names counted along the path are.
+-- Variables. 000, section 2.1: "bound variables are always different from each other and free
+-- variables"; names counted along the path are.
 pub data Name : Type 0 where
   number : ℕ → Name
   tree : ℕ → Name
   function : ℕ → Name
 
--- 000, Figure 3, terms; and document 01's Let and IfZero.
+-- 000, Figure 3, terms; and 01, Let and IfZero.
 pub data Term : Type 0 where
   -- i
   int : ℕ → Term
@@ -31,9 +33,9 @@ pub data Term : Type 0 where
   node : Term → Term → Term
   -- case M of leaf x ⇒ M₁ | node x₁ x₂ ⇒ M₂
   case : Term → Name → Term → Name → Name → Term → Term
-  -- 01's Let: let x = M₁ in M₂
+  -- 01, Let and IfZero: let x = M₁ in M₂
   let-01 : Name → Term → Term → Term
-  -- 01's IfZero: test, zero part, other part
+  -- 01, Let and IfZero: test, zero part, other part
   ifZero-01 : Term → Term → Term → Term
 
 -- x : τ
@@ -93,13 +95,13 @@ pub data Judges : List Binding → List Name → Term → Ty → Type 0 where
       → Judges (has x Int ∷ Γ) Δ₂ P τ
       → Judges Γ (x₁ ∷ (x₂ ∷ Δ₂)) Q τ
       → Judges Γ (Δ₁ ++ Δ₂) (case M x P x₁ x₂ Q) τ
-  -- Document 01's own.
+  -- 01, Let and IfZero.
   Let-01 :
       {Γ : List Binding} {Δ₁ Δ₂ : List Name} {x : Name} {M N : Term} {τ : Ty}
       → Judges Γ Δ₁ M Int
       → Judges (has x Int ∷ Γ) Δ₂ N τ
       → Judges Γ (Δ₁ ++ Δ₂) (let-01 x M N) τ
-  -- Document 01's own.
+  -- 01, Let and IfZero.
   IfZero-01 :
       {Γ : List Binding} {Δ₁ Δ₂ : List Name} {M P Q : Term} {τ : Ty}
       → Judges Γ Δ₁ M Int

@@ -1,4 +1,5 @@
--- Document 01, "Checking" and "Nine kinds of record": what is known on entering each record of a function body, in prefix order.
+-- 01, Checking and 01, Nine kinds of record: what is known on entering each record of a function
+-- body, in prefix order.
 use Prim.Native.Nat.{ℕ, zero, suc, _+_}
 use mathlib.Core.List.{List, [], _∷_, _++_}
 use mathlib.Core.Option.{none, some}
@@ -11,13 +12,16 @@ use Rattle.rules.specs.Types.{Ty, Int, Tree⁺, resultType}
 pub data Scope : Type 0 where
   scope : ℕ → ℕ → ℕ → Ty → Scope
 
--- 01: "Names count from 0 along the path: parameters first". The numbers given are a frame's first words.
+-- 01, Names: "Names count from 0 along the path: parameters first". The numbers given are a frame's
+-- first words.
 unfoldable pub startOf : Function → Scope
 startOf f = scope (f .parameters) 1 (f .parameters) (resultType (f .sort))
 
--- On entering part i of a record, counted from 0. 01: "Let's body and Case's leaf part add one number name, Case's node part two tree names".
--- "Add's parts, tests, Let's first part, Leaf's part and arguments are numbers; Node's parts are trees; other parts take the type expected of the
--- whole." A number found before stands on a word of its own, as does a name's; a test's word is gone.
+-- On entering part i of a record, counted from 0. 01, Names: "Let's body and Case's leaf part add
+-- one number name, Case's node part two tree names". 01, Pass one: "Add's parts, tests, Let's first
+-- part, Leaf's part and arguments are numbers; Node's parts are trees; other parts take the type
+-- expected of the whole." A number found before stands on a word of its own, as does a name's; a
+-- test's word is gone.
 unfoldable pub inside : Kind → ℕ → Scope → Scope
 inside (Const c) i sc = sc
 inside (Var a) i sc = sc

@@ -1,4 +1,4 @@
--- Document 000, section 3.1: types.
+-- 000, section 3.1: types.
 use Prim.Native.Nat.{ℕ, zero, suc}
 use mathlib.Core.Bool.{Bool, true, false}
 use Rattle.formats.specs.Programs.{Sort, numberValued, treeValued, Signature}

@@ -1,8 +1,11 @@
--- Document 000, Figure 6, for document 01's programs: the rules of the typing judgement, under their names.
+-- 000, Figure 6, for the programs of 01, Program file: the rules of the typing judgement, under
+-- their names.
 --
--- A judgement Γ | Δ ⊢ M : τ is `Types gs g n Δ e τ`. Γ holds the types of all functions (gs: a function's term may use every one of them, as T-Fix
--- has it for one), and number names 0 to g − 1, each an Int. Δ, the ordered linear type environment, is the list of its tree names. n is the
--- number of tree names bound so far: 01 counts names along the path, so Case's node part binds n and n + 1.
+-- A judgement Γ | Δ ⊢ M : τ is `Types gs g n Δ e τ`. Γ holds the types of all functions (gs: a
+-- function's term may use every one of them, as T-Fix has it for one), and number names 0 to g − 1,
+-- each an Int. Δ, the ordered linear type environment, is the list of its tree names. n is the
+-- number of tree names bound so far: names count along the path (01, Names), so Case's node part
+-- binds n and n + 1.
 --
 -- The theorem stands beside this file: OrderChecker.antt, field `passes`. The checker passes precisely what these rules admit, within the limits.
 use Prim.Native.Nat.{ℕ, suc, _<_}
@@ -52,14 +55,14 @@ mutual
         → Types gs (suc g) n Δ₂ p τ
         → Types gs g (suc (suc n)) (n ∷ (suc n ∷ Δ₂)) q τ
         → Types gs g n (Δ₁ ++ Δ₂) (caseOf a p q) τ
-    -- Document 01's own: "Let's number part comes first, then its body over the trees still pending (000's let, an applied abstraction, reaches
-    -- none)."
+    -- 01, Let and IfZero: "Let's number part comes first, then its body over the trees still
+    -- pending (000's let, an applied abstraction, reaches none)."
     Let-01 :
         {g n : ℕ} {Δ₁ Δ₂ : List ℕ} {p body : Expr} {τ : Ty}
         → Types gs g n Δ₁ p Int
         → Types gs (suc g) n Δ₂ body τ
         → Types gs g n (Δ₁ ++ Δ₂) (letIn p body) τ
-    -- Document 01's own: "IfZero takes its zero part on 0, else the other".
+    -- 01, Let and IfZero: "IfZero takes its zero part on 0, else the other".
     IfZero-01 :
         {g n : ℕ} {Δ₁ Δ₂ : List ℕ} {t z o : Expr} {τ : Ty}
         → Types gs g n Δ₁ t Int

@@ -1,1 +1,2 @@
-// Definitions and theorems, and no code: document 01's "Checking", and document 000's typing rules. See specs/.
+// Definitions and theorems, and no code: 01, Checking, and the typing rules of 000, Figure 6. See
+// specs/.

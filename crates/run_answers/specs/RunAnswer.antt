@@ -13,8 +13,8 @@ use Rattle.run_answers.specs.Told.{Stored, Told}
 abbrev pub runPlaces : ℕ
 runPlaces = 5
 
--- 01: "Labels, i and instruction numbers are two's complement." The number sign-extended: a 32-bit word as the 64-bit word that stands for the same
--- number.
+-- 01, Notation: "Labels, i and instruction numbers are two's complement." The number sign-extended:
+-- a 32-bit word as the 64-bit word that stands for the same number.
 unfoldable pub signExtended : ℕ → ℕ
 signExtended w = elim (ltb w (2 ^ 31)) [ true ↦ w | false ↦ w + (2 ^ 64 - 2 ^ 32) ]
 

@@ -23,7 +23,7 @@ use Rattle.stepwise.specs.Comes.{Told, Comes}
 use Rattle.result_bytes.specs.Bytes.{countLimit}
 use Rattle.source.specs.declared.SourceAnswer.{SourceAnswer}
 
--- The answer, as document 01 has it.
+-- The answer, as 01, The source run, has it.
 abbrev pub answered : SourceAnswer → Due
 answered a = record { outcome = said (a .verdict); begun = a .begun; bytesWritten = a .written; number = a .number }
 

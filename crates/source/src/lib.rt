@@ -1,5 +1,5 @@
-// The source run: document 01's source evaluation of a program on a tree, within limits: the checks in order, then a walk that counts the result's bytes and
-// one that writes them.
+// 01, The source run: the source evaluation of a program on a tree, within limits: the checks in
+// order, then a walk that counts the result's bytes and one that writes them.
 use refusal::Filled;
 use refusal::Refusal;
 use refusal::Verdict;

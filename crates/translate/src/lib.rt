@@ -1,4 +1,4 @@
-// The translator: from a program's records to its code, by document 01's templates.
+// The translator: from a program's records to its code, by 01, Templates.
 use code_scope::Scope;
 use lay_items::Labels;
 use records::Parts;

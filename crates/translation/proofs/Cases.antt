@@ -107,7 +107,7 @@ record Listing : Type 0 where
 lists : Program → List Operation → Listing
 lists of lines = record { of = of; lines = lines }
 
--- 01, "Worked programs": Grow's listing; and those of the programs above.
+-- 01, Worked programs: Grow's listing; and those of the programs above.
 listings : List Listing
 listings =
     lists grow
@@ -173,7 +173,7 @@ grow-bytes = refl
 
 -- ---- runs
 
--- A call on a tree's tokens, with the work space that document 01 asks for.
+-- A call on a tree's tokens, with the work space of 01, Work words.
 record Row : Type 0 where
   runs : Program
   on : Tree

@@ -80,7 +80,7 @@ module _ (entries : ℕ → ℕ) where
   entry-within a [] (suc b) = omega arith
   entry-within a (f ∷ fs) (suc b) = omega (arith, length-functions a f fs, entry-within (behindFunction f a) fs b)
 
--- 01: "At most 4,128 instructions."
+-- 01, Limits: "At most 4,128 instructions."
 pub few-instructions : (program : Program) → Lawful program → length (operationsOf program) ≤ mostInstructions
 unfolding operationsOf
 few-instructions program l = omega (arith, few-in-functions (entryOf program) 0 (program .functions), l .few-nodes, l .few-functions)
@@ -100,7 +100,7 @@ word-small words k h = by-name (atLevel words k) refl
     by-name none e = omega arith
     by-name (some w) e = level-every Small words k h e
 
--- 01: "number parameters (0 to 4; ..)".
+-- 01, Function records: "number parameters (0 to 4; ..)".
 abbrev mostArguments : ℕ
 mostArguments = 4
 

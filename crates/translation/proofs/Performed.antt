@@ -83,7 +83,7 @@ module _ (m : Setting) (s : State) where
   unfolding operate one
   does-drop i rest h e = performs-dry m s _ _ h refl (λ space. rw (e, operate) refl)
 
-  -- 01: "ifnot (pop; nonzero goes to operand)"
+  -- 01, Opcodes: "ifnot (pop; nonzero goes to operand)"
   pub does-ifnot-zero : (a : ℕ) (rest : List ℕ) → Next m s (Ifnot a) → s .frame ≡ zero ∷ rest → Path m s (moved (suc (s .address)) rest s) 1
   unfolding operate one
   does-ifnot-zero a rest h e = performs-dry m s _ _ h refl (λ space. rw (e, operate) refl)

@@ -1,5 +1,6 @@
--- Document 01, "Worked programs": the sentences marked P as one table, proved by one computation over the definitions. A row begins with a program's
--- records: the writer's definition makes a file of them, and a call is made on that file. A second table has calls on other bytes, and buffers that are
+-- 01, Worked programs: the sentences marked P as one table, proved by one computation over the
+-- definitions. A row begins with a program's records: the writer's definition makes a file of them,
+-- and a call is made on that file. A second table has calls on other bytes, and buffers that are
 -- too short or just long enough.
 use Prim.Native.Nat.{ℕ}
 use Prim.Native.String.{String}
@@ -34,7 +35,7 @@ use Rattle.translation.specs.Calls.{checkedRecords, translateRecords, tr
 use Rattle.translation.specs.Listing.{lineOf, linesFrom, instructionsIn, listingOf, listing}
 use Rattle.translation.specs.ListingText.{field, signedField, lineText, linesText, codeWord, refusedWord, text}
 
--- ---- programs, in document 01's words
+-- ---- programs, in the words of 01, Worked programs
 
 -- Function b on tree a.
 infix 70 Call_on_
@@ -48,23 +49,23 @@ one-function sort ks =
     ∷ signatureRecord (record { sort = sort; parameters = 0; count = length ks })
     ∷ map fieldsOf ks
 
--- 01: "Grow: Case 0, Leaf, Add, Var 0, Const 1, Node, Call 0 on 1, Call 0 on 2."
+-- 01, Worked programs: "Grow: Case 0, Leaf, Add, Var 0, Const 1, Node, Call 0 on 1, Call 0 on 2."
 grow : List Record
 grow = one-function treeValued (Case 0 ∷ Leaf ∷ Add ∷ Var 0 ∷ Const 1 ∷ Node ∷ Call 0 on 1 ∷ Call 0 on 2 ∷ [])
 
--- 01: "Case 0, Leaf, Var 0, Node, Call 0 on 2, Call 0 on 1".
+-- 01, Worked programs: "Case 0, Leaf, Var 0, Node, Call 0 on 2, Call 0 on 1".
 swapped : List Record
 swapped = one-function treeValued (Case 0 ∷ Leaf ∷ Var 0 ∷ Node ∷ Call 0 on 2 ∷ Call 0 on 1 ∷ [])
 
--- 01: "Case 0, Const 1, Call 0 on 1 (number)".
+-- 01, Worked programs: "Case 0, Const 1, Call 0 on 1 (number)".
 tree-left : List Record
 tree-left = one-function numberValued (Case 0 ∷ Const 1 ∷ Call 0 on 1 ∷ [])
 
--- 01: "Call 0 on 0". Its result is a number or a tree: both pass.
+-- 01, Worked programs: "Call 0 on 0". Its result is a number or a tree: both pass.
 again : Sort → List Record
 again sort = one-function sort (Call 0 on 0 ∷ [])
 
--- 01: "Tree T: 02 01 05 00 00 00 01 07 00 00 00."
+-- 01, Worked programs: "Tree T: 02 01 05 00 00 00 01 07 00 00 00."
 T : List ℕ
 T = 2 ∷ 1 ∷ 5 ∷ 0 ∷ 0 ∷ 0 ∷ 1 ∷ 7 ∷ 0 ∷ 0 ∷ 0 ∷ []
 
@@ -85,7 +86,7 @@ data Gives : Type 0 where
   aRun : Called → Gives
   aSourceRun : SourceRan → Gives
 
--- What a file gives. The source run is lent the work space that document 01 asks for.
+-- What a file gives. The source run is lent the work space of 01, Work words.
 asked-of : List ℕ → Asked → Gives
 asked-of file list = aListing (text (listing file))
 asked-of file (translate code) = aCode (translateFile (length code) file) (lent code (translateFile (length code) file))
@@ -133,7 +134,8 @@ given r = onValue (λ file. asked-of file (r .asked)) (writeFile (flat (r .recor
 lists : List Record → List String → Row
 lists records ls = record { records = records; asked = list; due = aListing (printed ls) }
 
--- A run on an input, with so much fuel, so many bytes of output and of code buffer, and the work space that document 01 asks for.
+-- A run on an input, with so much fuel, so many bytes of output and of code buffer, and the work
+-- space of 01, Work words.
 runs : List Record → (input : List ℕ) (fuel space room : ℕ) → Gives → Row
 runs records input fuel space room due =
     record { records = records; asked = runOn input (nines space) (nines room) fuel valueWords returnWords; due = due }
@@ -167,8 +169,9 @@ again-code rest =
     ∷ 13 ∷ 1 ∷ 0 ∷ 0 ∷ 0 ∷ 0 ∷ 0 ∷ 0
     ∷ nines rest
 
--- Each sentence marked P, in document 01's order, and the source runs that stand on the same lines. Where a sentence gives no fuel, there is enough; where
--- it gives no input, it is T.
+-- Each sentence marked P, in the order of 01, Worked programs, and the source runs that stand on
+-- the same lines. Where a sentence gives no fuel, there is enough; where it gives no input, it is
+-- T.
 rows : List Row
 rows =
     -- "Grow passes. The listing program reads its file from standard input and prints ..:"

@@ -21,7 +21,8 @@ use Rattle.translation.specs.Templates.{codeOf}
 unfoldable pub checkedRecords : List ℕ → Result Program
 checkedRecords s = andThen (readProgram s) (λ program. onValue (λ u. program) (order program))
 
--- 01: "the translator needs both passes, then tests 13." The code of flat records, where the code buffer has so much room.
+-- 01, Checking: "the translator needs both passes, then tests 13." The code of flat records, where
+-- the code buffer has so much room.
 unfoldable pub translateRecords : ℕ → List ℕ → Result (List ℕ)
 translateRecords room s = andThen (checkedRecords s) (λ program. within room (codeOf program))
 
@@ -42,12 +43,14 @@ unfoldable pub prepared : (room values returns : ℕ) (file : List ℕ) → Resu
 prepared room values returns file =
     andThen (translateFile room file) (λ code. check (leb valueWords values && leb returnWords returns) spaceTooShort 0 code)
 
--- 01: "A run refused before its first instruction .. answers 0 in every count."
+-- 01, What the lent buffers hold: "A run refused before its first instruction .. answers 0 in every
+-- count."
 abbrev pub refusedBefore : ℕ → ℕ → Answer
 refusedBefore number place = record { outcome = refusal number place; units = 0; bytesRead = 0; bytesWritten = 0; number = 0 }
 
--- The code goes to the start of the code buffer and stays, whatever the run answers; the run is that of the code alone. 01: "A refusal leaves every
--- output buffer untouched, save the stream run's".
+-- The code goes to the start of the code buffer and stays, whatever the run answers; the run is
+-- that of the code alone. 01, What the lent buffers hold: "A refusal leaves every output buffer
+-- untouched, save the stream run's".
 unfoldable pub runFile : (file input output code : List ℕ) (fuel values returns : ℕ) → Called
 runFile file input output code fuel values returns =
     elim (prepared (length code) values returns file) [

@@ -86,11 +86,12 @@ pub record InPlace (program : Program) (b : ℕ) (f : Function) : Type 0 where
 
 -- Of a program within the limits of "Program file".
 pub record CodeLimits (program : Program) : Type 0 where
-  -- 01: "At most 4,128 instructions."
+  -- 01, Limits: "At most 4,128 instructions."
   pub few : length (operationsOf program) ≤ mostInstructions
   -- each field of each instruction fits its bytes
   pub fit : Every (λ op. Ranged (instructionOf op)) (operationsOf program)
-  -- 01: "each one's instructions go into the part of the code buffer that begins at its entry"
+  -- 01, Addresses and entries: "each one's instructions go into the part of the code buffer that
+  -- begins at its entry"
   pub in-place : (b : ℕ) (f : Function) → nth (program .functions) b ≡ some f → InPlace program b f
   -- words are counted as the machine moves them, in a step that opens no call and leaves none
   pub as-counted :

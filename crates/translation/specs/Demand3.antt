@@ -1,13 +1,16 @@
 -- Demand 3, sentence by sentence. The statement is `Demand3Holds`, at the end; `demand-3` in proofs/Demand3.antt is its proof.
 --
--- 01: "Demand 3 runs the translator's code for a program both passes accept, work space lent; its 4n + 1 is meant where it fits 64 bits." Here fuel is any
--- number.
+-- 01, The code and the evaluation: "Demand 3 runs the translator's code for a program both passes
+-- accept, work space lent; its 4n + 1 is meant where it fits 64 bits." Here fuel is any number.
 --
--- Its words. A program's code: `codeOf` (Templates), by document 01's templates. The stream run: `streamRun` (meaning, Running), its answer and every byte
--- of the output. The source evaluation: `Ends program t o n v` (meaning, Evaluation), it ends with the value v after n expressions, with at most o calls
--- open at once, the first included; it is endless where there are no such o, n and v. `mostCalls` is 1,024. The source's result: `resultBytes v`, a tree's
--- tokens, none for a number; `resultNumber v`, the number, 0 for a tree. `Opens vs s`: vs are opening bytes of s, none or all included. `writtenBy`: the
--- output's first bytes, as many as the answer says are written; `untouchedBy`: the bytes behind those.
+-- Its words. A program's code: `codeOf` (Templates), by 01, Templates. The stream run: `streamRun`
+-- (meaning, Running), its answer and every byte of the output. The source evaluation: `Ends program
+-- t o n v` (meaning, Evaluation), it ends with the value v after n expressions, with at most o
+-- calls open at once, the first included; it is endless where there are no such o, n and v.
+-- `mostCalls` is 1,024. The source's result: `resultBytes v`, a tree's tokens, none for a number;
+-- `resultNumber v`, the number, 0 for a tree. `Opens vs s`: vs are opening bytes of s, none or all
+-- included. `writtenBy`: the output's first bytes, as many as the answer says are written;
+-- `untouchedBy`: the bytes behind those.
 use Prim.Native.Nat.{ℕ, _+_, _*_, _≤_}
 use mathlib.Core.List.{List, _++_}
 use mathlib.Core.Logic.{_≢_}
@@ -28,8 +31,8 @@ pub record Checked (program : Program) : Type 0 where
   pub lawful : Lawful program
   pub passes : order program ≡ done tt
 
--- A checked program, with what its runs are given besides input, output and fuel: a code buffer that begins with its code, and work space, document
--- 01's or more.
+-- A checked program, with what its runs are given besides input, output and fuel: a code buffer
+-- that begins with its code, and work space, that of 01, Work words, or more.
 pub record Given : Type 0 where
   pub program : Program
   pub checked : Checked program

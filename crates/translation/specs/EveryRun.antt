@@ -27,7 +27,8 @@ pub record WholeAfter (units : ℕ) (t : Tree) (v : Value) (output : List ℕ) (
   pub whole : Whole t v output ran
   pub counted : ran .answer .units ≡ units
 
--- The units of an evaluation: the table's column "units", summed over the expressions begun. 01: "function 0's own return adds 1 unit".
+-- The units of an evaluation: the table's column "units", summed over the expressions begun. 01,
+-- Templates: "function 0's own return adds 1 unit".
 abbrev pub unitsOf : {program : Program} {t : Tree} {o n : ℕ} {v : Value} → Ends program t o n v → ℕ
 unitsOf ends = suc (unitsIn (ends .takes))
 
@@ -91,7 +92,8 @@ pub record EveryRun (program : Program) (run : (input output : List ℕ) (fuel :
       → run (tokens t ++ rest) output fuel .answer .outcome ≡ refusal outputFull (run (tokens t ++ rest) output fuel .answer .bytesRead)
   -- Where more than 1,024 calls would open (the evaluation does not end within 1,024 open calls), enough fuel and space give 18.
   pub too-many-calls : (t : Tree) → Labelled t → ((n : ℕ) (v : Value) → Ends program t mostCalls n v → ⊥) → Refused18 t run
-  -- 01: "19 never follows translated code." On any input, trees or not.
+  -- 01, Instructions that cannot be performed: "19 never follows translated code." On any input,
+  -- trees or not.
   pub never-19 : (input output : List ℕ) (fuel place : ℕ) → Bytes input → run input output fuel .answer .outcome ≢ refusal cannotPerform place
   -- A run ends on nothing else than a tree, and then it gives what the program means.
   pub ended-is-meant :

@@ -1,4 +1,4 @@
--- Document 01, "Worked programs": the listing of a program file, which is what the listing program prints.
+-- 01, The listing: the listing of a program file, which is what the listing program prints.
 use Prim.Native.Nat.{ℕ, zero, suc, _*_, _/_}
 use mathlib.Core.List.{List, [], _∷_}
 use mathlib.Core.Path.{_≡_}
@@ -12,18 +12,20 @@ use Rattle.meaning.specs.Instructions.{Instruction, instructionBytes, mostInstr
 use Rattle.translation.specs.Templates.{codeOf}
 use Rattle.translation.specs.Calls.{checkedRecords, translateFile}
 
--- 01: "prints, a line each, address, opcode, byte 1, operand, number".
+-- 01, The listing: "prints, a line each, address, opcode, byte 1, operand, number".
 pub data Line : Type 0 where
   line : (address opcode byte1 operand : ℕ) (number : ℤ) → Line
 
--- 01: "after a heading with the count (a refused file gives one line: refused, number, position)".
+-- 01, The listing: "after a heading with the count (a refused file gives one line: refused, number,
+-- position)".
 pub data Listing : Type 0 where
   -- the heading, "code" and the count, and the lines
   listed : (count : ℕ) (lines : List Line) → Listing
   -- the one line, "refused", the number and the position
   refused : (number position : ℕ) → Listing
 
--- The line of the instruction at address a. 01: "instruction numbers are two's complement".
+-- The line of the instruction at address a. 01, Notation: "instruction numbers are two's
+-- complement".
 unfoldable pub lineOf : ℕ → Instruction → Line
 lineOf a (fields opcode byte1 operand number) = line a opcode byte1 operand (signed32 number)
 
@@ -45,7 +47,8 @@ listingOf (refusal number position) = refused number position
 unfoldable pub listing : List ℕ → Listing
 listing file = listingOf (translateFile (instructionBytes * mostInstructions) file)
 
--- 01: "At most 4,128 instructions." With room for so many, the code is that of the program which both passes accept, or the first refusal before 13.
+-- 01, Limits: "At most 4,128 instructions." With room for so many, the code is that of the program
+-- which both passes accept, or the first refusal before 13.
 abbrev pub NeverShort : Type 0
 NeverShort =
     (file : List ℕ) → Bytes file

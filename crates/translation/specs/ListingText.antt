@@ -1,4 +1,4 @@
--- Document 01, "Worked programs": a listing as the bytes that are printed.
+-- 01, The listing: a listing as the bytes that are printed.
 use Prim.Native.Nat.{ℕ, suc}
 use mathlib.Core.List.{List, [], _∷_, _++_}
 use lib.IntN.{ℤ, pos, negsuc}
@@ -15,7 +15,7 @@ unfoldable pub signedField : ℤ → List ℕ
 signedField (pos n) = field n newline
 signedField (negsuc n) = minus ∷ field (suc n) newline
 
--- 01: "prints, a line each, address, opcode, byte 1, operand, number".
+-- 01, The listing: "prints, a line each, address, opcode, byte 1, operand, number".
 unfoldable pub lineText : Line → List ℕ
 lineText (line address opcode byte1 operand number) =
     field address space ++ (field opcode space ++ (field byte1 space ++ (field operand space ++ signedField number)))
@@ -31,7 +31,8 @@ codeWord = ascii "code "
 unfoldable pub refusedWord : List ℕ
 refusedWord = ascii "refused "
 
--- 01: "after a heading with the count (a refused file gives one line: refused, number, position)".
+-- 01, The listing: "after a heading with the count (a refused file gives one line: refused, number,
+-- position)".
 unfoldable pub text : Listing → List ℕ
 text (listed count lines) = codeWord ++ (field count newline ++ linesText lines)
 text (refused number position) = refusedWord ++ (field number space ++ field position newline)

@@ -1,5 +1,5 @@
--- The code of a program, by document 01's templates. Demand 2: "the code is the one its templates give, with no optimiser: readers compare listings by
--- eye".
+-- The code of a program, by 01, Templates. Demand 2: "the code is the one its templates give, with
+-- no optimiser: readers compare listings by eye".
 use Prim.Native.Nat.{ℕ, zero, suc}
 use mathlib.Core.List.{List, [], _∷_, _++_, map}
 use mathlib.Core.Option.{none, some}
@@ -30,8 +30,10 @@ unfoldable mutual
 
 -- ---- words
 
--- The word that each number name stands on, the newest name first. 01: "get (operand: word above the base)". A number found before and not named has a word
--- of its own below, so a name's word may be higher than its number. (01's trap: "Forgetting that a temporary below moves a variable's word.")
+-- The word that each number name stands on, the newest name first. 01, Opcodes: "get (operand: word
+-- above the base)". A number found before and not named has a word of its own below, so a name's
+-- word may be higher than its number. (01, Traps: "Forgetting that a temporary below moves a
+-- variable's word.")
 abbrev pub Words : Type 0
 Words = List ℕ
 
@@ -39,21 +41,24 @@ Words = List ℕ
 unfoldable pub wordOf : Words → ℕ → ℕ
 wordOf words a = elim (atLevel words a) [ none ↦ 0 | some w ↦ w ]
 
--- 01: "the new frame's first words". The words of so many parameters: 0 and up, the newest first.
+-- 01, Opcodes: "the new frame's first words". The words of so many parameters: 0 and up, the newest
+-- first.
 unfoldable pub firstWords : ℕ → Words
 firstWords zero = []
 firstWords (suc k) = k ∷ firstWords k
 
 -- ---- templates
 
--- 01: ""end" is slide where a number is expected, drop where a tree is."
+-- 01, Templates: ""end" is slide where a number is expected, drop where a tree is."
 unfoldable pub endOf : Sort → Operation
 endOf numberValued = Slide
 endOf treeValued = Drop
 
--- The code of an expression, by the table's column "code": in a program whose functions have these entries; a value of sort s is expected; the names
--- stand on these words, and w words stand above the base on entering; the code begins at address a. 01: "Let's body and Case's leaf part add one number
--- name": it stands on word w, where its number was pushed. A label of the table (L, M) is the address that it stands at.
+-- The code of an expression, by the table's column "code": in a program whose functions have these
+-- entries; a value of sort s is expected; the names stand on these words, and w words stand above
+-- the base on entering; the code begins at address a. 01, Names: "Let's body and Case's leaf part
+-- add one number name": it stands on word w, where its number was pushed. A label of the table (L,
+-- M) is the address that it stands at.
 unfoldable mutual
   pub code : (entries : ℕ → ℕ) (s : Sort) (words : Words) (w a : ℕ) → Expr → List Operation
   -- "push i"
@@ -93,12 +98,12 @@ unfoldable mutual
 
 -- ---- functions
 
--- 01: "return (byte 1: 0 or 1 words kept ..)": a number is kept.
+-- 01, Opcodes: "return (byte 1: 0 or 1 words kept ..)": a number is kept.
 unfoldable pub wordsKept : Sort → ℕ
 wordsKept numberValued = 1
 wordsKept treeValued = 0
 
--- 01: "A function is its body, then return".
+-- 01, Templates: "A function is its body, then return".
 unfoldable pub functionCode : (entries : ℕ → ℕ) → ℕ → Function → List Operation
 functionCode entries a f =
     code entries (f .sort) (firstWords (f .parameters)) (f .parameters) a (f .body) ++ (Return (wordsKept (f .sort)) ∷ [])
@@ -107,8 +112,9 @@ functionCode entries a f =
 unfoldable pub behindFunction : Function → ℕ → ℕ
 behindFunction f a = suc (behind (f .body) a)
 
--- 01: "Functions follow in order; each one's instructions go into the part of the code buffer that begins at its entry." Where function b begins, if the
--- first of these begins at a; behind the last where there is no function b.
+-- 01, Addresses and entries: "Functions follow in order; each one's instructions go into the part
+-- of the code buffer that begins at its entry." Where function b begins, if the first of these
+-- begins at a; behind the last where there is no function b.
 unfoldable pub entryFrom : ℕ → List Function → ℕ → ℕ
 entryFrom a fs zero = a
 entryFrom a [] (suc b) = a
@@ -129,6 +135,6 @@ entryOf program b = entryFrom 0 (program .functions) b
 unfoldable pub operationsOf : Program → List Operation
 operationsOf program = functionsCode (entryOf program) 0 (program .functions)
 
--- The same as bytes. 01: "Unused fields are written zero".
+-- The same as bytes. 01, Instructions: "Unused fields are written zero".
 unfoldable pub codeOf : Program → List ℕ
 codeOf program = flat (map instructionOf (operationsOf program))

@@ -53,7 +53,7 @@ pub record ThisCall (program : Program) (t : Tree) (rest before : List ℕ) (fue
 
 -- A call on any input, trees or not (the statements of EveryRun).
 pub record AnyCall (program : Program) (input before : List ℕ) (answer : Answer) (after : List ℕ) : Type 0 where
-  -- 01: "19 never follows translated code."
+  -- 01, Instructions that cannot be performed: "19 never follows translated code."
   pub never-19 : (place : ℕ) → answer .outcome ≢ refusal cannotPerform place
   -- It ends on nothing else than a tree, and then it gives what the program means.
   pub ended-is-meant : answer .outcome ≡ done tt → Meant program input before (ranWith answer after)
@@ -79,7 +79,8 @@ pub record ProgramRun (file input output code : List ℕ) (fuel values returns :
   -- and on any input, trees or not
   pub any-input : (program : Program) → Ready file code values returns program → AnyCall program input output answer after
 
--- Every checked program can be run so: it has a file, and with code buffer and work space of document 01's lengths the call comes to its run.
+-- Every checked program can be run so: it has a file, and with code buffer and work space of the
+-- lengths in 01, Limits, the call comes to its run.
 pub record Runnable (program : Program) : Type 0 where
   pub file : List ℕ
   pub bytes : Bytes file

@@ -1,4 +1,4 @@
--- The tree reader's answer as document 01 has it: each case with its number and values.
+-- The tree reader's answer as 01, The tree reader, has it: each case with its number and values.
 use Prim.Native.Nat.{ℕ}
 use Rattle.refusal.specs.Number.{number}
 use Rattle.tree.specs.declared.TreeAnswer.{TreeAnswer}

@@ -1,4 +1,4 @@
-// The tree reader of document 01, "Tokens": the first tree of a buffer as a part of it, and beside it the refusal with
+// 01, The tree reader: the first tree of a buffer as a part of it, and beside it the refusal with
 // its place.
 use refusal::Refusal;
 ghost use mathlib.Core.Path.{_≡_};

@@ -15,19 +15,15 @@ const WORDS: [&str; 2] = ["requires", "unsafe"];
 
 /// All files below a folder with one of these endings.
 fn files_below(folder: &Path, endings: &[&str]) -> Vec<PathBuf> {
-    let mut files = Vec::new();
-    for entry in fs::read_dir(folder).unwrap() {
-        let path = entry.unwrap().path();
-        if path.is_dir() {
-            files.extend(files_below(&path, endings));
-        } else if path
-            .extension()
-            .is_some_and(|end| endings.contains(&end.to_str().unwrap()))
-        {
-            files.push(path);
-        }
-    }
-    files
+    let entries = fs::read_dir(folder).unwrap();
+    let paths = entries.map(|entry| entry.unwrap().path());
+    let (folders, files): (Vec<_>, Vec<_>) = paths.partition(|path| path.is_dir());
+    let ends = |path: &PathBuf| {
+        let name = path.to_str().unwrap();
+        endings.iter().any(|end| name.ends_with(end))
+    };
+    let below = folders.iter().flat_map(|path| files_below(path, endings));
+    files.into_iter().filter(ends).chain(below).collect()
 }
 
 /// The names that each file of the project declares.
@@ -37,8 +33,8 @@ struct Declared {
 
 impl Declared {
     fn new() -> Declared {
-        let mut files = files_below(&repository("crates"), &["antt", "rt"]);
-        files.extend(files_below(&repository("rust/hogvax"), &["rs"]));
+        let mut files = files_below(&repository("crates"), &[".antt", ".rt"]);
+        files.extend(files_below(&repository("rust/hogvax"), &[".rs"]));
         let names = |path: PathBuf| {
             let text = fs::read_to_string(path).unwrap();
             declarations(&text).map(str::to_owned).collect()
@@ -76,13 +72,11 @@ fn is_path(text: &str) -> bool {
 fn missing(page: &str) -> (Vec<String>, usize) {
     let declared = Declared::new();
     let texts = between_backticks(page);
-    let is_there = |text: &str| {
-        let edit = text.split_once('/');
-        let is_edit = edit.map_or(edits::is_anywhere(text), |(place, name)| {
-            edits::is_there(place, name)
-        });
-        is_edit || is_path(text) || is_path(&format!("crates/{text}")) || declared.has(text)
+    let is_edit = |text: &str| match text.split_once('/') {
+        Some((place, name)) => edits::is_there(place, name),
+        None => edits::is_anywhere(text),
     };
+    let is_there = |text: &str| is_edit(text) || is_path(text) || declared.has(text);
     let asked = |text: &&String| {
         let is_word = WORDS.contains(&&text[..]);
         let is_asked = is_name(text) || text.contains('/') || text.ends_with(".rs");

@@ -6,7 +6,7 @@ use crate::checks::{idle_definitions, is_inner};
 use crate::closure::{Believed, Closure};
 use crate::project::{crate_of, Project};
 use crate::roots::{CONTRACTS, STATEMENTS};
-use crate::text::{counted, quoted, sentence, wrapped, MADE};
+use crate::text::{counted, number, quoted, sentence, wrapped, MADE};
 
 const INTRODUCTION: &str = "Whoever relies on Hogvax must believe that the definitions below say \
     what is meant. All else is proved about them, or tested. They are those on which the promises \
@@ -47,11 +47,13 @@ fn figures(project: &Project, files: &BTreeMap<&str, BTreeSet<usize>>) -> [usize
 fn totals(project: &Project, closure: &Closure) -> String {
     let [files, lines, believed, definitions] = figures(project, &closure.files());
     let said = format!(
-        "In all: {}, {}. The files have {lines} lines, of which {believed} are lines of believed \
+        "In all: {} in {}. The files have {}, of which {} are lines of believed \
          definitions; the others are comments, blank lines, imports, and what nothing believed \
          rests on.",
         counted(definitions, "definition"),
         counted(files, "file"),
+        counted(lines, "line"),
+        number(believed),
     );
     format!("\n{}", wrapped("", "", &said))
 }

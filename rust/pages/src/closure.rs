@@ -1,10 +1,11 @@
 //! What the promises rest on, definition by definition.
 
+use std::collections::btree_map::Entry;
 use std::collections::{BTreeMap, BTreeSet};
 
 use crate::imports::{Import, Module};
 use crate::items::AnttFile;
-use crate::project::Project;
+use crate::project::{crate_of, Project};
 use crate::roots::{CONTRACTS, STATEMENTS};
 use crate::source::Sort;
 use crate::words::{uses, words};
@@ -40,7 +41,7 @@ impl Closure {
             ));
         }
         for (place, name) in STATEMENTS {
-            roots.push(definition(project, place, name));
+            roots.extend(definitions(project, place, name));
         }
         Closure::from(project, roots)
     }
@@ -48,10 +49,10 @@ impl Closure {
     pub fn from(project: &Project, roots: Vec<Believed>) -> Closure {
         let (mut rests_on, mut open) = (BTreeMap::new(), roots);
         while let Some(one) = open.pop() {
-            if !rests_on.contains_key(&one) {
-                let under = under(project, &one);
+            if let Entry::Vacant(place) = rests_on.entry(one) {
+                let under = under(project, place.key());
                 open.extend(under.iter().cloned());
-                rests_on.insert(one, under);
+                place.insert(under);
             }
         }
         Closure { rests_on }
@@ -81,29 +82,34 @@ impl Closure {
     }
 }
 
-/// What the contracts of these functions name.
+/// What the contracts of these functions name, or of all functions where none is named.
 pub fn contract_roots(project: &Project, place: &str, functions: &[&str]) -> Vec<Believed> {
     let source = &project.sources[place];
+    for name in functions {
+        assert!(source.find(name).is_some(), "{place}.rt has no {name}");
+    }
     let is_root = |name: &str| functions.is_empty() || functions.contains(&name);
     let mut roots = Vec::new();
     for one in &source.declarations {
         if one.sort == Sort::Function && is_root(&one.name) {
-            let words = one.contract_words();
+            let words = one.contract.iter().flat_map(|line| words(line)).collect();
             roots.extend(imported(project, &source.imports, &words));
-            let place = crate::project::crate_of(place);
-            roots.extend(declared_types(project, place, &words));
+            roots.extend(declared_types(project, crate_of(place), &one.contract));
         }
     }
     roots
 }
 
-/// The definition of this name in a file.
-pub fn definition(project: &Project, place: &str, name: &str) -> Believed {
+/// The definitions of this name in a file: one, if the name is not a constructor's or a field's.
+pub fn definitions(project: &Project, place: &str, name: &str) -> Vec<Believed> {
     let file = project.files.get(place);
     let file = file.unwrap_or_else(|| panic!("there is no {place}.antt"));
-    let item = file.declaring(name);
-    let item = item.unwrap_or_else(|| panic!("{place}.antt declares no {name}"));
-    Believed::Definition(place.to_owned(), item)
+    let items = file.declaring(name).into_iter();
+    let found: Vec<Believed> = items
+        .map(|item| Believed::Definition(place.to_owned(), item))
+        .collect();
+    assert!(!found.is_empty(), "{place}.antt declares no {name}");
+    found
 }
 
 /// What something rests on itself.
@@ -121,8 +127,7 @@ fn under(project: &Project, one: &Believed) -> Vec<Believed> {
             let mut found = sources.filter_map(|source| source.find(name));
             let one = found.next();
             let one = one.unwrap_or_else(|| panic!("{place} declares no {name}"));
-            let words = one.body.iter().flat_map(|line| words(line)).collect();
-            declared_types(project, place, &words)
+            declared_types(project, place, &one.body)
         }
         Believed::Proved(..) | Believed::Kit(..) => Vec::new(),
     }
@@ -141,7 +146,7 @@ fn imported(project: &Project, imports: &[Import], words: &BTreeSet<String>) -> 
     let mut found = Vec::new();
     for import in imports {
         let names = import.names.iter().filter(|name| uses(words, &name.here));
-        found.extend(names.map(|name| believed(project, &import.module, &name.there)));
+        found.extend(names.flat_map(|name| believed(project, &import.module, &name.there)));
         if let Some(whole) = import.whole.as_ref().filter(|name| words.contains(*name)) {
             found.extend(whole_module(project, &import.module, whole));
         }
@@ -149,12 +154,14 @@ fn imported(project: &Project, imports: &[Import], words: &BTreeSet<String>) -> 
     found
 }
 
-fn believed(project: &Project, module: &Module, name: &str) -> Believed {
+fn believed(project: &Project, module: &Module, name: &str) -> Vec<Believed> {
     match module {
-        Module::File(place) if is_proof(place) => Believed::Proved(place.clone(), name.to_owned()),
-        Module::File(place) => definition(project, place, name),
-        Module::Declared { place, name } => Believed::Declared(place.clone(), name.clone()),
-        Module::Kit(module) => Believed::Kit(module.clone(), name.to_owned()),
+        Module::File(place) if is_proof(place) => {
+            vec![Believed::Proved(place.clone(), name.to_owned())]
+        }
+        Module::File(place) => definitions(project, place, name),
+        Module::Declared { place, name } => vec![Believed::Declared(place.clone(), name.clone())],
+        Module::Kit(module) => vec![Believed::Kit(module.clone(), name.to_owned())],
     }
 }
 
@@ -165,28 +172,31 @@ pub fn is_proof(place: &str) -> bool {
 
 /// Everything in a module that is imported under one name.
 fn whole_module(project: &Project, module: &Module, name: &str) -> Vec<Believed> {
-    let Module::File(place) = module else {
-        return vec![believed(project, module, name)];
-    };
-    if is_proof(place) {
-        return vec![believed(project, module, name)];
+    match module {
+        Module::File(place) if !is_proof(place) => {
+            let items = 0..project.files[place].items.len();
+            let all = items.map(|item| Believed::Definition(place.clone(), item));
+            all.collect()
+        }
+        _ => believed(project, module, name),
     }
-    let items = 0..project.files[place].items.len();
-    items
-        .map(|item| Believed::Definition(place.clone(), item))
-        .collect()
 }
 
-/// The structs and enums that words of a crate's Rattle source name.
-fn declared_types(project: &Project, place: &str, words: &BTreeSet<String>) -> Vec<Believed> {
+/// The structs and enums that lines of a crate's Rattle source name.
+fn declared_types(project: &Project, place: &str, lines: &[String]) -> Vec<Believed> {
+    let ends = |letter: char| !letter.is_alphanumeric() && letter != '_';
+    let words = lines.iter().flat_map(|line| line.split(ends));
+    let words: BTreeSet<&str> = words.collect();
     let mut found = Vec::new();
     for source in project.sources_of(place) {
         let types = source.declarations.iter();
-        let types = types.filter(|one| one.sort == Sort::Type && words.contains(&one.name));
+        let types = types.filter(|one| one.sort == Sort::Type && words.contains(&one.name[..]));
         found.extend(types.map(|one| Believed::Declared(place.to_owned(), one.name.clone())));
-        let used = source.used.iter();
-        let used =
-            used.filter(|(place, name)| project.crates.contains(place) && words.contains(name));
+        let used = source
+            .used
+            .iter()
+            .filter(|(_, name)| words.contains(&name[..]));
+        let used = used.filter(|(place, _)| project.crates.contains(place));
         found.extend(used.map(|(place, name)| Believed::Declared(place.clone(), name.clone())));
     }
     found

@@ -150,10 +150,11 @@ impl AnttFile {
         self.items.len() - 1
     }
 
-    /// The definition with this name, constructor or field.
-    pub fn declaring(&self, name: &str) -> Option<usize> {
-        let named = self.items.iter().position(|item| item.name == name);
-        named.or_else(|| self.items.iter().position(|item| item.declares(name)))
+    /// The definitions with this name, constructor or field.
+    pub fn declaring(&self, name: &str) -> Vec<usize> {
+        let all = self.items.iter().enumerate();
+        let all = all.filter(|(_, item)| item.declares(name));
+        all.map(|(number, _)| number).collect()
     }
 
     /// The definition that a line, counted from 0, stands in.

@@ -3,7 +3,6 @@
 use std::collections::BTreeSet;
 
 use crate::imports::Import;
-use crate::words::words;
 
 #[derive(Clone, Copy, Debug, PartialEq)]
 pub enum Sort {
@@ -28,10 +27,6 @@ pub struct Declaration {
 }
 
 impl Declaration {
-    pub fn contract_words(&self) -> BTreeSet<String> {
-        self.contract.iter().flat_map(|line| words(line)).collect()
-    }
-
     /// The names in its body, `crate::function` as one.
     pub fn body_names(&self) -> BTreeSet<String> {
         let ends = |letter: char| !(letter.is_alphanumeric() || letter == '_' || letter == ':');

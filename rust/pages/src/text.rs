@@ -52,10 +52,18 @@ pub fn quoted<T: AsRef<str>>(names: impl IntoIterator<Item = T>) -> String {
     names.join(", ")
 }
 
+/// A number, its thousands set off: 4,128.
+pub fn number(number: usize) -> String {
+    match number / 1000 {
+        0 => number.to_string(),
+        thousands => format!("{},{:03}", self::number(thousands), number % 1000),
+    }
+}
+
 /// A number with its noun: `1 file`, `2 files`.
 pub fn counted(number: usize, noun: &str) -> String {
     let end = if number == 1 { "" } else { "s" };
-    format!("{number} {noun}{end}")
+    format!("{} {noun}{end}", self::number(number))
 }
 
 /// A text that begins with a capital letter and ends with a full stop.

@@ -8,9 +8,9 @@ pub fn without_comment(line: &str) -> &str {
         let begins = line[..at]
             .chars()
             .next_back()
-            .map_or(true, char::is_whitespace);
+            .is_none_or(char::is_whitespace);
         let rest = line[at + 2..].chars().next();
-        let ends = rest.map_or(true, |next| next.is_whitespace() || next == '-');
+        let ends = rest.is_none_or(|next| next.is_whitespace() || next == '-');
         if begins && ends {
             return &line[..at];
         }

@@ -130,7 +130,7 @@ fn of_definitions_in(project: &Project, edits: &[Edit]) -> String {
     for (place, file) in project.crates.iter().flat_map(files) {
         let here = edits.iter().filter(|edit| &edit.file == place);
         let mut here: Vec<&Edit> = here.collect();
-        here.sort_by_key(|edit| file.declaring(&edit.changes[0]));
+        here.sort_by_key(|edit| file.declaring(&edit.changes[0]).first().copied());
         if !here.is_empty() {
             page += &format!("- `{place}`\n");
         }

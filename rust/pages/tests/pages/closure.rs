@@ -1,12 +1,12 @@
 //! What rests on what, in closed small cases.
 
 use crate::small::project;
-use pages::closure::{contract_roots, definition, Believed, Closure};
+use pages::closure::{contract_roots, definitions, Believed, Closure};
 use pages::project::Project;
 
 /// All that `top` of the file `one/specs/A` rests on, and itself.
 fn names(project: &Project) -> Vec<String> {
-    let closure = Closure::from(project, vec![definition(project, "one/specs/A", "top")]);
+    let closure = Closure::from(project, definitions(project, "one/specs/A", "top"));
     shown(project, &closure)
 }
 
@@ -133,7 +133,7 @@ fn contracts_count_and_bodies_do_not() {
     let a = "asked : N\ngiven : N\nother : N\nunder : N\n";
     let lib = "ghost use Rattle.one.specs.A.{asked, given as got, other, under};\n\n\
         pub struct Pair {\n    a: u8,\n}\n\n\
-        pub extern \"C\" fn first(\n    p: Pair,\n) -> u32\n    requires { ⌜ asked ⌝ }\n    \
+        pub extern \"C\" fn first(\n    p: &mut Many<Pair>,\n) -> u32\n    requires { ⌜ asked ⌝ }\n    \
         ensures { λ r. ⌜ r ≡ got ⌝ }\n{\n    under\n}\n\n\
         fn second() -> u32\n    ensures { ⌜ other ⌝ }\n{\n    1\n}\n\nfn main() {\n    under\n}\n";
     let small = project(&[("one/specs/A", a)], &[("one/src/lib", lib)]);
@@ -160,4 +160,20 @@ fn a_form_that_is_not_known_is_reported() {
         let read = std::panic::catch_unwind(|| alone(text));
         assert!(read.is_err(), "{text}");
     }
+}
+
+#[test]
+#[should_panic(expected = "one/src/lib.rt has no second")]
+fn a_function_that_is_not_there_is_reported() {
+    let small = project(&[], &[("one/src/lib", "fn first() {\n    1\n}\n")]);
+    contract_roots(&small, "one/src/lib", &["first", "second"]);
+}
+
+#[test]
+fn a_constructor_of_two_types_counts_to_both() {
+    let a = "use Rattle.one.specs.B.{none}\ntop : none\n";
+    let b =
+        "data First : Type 0 where\n  none : First\ndata Second : Type 0 where\n  none : Second\n";
+    let found = names(&project(&[("one/specs/A", a), ("one/specs/B", b)], &[]));
+    assert_eq!(found, ["top", "First", "Second"]);
 }

@@ -2,11 +2,11 @@
 
 use crate::small::project;
 use pages::checks::{idle_definitions, idle_files, imports_from_proofs, misplaced, unused_imports};
-use pages::closure::{definition, Closure};
+use pages::closure::{definitions, Closure};
 use pages::project::Project;
 
 fn with_closure(project: Project) -> (Project, Closure) {
-    let closure = Closure::from(&project, vec![definition(&project, "one/specs/A", "top")]);
+    let closure = Closure::from(&project, definitions(&project, "one/specs/A", "top"));
     (project, closure)
 }
 

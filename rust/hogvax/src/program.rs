@@ -1,13 +1,33 @@
 //! The file writer and the file reader of programs.
 
+use crate::assembly::records::{Record, Type, FUNCTION_0, RECORD_BYTES};
 use crate::{ffi, written, Refused};
 
 /// The bytes of the longest records: a header, 32 functions and 1,024 nodes,
 /// 8 bytes each.
-pub const LONGEST_RECORDS: usize = 8 * (1 + 32 + 1_024);
+pub const LONGEST_RECORDS: usize = RECORD_BYTES * (1 + 32 + 1_024);
 
 /// The bytes of the longest program file: 17 blocks of 512.
 pub const LONGEST_FILE: usize = 512 * 17;
+
+/// Whether a program gives a number and not a tree, which is what the record
+/// of its function 0 says. `false` if these bytes have no such record; nothing
+/// else about them is looked at.
+///
+/// ```
+/// // One function, which gives a number, and its only node, Const 5.
+/// let records = [
+///     1, 1, 1, 0, 0, 0, 0, 0, //
+///     0, 0, 1, 0, 0, 0, 0, 0, //
+///     0, 0, 0, 0, 5, 0, 0, 0,
+/// ];
+/// let file = hogvax::pack(&records).unwrap();
+/// assert!(hogvax::gives_a_number(&file));
+/// ```
+pub fn gives_a_number(file: &[u8]) -> bool {
+    let function = Record::nth(file, FUNCTION_0);
+    function.is_some_and(|function| function.result() == Type::Number)
+}
 
 /// The program file of these records, 8 bytes each: the header, the
 /// functions, and their nodes in prefix order. Or the first fault, each test

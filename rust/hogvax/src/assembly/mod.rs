@@ -28,7 +28,7 @@ mod lines;
 mod outline;
 mod parse;
 mod read;
-mod records;
+pub(crate) mod records;
 mod rest;
 mod show;
 mod wording;

@@ -2,7 +2,7 @@
 
 use super::lines::{lines, Word};
 use super::parse;
-use super::records::{function_line, Record, RECORD_BYTES};
+use super::records::{function_line, Record};
 use super::rest::decimal;
 use crate::{Fault, Place};
 
@@ -54,8 +54,7 @@ impl Text {
     }
 
     fn record(&self, number: usize) -> Option<Record> {
-        let bytes = self.records.chunks_exact(RECORD_BYTES).nth(number)?;
-        bytes.try_into().ok().map(Record::from_bytes)
+        Record::nth(&self.records, number)
     }
 }
 

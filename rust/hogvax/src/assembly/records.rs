@@ -4,6 +4,9 @@ use std::fmt;
 
 pub const RECORD_BYTES: usize = 8;
 
+/// The record of function 0, after the header, record 0.
+pub const FUNCTION_0: usize = 1;
+
 /// The eight bytes of a record. The header has the edition, the functions and
 /// the nodes in the first three fields; a function has its result, its number
 /// parameters and its node count there.
@@ -13,6 +16,22 @@ pub struct Record {
     pub a: u8,
     pub b: u16,
     pub i: i32,
+}
+
+/// What a function or an expression gives.
+#[derive(Clone, Copy, Debug, PartialEq, Eq)]
+pub enum Type {
+    Number,
+    Tree,
+}
+
+impl fmt::Display for Type {
+    fn fmt(&self, f: &mut fmt::Formatter<'_>) -> fmt::Result {
+        f.write_str(match self {
+            Type::Number => "number",
+            Type::Tree => "tree",
+        })
+    }
 }
 
 /// A kind of node record.
@@ -74,6 +93,21 @@ pub const KINDS: [Kind; 9] = [
 ];
 
 impl Record {
+    /// The record with this number among records that follow one another, as
+    /// the first 63 of a program file do.
+    pub fn nth(records: &[u8], number: usize) -> Option<Record> {
+        let bytes = records.chunks_exact(RECORD_BYTES).nth(number)?;
+        bytes.try_into().ok().map(Record::from_bytes)
+    }
+
+    /// What a function gives, by its record.
+    pub fn result(self) -> Type {
+        match self.kind {
+            0 => Type::Number,
+            _ => Type::Tree,
+        }
+    }
+
     pub fn from_bytes(bytes: [u8; RECORD_BYTES]) -> Record {
         let [kind, a, b0, b1, i0, i1, i2, i3] = bytes;
         Record {
@@ -112,9 +146,6 @@ pub fn function_line(function: usize, record: Record) -> String {
     let numbers: String = (0..record.a)
         .map(|name| format!(", number {name}"))
         .collect();
-    let result = match record.kind {
-        0 => "number",
-        _ => "tree",
-    };
+    let result = record.result();
     format!("function {function} takes tree 0{numbers} gives {result}")
 }

@@ -1,10 +1,9 @@
 //! The names bound at a record and the words that stand there, with what they
 //! come from.
 
-use super::super::records::{ADD, CALL, CASE, LET};
+use super::super::records::{Type, ADD, CALL, CASE, LET};
 use super::super::wording::{names, part_name, quoted};
 use super::here::{Here, Step};
-use super::kinds::Type;
 use super::Detail;
 
 /// What binds the numbers or trees that can be named here, the oldest first.

@@ -1,31 +1,6 @@
 //! What a record of each kind gives, and what its parts are to give.
 
-use std::fmt;
-
-use super::super::records::{ADD, CALL, CASE, CONST, IF_ZERO, LEAF, LET, NODE, VAR};
-
-#[derive(Clone, Copy, Debug, PartialEq, Eq)]
-pub enum Type {
-    Number,
-    Tree,
-}
-
-impl fmt::Display for Type {
-    fn fmt(&self, f: &mut fmt::Formatter<'_>) -> fmt::Result {
-        f.write_str(match self {
-            Type::Number => "number",
-            Type::Tree => "tree",
-        })
-    }
-}
-
-/// What a function gives, by the first byte of its record.
-pub fn result(byte: u8) -> Type {
-    match byte {
-        0 => Type::Number,
-        _ => Type::Tree,
-    }
-}
+use super::super::records::{Type, ADD, CALL, CASE, CONST, IF_ZERO, LEAF, LET, NODE, VAR};
 
 /// What a record of this kind gives. `None` for the kinds that give what their
 /// parts give, and for a Call, of which its function says it.

@@ -2,11 +2,11 @@
 //! its type, then the words.
 
 use super::super::outline::{FunctionOutline, Node, Outline};
-use super::super::records::{CALL, CASE, CONST, VAR};
+use super::super::records::{Type, CALL, CASE, CONST, VAR};
 use super::super::wording::{names, part_name, quoted, verb};
 use super::bound;
 use super::here::{Here, Step};
-use super::kinds::{self, Type};
+use super::kinds;
 use super::{Detail, Found};
 
 const MOST_WORDS: usize = 16;
@@ -51,7 +51,7 @@ fn on_entering(function: &FunctionOutline, node: &Node, before: &[Entered]) -> E
         })
     });
     of_whole.unwrap_or(Entered {
-        expected: kinds::result(function.record.kind),
+        expected: function.record.result(),
         words: usize::from(function.record.a),
     })
 }
@@ -83,7 +83,7 @@ fn name(here: Here) -> Result<(), Found> {
 fn type_of(here: Here, expected: Type) -> Result<(), Found> {
     let node = here.node;
     let called = called(here);
-    let of_function = called.map(|function| kinds::result(function.record.kind));
+    let of_function = called.map(|function| function.record.result());
     let gives = kinds::gives(node.record.kind).or(of_function);
     let Some(gives) = gives.filter(|&gives| gives != expected) else {
         return Ok(());
@@ -159,7 +159,6 @@ fn words(here: Here, words: usize) -> Result<(), Found> {
 }
 
 fn gives_number_without_arguments(here: Here) -> bool {
-    called(here).is_some_and(|function| {
-        function.record.a == 0 && kinds::result(function.record.kind) == Type::Number
-    })
+    called(here)
+        .is_some_and(|function| function.record.a == 0 && function.record.result() == Type::Number)
 }

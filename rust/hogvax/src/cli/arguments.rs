@@ -2,7 +2,7 @@
 
 use std::ffi::{OsStr, OsString};
 
-use crate::outcome::Trouble;
+use crate::exit_status::Trouble;
 
 /// What follows an option.
 #[derive(Clone, Copy)]

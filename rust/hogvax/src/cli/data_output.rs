@@ -5,10 +5,10 @@ use std::ffi::{OsStr, OsString};
 
 use hogvax::Refused;
 
+use crate::arguments::{Takes, Words};
+use crate::exit_status::{Ended, Outcome};
 use crate::input;
-use crate::outcome::{Ended, Outcome};
-use crate::streams;
-use crate::words::{Takes, Words};
+use crate::output;
 
 /// The option that names a file for the data.
 pub const OUT: &str = "--out";
@@ -20,20 +20,20 @@ pub fn destination<'a>(words: &Words<'a>) -> &'a OsStr {
 
 /// Writes the data, then the answer line.
 pub fn hand_out(data: &[u8], out: &OsStr, line: &str) -> Outcome {
-    streams::write(out, data)?;
-    streams::tell(line)?;
+    output::write(out, data)?;
+    output::tell(line)?;
     Ok(Ended::Done)
 }
 
 /// Tells a refusal. No data goes out, and no file is made or changed.
 pub fn refuse(line: &str) -> Outcome {
-    streams::tell(line)?;
+    output::tell(line)?;
     Ok(Ended::Refused)
 }
 
 /// Writes the data that came before a refusal, then tells it.
 pub fn refuse_after(data: &[u8], out: &OsStr, line: &str) -> Outcome {
-    streams::write(out, data)?;
+    output::write(out, data)?;
     refuse(line)
 }
 

@@ -1,4 +1,4 @@
-//! How a verb ends.
+//! How a verb ends, which its exit status says.
 
 /// A verb that did its work: exit status 0, or 1 if the answer is a refusal.
 pub enum Ended {

@@ -5,9 +5,9 @@ use std::ffi::OsStr;
 use hogvax::assembly::{self, Explanation, Text, LONGEST_TEXT};
 use hogvax::Refused;
 
+use crate::exit_status::Trouble;
 use crate::input::{self, Input};
-use crate::outcome::Trouble;
-use crate::streams;
+use crate::output;
 
 /// What a verb is given as its program.
 pub enum Given {
@@ -93,11 +93,11 @@ impl Program {
         };
         if let Some(refused) = refused.filter(is_of_program) {
             let explanation = assembly::explain(&named.text.records, refused);
-            streams::tell(&named.explained(&explanation))?;
+            output::tell(&named.explained(&explanation))?;
         }
         if let Some(misplaced) = assembly::misplaced(&named.text) {
             let (place, message) = (named.place(misplaced.record), misplaced.message);
-            streams::tell(&format!("notice: {place}: {message}"))?;
+            output::tell(&format!("notice: {place}: {message}"))?;
         }
         Ok(())
     }

@@ -5,7 +5,7 @@ use std::fs::File;
 use std::io::{self, BufReader, Read};
 use std::path::Path;
 
-use crate::outcome::Trouble;
+use crate::exit_status::Trouble;
 use crate::progress::Progress;
 
 /// So many bytes are read at a time, and then counted.

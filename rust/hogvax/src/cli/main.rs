@@ -2,46 +2,31 @@
 
 #![forbid(unsafe_code)]
 
-mod answer;
-mod assemble;
-mod check;
-mod data;
-mod draw;
-mod help;
+mod arguments;
+mod data_output;
+mod exit_status;
+mod given_program;
 mod input;
-mod listing;
-mod newick;
-mod outcome;
-mod pack;
-mod perform;
-mod programs;
+mod output;
+mod output_space;
+mod printed_answer;
 mod progress;
-mod refusals;
-mod run;
-mod runs;
-mod show;
-mod source;
-mod space;
-mod streams;
-mod text;
-mod tokens;
-mod tree;
-mod trees;
-mod unpack;
-mod verbs;
-mod why;
-mod words;
+mod refusal_table;
+mod run_answer;
+mod run_over_tokens;
+mod token_file;
+mod verb;
 
 use std::env;
 use std::ffi::OsString;
 use std::io::{self, Write};
 use std::process::ExitCode;
 
-use outcome::{Ended, Trouble};
+use exit_status::{Ended, Trouble};
 
 fn main() -> ExitCode {
     let words: Vec<OsString> = env::args_os().skip(1).collect();
-    match verbs::run(&words) {
+    match verb::run(&words) {
         Ok(Ended::Done) => ExitCode::SUCCESS,
         Ok(Ended::Refused) => ExitCode::from(1),
         Err(Trouble(message)) => {

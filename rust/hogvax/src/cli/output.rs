@@ -6,7 +6,7 @@ use std::fs;
 use std::io::{self, BufWriter, Write};
 use std::path::Path;
 
-use crate::outcome::Trouble;
+use crate::exit_status::Trouble;
 
 /// Writes data to a file, which is made or made anew.
 pub fn write(file: &OsStr, data: &[u8]) -> Result<(), Trouble> {

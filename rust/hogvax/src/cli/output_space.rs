@@ -3,9 +3,9 @@
 
 use std::hint::black_box;
 
-use crate::answer::Answer;
-use crate::outcome::Trouble;
-use crate::words::Words;
+use crate::arguments::Words;
+use crate::exit_status::Trouble;
+use crate::run_answer::Answer;
 
 /// The option that says how many bytes the output gets.
 pub const SPACE: &str = "--space";
@@ -97,7 +97,7 @@ mod tests {
     use hogvax::{Ran, Refused, Sourced};
 
     use super::*;
-    use crate::words::Takes;
+    use crate::arguments::Takes;
 
     /// The space that is asked for by these words.
     fn space(words: &[&str]) -> Space {

@@ -4,15 +4,15 @@ use std::ffi::OsStr;
 
 use hogvax::Refused;
 
-use crate::outcome::{Ended, Outcome};
-use crate::programs::{self, Given};
-use crate::streams;
+use crate::exit_status::{Ended, Outcome};
+use crate::given_program::{self, Given};
+use crate::output;
 
 /// Prints a verb's answer, or the line that tells its refusal.
 pub fn print(answer: Result<String, Refused>) -> Outcome {
     match answer {
         Ok(text) => {
-            streams::print(&text)?;
+            output::print(&text)?;
             Ok(Ended::Done)
         }
         Err(refused) => refuse(&refused.to_string()),
@@ -20,7 +20,7 @@ pub fn print(answer: Result<String, Refused>) -> Outcome {
 }
 
 fn refuse(line: &str) -> Outcome {
-    streams::print(&format!("{line}\n"))?;
+    output::print(&format!("{line}\n"))?;
     Ok(Ended::Refused)
 }
 
@@ -30,7 +30,7 @@ pub fn print_of_program(
     file: &OsStr,
     answer: impl FnOnce(&[u8]) -> Result<String, Refused>,
 ) -> Outcome {
-    let program = match programs::load(file, hogvax::LONGEST_FILE + 1)? {
+    let program = match given_program::load(file, hogvax::LONGEST_FILE + 1)? {
         Given::Program(program) => program,
         Given::Unread(line) => return refuse(&line),
     };

@@ -20,49 +20,33 @@ pub trait Answer: Display {
     fn number(&self) -> i32;
 }
 
-impl Answer for Ran {
-    fn not_begun(refused: Refused) -> Ran {
-        Ran {
-            refused: Some(refused),
-            units: 0,
-            read: 0,
-            written: 0,
-            number: 0,
+/// Both answers have the same fields, but for what they count.
+macro_rules! answer {
+    ($answer:ident counts $($count:ident),*) => {
+        impl Answer for $answer {
+            fn not_begun(refused: Refused) -> $answer {
+                $answer {
+                    refused: Some(refused),
+                    $($count: 0,)*
+                    written: 0,
+                    number: 0,
+                }
+            }
+
+            fn refused(&self) -> Option<Refused> {
+                self.refused
+            }
+
+            fn written(&self) -> usize {
+                self.written
+            }
+
+            fn number(&self) -> i32 {
+                self.number
+            }
         }
-    }
-
-    fn refused(&self) -> Option<Refused> {
-        self.refused
-    }
-
-    fn written(&self) -> usize {
-        self.written
-    }
-
-    fn number(&self) -> i32 {
-        self.number
-    }
+    };
 }
 
-impl Answer for Sourced {
-    fn not_begun(refused: Refused) -> Sourced {
-        Sourced {
-            refused: Some(refused),
-            begun: 0,
-            written: 0,
-            number: 0,
-        }
-    }
-
-    fn refused(&self) -> Option<Refused> {
-        self.refused
-    }
-
-    fn written(&self) -> usize {
-        self.written
-    }
-
-    fn number(&self) -> i32 {
-        self.number
-    }
-}
+answer!(Ran counts units, read);
+answer!(Sourced counts begun);

@@ -5,15 +5,15 @@ use std::ffi::{OsStr, OsString};
 
 use hogvax::WorkSpace;
 
-use crate::answer::Answer;
-use crate::data::{self, OUT};
+use crate::arguments::{Takes, Words};
+use crate::data_output::{self, OUT};
+use crate::exit_status::{Outcome, Trouble};
+use crate::given_program::{self, Given, Program};
 use crate::input::{self, Opening};
-use crate::outcome::{Outcome, Trouble};
-use crate::programs::{self, Given, Program};
+use crate::output_space::{Space, MOST_SPACE, SPACE};
 use crate::progress::{size, Progress};
-use crate::space::{Space, MOST_SPACE, SPACE};
-use crate::trees::{is_too_short, tell_of_newick};
-use crate::words::{Takes, Words};
+use crate::run_answer::Answer;
+use crate::token_file::{is_too_short, tell_of_newick};
 
 /// The option that says how many instructions may be performed, or how many
 /// expressions begun.
@@ -72,7 +72,7 @@ impl<A: Answer> RunVerb<A> {
 
     /// The same, where the first file is a program, which may be a text.
     pub fn run_program(&self, words: &[OsString]) -> Option<Outcome> {
-        self.run_given(words, programs::load)
+        self.run_given(words, given_program::load)
     }
 
     fn run_given(&self, words: &[OsString], load: Load) -> Option<Outcome> {
@@ -99,7 +99,7 @@ impl<A: Answer> RunVerb<A> {
         let mut input = Opening::read(file, FIRST_INPUT)?;
         let first = match first {
             Given::Program(first) => first,
-            Given::Unread(line) => return data::refuse(&line),
+            Given::Unread(line) => return data_output::refuse(&line),
         };
         let (answer, data) = match &first.file {
             Ok(bytes) => input.answer(
@@ -138,26 +138,20 @@ impl<A: Answer> RunVerb<A> {
 }
 
 fn hand_out(answer: &impl Answer, data: &[u8], words: &Words) -> Outcome {
-    let (out, line) = (data::destination(words), answer.to_string());
+    let (out, line) = (data_output::destination(words), answer.to_string());
     match answer.refused() {
-        None => data::hand_out(data, out, &line),
-        Some(_) if words.has(PARTIAL) => data::refuse_after(data, out, &line),
-        Some(_) => data::refuse(&line),
+        None => data_output::hand_out(data, out, &line),
+        Some(_) if words.has(PARTIAL) => data_output::refuse_after(data, out, &line),
+        Some(_) => data_output::refuse(&line),
     }
 }
 
 /// What a program gives after a run that wrote these bytes: the tree's tokens,
 /// or the number on a line of its own.
 pub fn result(program: &[u8], answer: &impl Answer, written: Vec<u8>) -> Vec<u8> {
-    if gives_a_number(program) {
+    if hogvax::gives_a_number(program) {
         format!("{}\n", answer.number()).into_bytes()
     } else {
         written
     }
-}
-
-/// What function 0 of a program file gives is in the first byte of its record,
-/// which is record 1.
-fn gives_a_number(program: &[u8]) -> bool {
-    program[8] == 0
 }

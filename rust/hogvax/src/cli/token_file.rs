@@ -5,10 +5,10 @@ use std::ops::Range;
 
 use hogvax::Refused;
 
+use crate::exit_status::{Outcome, Trouble};
 use crate::input::Opening;
-use crate::outcome::{Outcome, Trouble};
-use crate::streams;
-use crate::text;
+use crate::output;
+use crate::printed_answer;
 
 /// The refusal of a tree, or of a run, whose input ends too early.
 const INPUT_ENDED: u32 = 15;
@@ -37,7 +37,7 @@ pub fn tell_of_newick(input: &Opening, refused: Option<Refused>) -> Result<(), T
         return Ok(());
     }
     let name = input.name();
-    streams::tell(&format!(
+    output::tell(&format!(
         "notice: {name} looks like Newick text, which 'hogvax tokens' turns into tokens"
     ))
 }
@@ -83,7 +83,7 @@ impl Trees {
     /// Prints a verb's answer, or the line that tells its refusal.
     pub fn print(&self, answer: Result<String, Refused>) -> Outcome {
         let refused = answer.as_ref().err().copied();
-        let ended = text::print(answer)?;
+        let ended = printed_answer::print(answer)?;
         tell_of_newick(&self.opening, refused)?;
         Ok(ended)
     }

@@ -1,25 +1,27 @@
-//! The table of verbs.
+//! The verbs: a file each in `verb/`, and one table of them.
+
+mod assemble;
+mod check;
+mod draw;
+mod help;
+mod listing;
+mod newick;
+mod pack;
+mod perform;
+mod run;
+mod show;
+mod source;
+mod tokens;
+mod tree;
+mod unpack;
+mod why;
 
 use std::ffi::{OsStr, OsString};
 
-use crate::assemble;
-use crate::check;
-use crate::draw;
-use crate::help;
-use crate::listing;
-use crate::newick;
-use crate::outcome::{Outcome, Trouble};
-use crate::pack;
-use crate::perform;
-use crate::run;
-use crate::show;
-use crate::source;
-use crate::tokens;
-use crate::tree;
-use crate::unpack;
-use crate::why;
+use crate::exit_status::{Outcome, Trouble};
 
-/// A verb of the command line. A new one is a line of `VERBS` and a module.
+/// A verb of the command line. A new one is a file in `verb/` and a line of
+/// `VERBS`; without the line, the compiler warns of an unused `VERB`.
 pub struct Verb {
     pub name: &'static str,
     /// What it needs, and files that may be left out.

@@ -2,11 +2,11 @@
 
 use std::ffi::{OsStr, OsString};
 
-use crate::data::{self, OUT};
-use crate::outcome::Outcome;
-use crate::programs::{self, Given};
-use crate::verbs::Verb;
-use crate::words::{Takes, Words};
+use crate::arguments::{Takes, Words};
+use crate::data_output::{self, OUT};
+use crate::exit_status::Outcome;
+use crate::given_program::{self, Given};
+use crate::verb::Verb;
 
 pub const VERB: Verb = Verb {
     name: "assemble",
@@ -70,17 +70,17 @@ Example:
 fn run(words: &[OsString]) -> Option<Outcome> {
     let words = Words::sort(words, &[(OUT, Takes::File)])?;
     let file = words.one_file()?;
-    Some(assemble(file, data::destination(&words)))
+    Some(assemble(file, data_output::destination(&words)))
 }
 
 fn assemble(file: &OsStr, out: &OsStr) -> Outcome {
-    let program = match programs::load_text(file)? {
+    let program = match given_program::load_text(file)? {
         Given::Program(program) => program,
-        Given::Unread(line) => return data::refuse(&line),
+        Given::Unread(line) => return data_output::refuse(&line),
     };
     let ended = match &program.file {
-        Ok(file) => data::hand_out(file, out, &format!("file {}", file.len())),
-        Err(refused) => data::refuse(&refused.to_string()),
+        Ok(file) => data_output::hand_out(file, out, &format!("file {}", file.len())),
+        Err(refused) => data_output::refuse(&refused.to_string()),
     }?;
     program.tell_of_text(program.file.as_ref().err().copied())?;
     Ok(ended)

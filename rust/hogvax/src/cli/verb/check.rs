@@ -4,10 +4,10 @@ use std::ffi::OsString;
 
 use hogvax::Refused;
 
-use crate::outcome::Outcome;
-use crate::text;
-use crate::verbs::Verb;
-use crate::words::Words;
+use crate::arguments::Words;
+use crate::exit_status::Outcome;
+use crate::printed_answer;
+use crate::verb::Verb;
 
 pub const VERB: Verb = Verb {
     name: "check",
@@ -38,7 +38,7 @@ Example:
 
 fn run(words: &[OsString]) -> Option<Outcome> {
     let file = Words::sort(words, &[])?.one_file()?;
-    Some(text::print_of_program(file, check))
+    Some(printed_answer::print_of_program(file, check))
 }
 
 fn check(program: &[u8]) -> Result<String, Refused> {

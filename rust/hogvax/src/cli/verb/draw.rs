@@ -8,11 +8,11 @@ use std::process::{Command, Stdio};
 
 use hogvax::draw::{Drawing, Strokes};
 
-use crate::outcome::{Ended, Outcome, Trouble};
-use crate::streams;
-use crate::trees::Trees;
-use crate::verbs::Verb;
-use crate::words::{self, Takes, Words};
+use crate::arguments::{self, Takes, Words};
+use crate::exit_status::{Ended, Outcome, Trouble};
+use crate::output;
+use crate::token_file::Trees;
+use crate::verb::Verb;
 
 pub const VERB: Verb = Verb {
     name: "draw",
@@ -92,7 +92,7 @@ fn draw(file: &OsStr, words: &Words) -> Outcome {
     let tree = trees.tree(number)?;
     match tree.and_then(|tree| Drawing::new(tree, width, strokes)) {
         Ok(drawing) => {
-            streams::print_long(&drawing)?;
+            output::print_long(&drawing)?;
             Ok(Ended::Done)
         }
         Err(refused) => trees.print(Err(refused)),
@@ -126,7 +126,7 @@ fn columns_of_size(size: &[u8]) -> Option<usize> {
 
 /// A number of columns, if this word is a positive one.
 fn columns(word: &str) -> Option<usize> {
-    let digits = Some(word).filter(|word| words::is_decimal(word));
+    let digits = Some(word).filter(|word| arguments::is_decimal(word));
     let number = digits?.parse().ok();
     number.filter(|&number| number > 0)
 }

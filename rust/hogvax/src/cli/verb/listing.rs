@@ -5,10 +5,10 @@ use std::fmt::Write;
 
 use hogvax::Refused;
 
-use crate::outcome::Outcome;
-use crate::text;
-use crate::verbs::Verb;
-use crate::words::Words;
+use crate::arguments::Words;
+use crate::exit_status::Outcome;
+use crate::printed_answer;
+use crate::verb::Verb;
 
 pub const VERB: Verb = Verb {
     name: "listing",
@@ -42,7 +42,7 @@ Example:
 
 fn run(words: &[OsString]) -> Option<Outcome> {
     let file = Words::sort(words, &[])?.one_file()?;
-    Some(text::print_of_program(file, listing))
+    Some(printed_answer::print_of_program(file, listing))
 }
 
 fn listing(program: &[u8]) -> Result<String, Refused> {

@@ -2,10 +2,10 @@
 
 use std::ffi::{OsStr, OsString};
 
-use crate::outcome::Outcome;
-use crate::trees::Trees;
-use crate::verbs::Verb;
-use crate::words::Words;
+use crate::arguments::Words;
+use crate::exit_status::Outcome;
+use crate::token_file::Trees;
+use crate::verb::Verb;
 
 pub const VERB: Verb = Verb {
     name: "newick",

@@ -2,9 +2,9 @@
 
 use std::ffi::OsString;
 
-use crate::data::Conversion;
-use crate::outcome::Outcome;
-use crate::verbs::Verb;
+use crate::data_output::Conversion;
+use crate::exit_status::Outcome;
+use crate::verb::Verb;
 
 pub const VERB: Verb = Verb {
     name: "pack",

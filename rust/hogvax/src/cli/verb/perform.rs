@@ -4,9 +4,9 @@ use std::ffi::OsString;
 
 use hogvax::Ran;
 
-use crate::outcome::{Outcome, Trouble};
-use crate::runs::RunVerb;
-use crate::verbs::Verb;
+use crate::exit_status::{Outcome, Trouble};
+use crate::run_over_tokens::RunVerb;
+use crate::verb::Verb;
 
 pub const VERB: Verb = Verb {
     name: "perform",

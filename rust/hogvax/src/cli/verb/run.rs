@@ -4,9 +4,9 @@ use std::ffi::OsString;
 
 use hogvax::Ran;
 
-use crate::outcome::Outcome;
-use crate::runs::{result, RunVerb};
-use crate::verbs::Verb;
+use crate::exit_status::Outcome;
+use crate::run_over_tokens::{result, RunVerb};
+use crate::verb::Verb;
 
 pub const VERB: Verb = Verb {
     name: "run",

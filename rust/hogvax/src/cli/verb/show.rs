@@ -4,10 +4,10 @@ use std::ffi::OsString;
 
 use hogvax::assembly::{self, Numbers};
 
-use crate::outcome::Outcome;
-use crate::text;
-use crate::verbs::Verb;
-use crate::words::{Takes, Words};
+use crate::arguments::{Takes, Words};
+use crate::exit_status::Outcome;
+use crate::printed_answer;
+use crate::verb::Verb;
 
 pub const VERB: Verb = Verb {
     name: "show",
@@ -53,7 +53,7 @@ fn run(words: &[OsString]) -> Option<Outcome> {
         false => Numbers::Shown,
     };
     let file = words.one_file()?;
-    Some(text::print_of_program(file, |program| {
+    Some(printed_answer::print_of_program(file, |program| {
         assembly::show(program, numbers)
     }))
 }

@@ -4,13 +4,13 @@ use std::ffi::{OsStr, OsString};
 
 use hogvax::newick::{self, Trees};
 
-use crate::data::{self, OUT};
+use crate::arguments::{Takes, Words};
+use crate::data_output::{self, OUT};
+use crate::exit_status::Outcome;
 use crate::input::{self, Input};
-use crate::outcome::Outcome;
+use crate::output;
 use crate::progress::Progress;
-use crate::streams;
-use crate::verbs::Verb;
-use crate::words::{Takes, Words};
+use crate::verb::Verb;
 
 pub const VERB: Verb = Verb {
     name: "tokens",
@@ -42,7 +42,7 @@ Example:
 fn run(words: &[OsString]) -> Option<Outcome> {
     let words = Words::sort(words, &[(OUT, Takes::File)])?;
     let file = words.one_file()?;
-    Some(tokens(file, data::destination(&words)))
+    Some(tokens(file, data_output::destination(&words)))
 }
 
 fn tokens(file: &OsStr, out: &OsStr) -> Outcome {
@@ -53,22 +53,23 @@ fn tokens(file: &OsStr, out: &OsStr) -> Outcome {
     bytes.check()?;
     match read {
         Ok(trees) => hand_out(&trees, out),
-        Err(fault) => data::refuse(&format!("refused {}:{fault}", input::name(file))),
+        Err(fault) => data_output::refuse(&format!("refused {}:{fault}", input::name(file))),
     }
 }
 
 /// Writes the tokens, then the answer and what was skipped.
 fn hand_out(trees: &Trees, out: &OsStr) -> Outcome {
     let (count, length) = (trees.trees, trees.tokens.len());
-    let outcome = data::hand_out(&trees.tokens, out, &format!("trees {count} bytes {length}"))?;
+    let outcome =
+        data_output::hand_out(&trees.tokens, out, &format!("trees {count} bytes {length}"))?;
     for (count, one, more) in [
         (trees.lengths, "branch length", "branch lengths"),
         (trees.names, "name of a fork", "names of forks"),
     ] {
         match count {
             0 => {}
-            1 => streams::tell(&format!("notice: 1 {one} skipped"))?,
-            _ => streams::tell(&format!("notice: {count} {more} skipped"))?,
+            1 => output::tell(&format!("notice: 1 {one} skipped"))?,
+            _ => output::tell(&format!("notice: {count} {more} skipped"))?,
         }
     }
     Ok(outcome)

@@ -2,11 +2,11 @@
 
 use std::ffi::OsString;
 
-use crate::outcome::{Ended, Outcome, Trouble};
-use crate::refusals::{Refusal, REFUSALS};
-use crate::streams;
-use crate::verbs::Verb;
-use crate::words;
+use crate::arguments;
+use crate::exit_status::{Ended, Outcome, Trouble};
+use crate::output;
+use crate::refusal_table::{Refusal, REFUSALS};
+use crate::verb::Verb;
 
 pub const VERB: Verb = Verb {
     name: "why",
@@ -26,7 +26,7 @@ fn run(operands: &[OsString]) -> Option<Outcome> {
     match operands {
         [word] => {
             let word = word.to_str()?;
-            words::is_decimal(word).then(|| why(word))
+            arguments::is_decimal(word).then(|| why(word))
         }
         _ => None,
     }
@@ -52,7 +52,7 @@ fn why(word: &str) -> Outcome {
         place,
         example,
     } = refusal;
-    streams::print(&format!(
+    output::print(&format!(
         "{number}: {name}\n\n{meaning}\nPlace: {place}\nExample: {example}\n"
     ))?;
     Ok(Ended::Done)

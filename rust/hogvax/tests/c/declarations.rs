@@ -144,7 +144,7 @@ fn the_header_is_c() {
     }
 }
 
-/// Where there is a compiler of C++: its calls are those of C.
+/// In C++ its calls are those of C.
 #[test]
 fn the_header_is_cpp() {
     let source = made("included.cpp");
@@ -154,10 +154,6 @@ fn the_header_is_cpp() {
         int main() {{ uint8_t bytes[5] = {{1}}; return {call} == 5 ? 0 : 1; }}\n"
     );
     fs::write(&source, text).unwrap();
-    if Command::new("c++").arg("--version").output().is_err() {
-        println!("there is no c++");
-        return;
-    }
     let program = made("cpp");
     let mut command = compiler("c++", "c++11");
     command.arg(&source).arg(env!("HOGVAX_ARCHIVE"));

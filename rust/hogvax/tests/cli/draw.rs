@@ -3,6 +3,8 @@
 use hogvax::draw::{Drawing, Strokes};
 use reference::{generate, Random};
 
+#[cfg(target_os = "linux")]
+use super::terminal::{in_terminal, quoted};
 use super::*;
 
 /// The tree T in 80 columns, which is the width where there is no terminal.
@@ -179,9 +181,7 @@ fn draw_fills_the_columns_of_the_terminal() {
     let (hogvax, file) = (quoted(HOGVAX), quoted(&file));
     for columns in [40, 72, 100] {
         let line = format!("unset COLUMNS; stty cols {columns}; {hogvax} draw {file}");
-        let Some(drawn) = in_terminal(&line) else {
-            return;
-        };
+        let drawn = in_terminal(&line);
         let lines = drawing(&tokens, columns, Strokes::Lines);
         assert_eq!(drawn, lines.replace('\n', "\r\n"));
     }

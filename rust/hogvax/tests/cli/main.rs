@@ -4,6 +4,7 @@ mod assemble;
 mod check;
 mod draw;
 mod explanations;
+mod help;
 mod listing;
 mod mistaken;
 mod newick;
@@ -15,9 +16,12 @@ mod runs;
 mod show;
 mod source;
 mod stream;
+#[cfg(target_os = "linux")]
+mod terminal;
 mod texts;
 mod tokens;
 mod tree;
+mod usage;
 mod why;
 
 use std::fs::{self, File};
@@ -26,11 +30,6 @@ use std::path::{Path, PathBuf};
 use std::process::{Child, Command, Output, Stdio};
 
 use reference::{lay_out, Expr, Function, Program};
-
-const VERBS: [&str; 15] = [
-    "tree", "assemble", "show", "pack", "unpack", "check", "listing", "perform", "run", "source",
-    "newick", "tokens", "draw", "why", "help",
-];
 
 /// Document 01: "Tree T: 02 01 05 00 00 00 01 07 00 00 00."
 const T: [u8; 11] = [2, 1, 5, 0, 0, 0, 1, 7, 0, 0, 0];
@@ -105,12 +104,19 @@ fn trouble(output: Output) -> String {
 }
 
 /// These words, with these bytes on standard input, say that standard output
-/// is closed.
+/// is closed. A process that another test starts at the same moment may hold
+/// the pipe's other end for an instant, so that the write succeeds: then it is
+/// tried again.
 fn assert_closed_pipe_is_told(words: &[&str], input: &[u8]) {
-    let mut child = piped(words);
-    drop(child.stdout.take());
-    child.stdin.take().unwrap().write_all(input).unwrap();
-    let message = trouble(child.wait_with_output().unwrap());
+    let closed = || {
+        let mut child = piped(words);
+        drop(child.stdout.take());
+        child.stdin.take().unwrap().write_all(input).unwrap();
+        child.wait_with_output().unwrap()
+    };
+    let mut outputs = (0..10).map(|_| closed());
+    let output = outputs.find(|output| output.status.code() != Some(0));
+    let message = trouble(output.expect("a write to the closed pipe fails"));
     assert!(message.contains("standard output"), "{message}");
 }
 
@@ -125,26 +131,6 @@ fn assert_full_device_is_told(words: &[&str]) {
     assert!(message.contains("/dev/full"), "{message}");
     let output = command(words).stderr(full()).output().unwrap();
     assert_eq!(output.status.code(), Some(2));
-}
-
-/// A word for the shell.
-#[cfg(target_os = "linux")]
-fn quoted(word: &str) -> String {
-    format!("'{}'", word.replace('\'', "'\\''"))
-}
-
-/// What a line of the shell prints in a terminal, which `script` gives it. Where
-/// that can't be had, what terminals do is tested in the modules alone.
-#[cfg(target_os = "linux")]
-fn in_terminal(line: &str) -> Option<String> {
-    let run = |line: &str| {
-        let mut command = Command::new("script");
-        command.args(["-qec", line, "/dev/null"]);
-        let output = command.stdin(Stdio::null()).output().ok()?;
-        Some(String::from_utf8(output.stdout).unwrap())
-    };
-    let is_there = run("test -t 1 && test -t 2 && echo yes")? == "yes\r\n";
-    is_there.then(|| run(line)).flatten()
 }
 
 /// Where a sample is.
@@ -193,162 +179,4 @@ fn folder(name: &str) -> PathBuf {
     let _ = fs::remove_dir_all(&path);
     fs::create_dir_all(&path).unwrap();
     path
-}
-
-// help
-
-#[test]
-fn help_lists_the_verbs() {
-    let text = printed(run(&["help"]));
-    for verb in VERBS {
-        assert!(text.contains(&format!("\n  {verb} ")), "{text}");
-    }
-    for words in [&[][..], &["--help"], &["-h"]] {
-        assert_eq!(printed(run(words)), text);
-    }
-}
-
-#[test]
-fn help_describes_each_verb_with_an_example() {
-    for verb in VERBS {
-        let text = printed(run(&["help", verb]));
-        assert!(text.starts_with(&format!("hogvax {verb} ")), "{text}");
-        assert!(text.contains("\nExample:\n  $ ./hogvax "), "{text}");
-        assert_eq!(printed(run(&[verb, "--help"])), text);
-        assert_eq!(printed(run(&[verb, "-h"])), text);
-    }
-}
-
-/// The words of the example after `./hogvax`, and what is printed.
-fn example(verb: &str) -> (Vec<String>, String) {
-    let text = printed(run(&["help", verb]));
-    let (_, example) = text.split_once("\nExample:\n  $ ./hogvax ").unwrap();
-    let (words, lines) = example.split_once('\n').unwrap();
-    let word = |word: &str| match word.strip_prefix("samples/") {
-        Some(name) => sample(name),
-        None => word.to_owned(),
-    };
-    // The lines of an example are indented by two blanks.
-    let lines = lines.split_inclusive('\n');
-    let line = |line| str::strip_prefix(line, "  ").unwrap_or(line);
-    (
-        words.split(' ').map(word).collect(),
-        lines.map(line).collect(),
-    )
-}
-
-/// What an example shows, and the files that it makes.
-#[test]
-fn the_examples_are_true() {
-    let folder = folder("examples");
-    for verb in VERBS {
-        let (words, lines) = example(verb);
-        let words: Vec<&str> = words.iter().map(String::as_str).collect();
-        let output = command(&words).current_dir(&folder).output().unwrap();
-        assert_eq!(output.status.code(), Some(0));
-        if !lines.is_empty() {
-            assert_eq!([output.stdout, output.stderr].concat(), lines.as_bytes());
-        }
-    }
-    for name in ["grow.program", "grow.records"] {
-        let made = fs::read(folder.join(name)).unwrap();
-        let shipped = fs::read(sample(&format!("programs/{name}"))).unwrap();
-        assert_eq!(made, shipped, "{name}");
-    }
-}
-
-// Wrong usage
-
-#[test]
-fn wrong_usage_is_told() {
-    let tree = "usage: hogvax tree [FILE]";
-    let pack = "usage: hogvax pack [FILE] [--out FILE]";
-    let unpack = "usage: hogvax unpack [FILE] [--out FILE]";
-    let check = "usage: hogvax check [FILE]";
-    let listing = "usage: hogvax listing [FILE]";
-    let why = "usage: hogvax why NUMBER";
-    for (words, part) in [
-        (&["trees"][..], "no verb 'trees'"),
-        (&[""], "no verb ''"),
-        (&["--version"], "no verb '--version'"),
-        (&["help", "trees"], "no verb 'trees'"),
-        (&["help", "tree", "why"], "usage: hogvax help [VERB]"),
-        (&["tree", "a", "b"], tree),
-        (&["tree", "--fast"], tree),
-        (&["tree", "--out", "a"], tree),
-        (&["pack", "a", "b"], pack),
-        (&["pack", "--out"], pack),
-        (&["pack", "a", "--out"], pack),
-        (&["pack", "--out", "--fast"], pack),
-        (&["pack", "--out", "a", "--out", "a"], pack),
-        (&["unpack", "a", "b", "--out", "c"], unpack),
-        (&["unpack", "-o", "a"], unpack),
-        (&["unpack", "--out=a"], unpack),
-        (&["check", "a", "b"], check),
-        (&["check", "--fast"], check),
-        (&["check", "--out", "a"], check),
-        (&["listing", "a", "b"], listing),
-        (&["listing", "--fast"], listing),
-        (&["listing", "--out", "a"], listing),
-        (&["why"], why),
-        (&["why", "1", "2"], why),
-        (&["why", ""], why),
-        (&["why", "-1"], why),
-        (&["why", "+1"], why),
-        (&["why", "fifteen"], why),
-    ] {
-        let message = trouble(run(words));
-        assert!(message.contains(part), "{message}");
-    }
-}
-
-#[cfg(unix)]
-#[test]
-fn words_need_not_be_text() {
-    use std::ffi::OsStr;
-    use std::os::unix::ffi::OsStrExt;
-    let word = OsStr::from_bytes(b"\xff");
-    trouble(command(&[]).arg(word).output().unwrap());
-    for verb in VERBS {
-        trouble(command(&[verb]).arg(word).output().unwrap());
-    }
-}
-
-// Standard output that can't be written
-
-#[cfg(unix)]
-#[test]
-fn a_broken_pipe_is_no_panic() {
-    for words in [
-        &["help"][..],
-        &["why", "1"],
-        &["tree"],
-        &["check"],
-        &["listing"],
-    ] {
-        let mut child = piped(words);
-        drop(child.stdout.take());
-        drop(child.stdin.take());
-        let output = child.wait_with_output().unwrap();
-        // Where the verb has printed before the pipe broke, all was well.
-        if output.status.code() != Some(0) {
-            assert!(trouble(output).contains("standard output"));
-        }
-    }
-}
-
-#[cfg(target_os = "linux")]
-#[test]
-fn a_full_device_is_told() {
-    for words in [
-        &["help"][..],
-        &["why", "1"],
-        &["tree"],
-        &["check"],
-        &["listing"],
-    ] {
-        let full = File::options().write(true).open("/dev/full").unwrap();
-        let output = command(words).stdout(full).output().unwrap();
-        assert!(trouble(output).contains("standard output"));
-    }
 }

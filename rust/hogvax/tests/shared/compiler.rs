@@ -1,7 +1,10 @@
-//! The system's C compiler, as the tests call it.
+//! The system's compilers of C and C++, as the tests call them.
 
 use std::path::{Path, PathBuf};
 use std::process::{Command, Output, Stdio};
+
+/// What a test says that can't start a program.
+const NEEDED: &str = "the tests need compilers of C and C++, `cc` and `c++`";
 
 /// Warnings are errors.
 const STRICT: [&str; 4] = ["-Wall", "-Wextra", "-Werror", "-pedantic"];
@@ -23,7 +26,7 @@ pub fn compiler(name: &str, standard: &str) -> Command {
 
 pub fn succeed(command: &mut Command) -> Output {
     let output = command.output();
-    let output = output.unwrap_or_else(|error| panic!("{command:?}: {error}"));
+    let output = output.unwrap_or_else(|error| panic!("{command:?}: {error}; {NEEDED}"));
     let said = String::from_utf8_lossy(&output.stderr);
     assert!(output.status.success(), "{command:?}: {said}");
     output

@@ -23,9 +23,9 @@ fn every_byte_as_an_opcode() {
     for byte in 0..=255 {
         let mut code = assemble(&[push(1), push(1), ret(0)]);
         code[16] = byte;
-        let (gave, _) = lent.answer(&case(code, &[2; 4], 3, 4));
+        let gave = lent.answer(&case(code, &[2; 4], 3, 4));
         let performed = byte <= opcode::RETURN;
-        assert_eq!(gave.units, if performed { 3 } else { 2 }, "{byte}");
+        assert_eq!(gave.units(), if performed { 3 } else { 2 }, "{byte}");
         assert_eq!(gave.number == 19, !performed, "{byte}");
     }
 }
@@ -36,12 +36,12 @@ fn every_byte_as_a_tag() {
     let mut lent = Lent::new();
     for byte in 0..=255 {
         let code = assemble(&[read_tag(3), push(1), ret(1), push(2), ret(1)]);
-        let (gave, _) = lent.answer(&case(code, &[byte, 1], 9, 0));
+        let gave = lent.answer(&case(code, &[byte, 1], 9, 0));
         let told = match byte {
             1 | 2 => (0, u64::from(byte), 1),
             _ => (16, 0, 0),
         };
-        assert_eq!((gave.number, gave.word, gave.read), told, "{byte}");
+        assert_eq!((gave.number, gave.word(), gave.read()), told, "{byte}");
     }
 }
 
@@ -53,10 +53,10 @@ fn every_byte_of_a_return() {
         let first = assemble(&[push(7), push(8), ret(byte)]);
         let inner = assemble(&[push(8), call(3, 1), ret(0), push(7), ret(byte)]);
         for (code, units) in [(first, 3), (inner, 5)] {
-            let (gave, _) = lent.answer(&case(code, &[], 9, 0));
+            let gave = lent.answer(&case(code, &[], 9, 0));
             let refused = byte > 1;
             assert_eq!(gave.number, if refused { 19 } else { 0 }, "{byte}");
-            assert!(refused || gave.units == units, "{byte}");
+            assert!(refused || gave.units() == units, "{byte}");
         }
     }
 }
@@ -71,14 +71,14 @@ fn every_number_of_arguments() {
             let mut instructions: Vec<_> = (0..words).map(push).collect();
             let here = words as u16;
             instructions.extend([call(here + 2, arguments), ret(1), get(0), ret(1)]);
-            let (gave, _) = lent.answer(&case(assemble(&instructions), &[], 999, 0));
+            let gave = lent.answer(&case(assemble(&instructions), &[], 999, 0));
             let first = words - i32::from(arguments);
             let told = match arguments {
                 1.. if first >= 0 => (0, first as u64, words as u64 + 4),
                 0 => (19, 0, words as u64 + 1),
                 _ => (19, 0, words as u64),
             };
-            assert_eq!((gave.number, gave.word, gave.units), told);
+            assert_eq!((gave.number, gave.word(), gave.units()), told);
         }
     }
 }
@@ -97,13 +97,13 @@ fn every_operand() {
         let bytes = operand.to_le_bytes();
         getting.code[8 * 300 + 2..][..2].copy_from_slice(&bytes);
         jumping.code[2..4].copy_from_slice(&bytes);
-        let gave = lent.perform_into(&getting);
+        let gave = lent.call_into(&getting);
         let told = match operand {
             0..300 => (0, u64::from(operand)),
             _ => (19, 0),
         };
-        assert_eq!((gave.number, gave.word), told, "get {operand}");
-        let gave = lent.perform_into(&jumping);
+        assert_eq!((gave.number, gave.word()), told, "get {operand}");
+        let gave = lent.call_into(&jumping);
         let told = match usize::from(operand) {
             0 => 14,
             1..INSTRUCTION_LIMIT => 0,

@@ -13,20 +13,17 @@ pub fn check(lent: &mut Lent, tree: &Tree, computed: &Computed, behind: &[u8]) {
     let (listing, ref bytes, number, units) = *computed;
     let input = [&tokens, behind].concat();
     let case = worked(listing, input, units, bytes.len() + behind.len());
+    let (read, written) = (tokens.len() as u64, bytes.len() as u64);
+    let word = i64::from(number) as u64;
     let mut expected = Gave {
         number: 0,
-        place: 0,
-        units,
-        read: tokens.len(),
-        written: bytes.len(),
-        word: i64::from(number) as u64,
+        slots: [0, units, read, written, word],
         output: [&bytes[..], &vec![FILLER; behind.len()]].concat(),
+        code: vec![],
     };
-    assert_eq!(lent.perform(&case), expected, "{case:?}");
-    assert_eq!(lent.perform(&case.with_fuel(u64::MAX)), expected);
+    assert_eq!(lent.call(&case), expected, "{case:?}");
+    assert_eq!(lent.call(&case.with_fuel(u64::MAX)), expected);
     expected.number = 14;
-    expected.place = tokens.len() as u64;
-    expected.units -= 1;
-    expected.word = 0;
-    assert_eq!(lent.perform(&case.with_fuel(units - 1)), expected);
+    expected.slots = [read, units - 1, read, written, 0];
+    assert_eq!(lent.call(&case.with_fuel(units - 1)), expected);
 }

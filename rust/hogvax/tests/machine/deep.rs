@@ -44,7 +44,7 @@ fn refused(lent: &mut Lent, listing: &str, tree: &Tree) -> Gave {
     let result = all.iter().find(|result| result.0 == listing);
     let bytes = &result.expect("a program").1;
     let case = worked(listing, tree.tokens(), u64::MAX, bytes.len());
-    let (gave, trace) = lent.answer(&case);
+    let (gave, trace) = lent.answer_traced(&case);
     assert_eq!(gave.number, 18, "{case:?}");
     assert_eq!(trace.open, OPEN_LIMIT, "{case:?}");
     assert!(bytes.starts_with(gave.bytes()), "{case:?}");
@@ -61,7 +61,7 @@ fn deeper_trees_give_18() {
             for listing in [GROW, SUM, FILL] {
                 let gave = refused(&mut lent, listing, &tree);
                 let writes = listing != SUM;
-                assert_eq!(gave.written, if writes { gave.read } else { 0 });
+                assert_eq!(gave.written(), if writes { gave.read() } else { 0 });
             }
         }
         let tree = make(&mut random, DEEPEST);
@@ -86,7 +86,7 @@ fn the_call_that_is_refused() {
         let gave = refused(&mut lent, listing, tree);
         let read = DEEPEST * each_read + 1;
         let units = (DEEPEST * each + last) as u64;
-        assert_eq!((gave.read, gave.place), (read, read as u64));
-        assert_eq!(gave.units, units, "{gave:?}");
+        assert_eq!((gave.read(), gave.place()), (read, read as u64));
+        assert_eq!(gave.units(), units, "{gave:?}");
     }
 }

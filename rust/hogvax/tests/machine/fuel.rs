@@ -12,15 +12,18 @@ fn every_smaller_fuel_gives_14() {
     let mut lent = Lent::new();
     let mut runs = 0;
     for case in short(201, 400, 500) {
-        let (whole, _) = lent.answer(&case);
-        let mut before = lent.answer(&case.with_fuel(0)).0;
-        for fuel in 0..whole.units {
-            let (gave, _) = lent.answer(&case.with_fuel(fuel));
-            let place = gave.read as u64;
-            let told = (gave.number, gave.place, gave.units, gave.word);
+        let whole = lent.answer(&case);
+        let mut before = lent.answer(&case.with_fuel(0));
+        for fuel in 0..whole.units() {
+            let gave = lent.answer(&case.with_fuel(fuel));
+            let place = gave.read() as u64;
+            let told = (gave.number, gave.place(), gave.units(), gave.word());
             assert_eq!(told, (14, place, fuel, 0), "{case:?}");
             assert!(gave.opens(&whole), "fuel {fuel}: {case:?}");
-            let steps = [gave.read - before.read, gave.written - before.written];
+            let steps = [
+                gave.read() - before.read(),
+                gave.written() - before.written(),
+            ];
             assert!([[0, 0], [1, 0], [4, 0], [0, 1], [0, 4]].contains(&steps));
             before = gave;
             runs += 1;
@@ -36,14 +39,14 @@ fn larger_fuels_change_nothing() {
     let mut lent = Lent::new();
     let mut seen = BTreeMap::new();
     for case in short(202, 2_000, 5_000) {
-        let (gave, _) = lent.answer(&case);
+        let gave = lent.answer(&case);
         if gave.number == 14 {
             continue;
         }
         *seen.entry(gave.number).or_insert(0) += 1;
-        let least = gave.units + u64::from(gave.number != 0);
+        let least = gave.units() + u64::from(gave.number != 0);
         for fuel in [least, least + 1, MUCH_FUEL, u64::MAX - 1, u64::MAX] {
-            let same = lent.perform(&case.with_fuel(fuel));
+            let same = lent.call(&case.with_fuel(fuel));
             assert_eq!(same, gave, "fuel {fuel}: {case:?}");
         }
     }

@@ -33,15 +33,15 @@ fn inputs_cut_at_every_byte() {
     let mut lent = Lent::new();
     let mut seen = [0; 4];
     for case in short(220, 1_000, 2_000) {
-        let (whole, _) = lent.answer(&case);
-        let rests_on = whole.read + looked_at(&whole);
+        let whole = lent.answer(&case);
+        let rests_on = whole.read() + looked_at(&whole);
         for length in 0..=case.input.len() {
             let cut = with_input(&case, &case.input[..length]);
-            let (gave, _) = lent.answer(&cut);
+            let gave = lent.answer(&cut);
             assert!(gave.opens(&whole), "{cut:?}");
-            if length < whole.read {
+            if length < whole.read() {
                 assert_eq!(gave.number, 15, "{cut:?}");
-                seen[length - gave.read] += 1;
+                seen[length - gave.read()] += 1;
             } else if length >= rests_on {
                 assert_eq!(gave, whole, "{cut:?}");
             }
@@ -69,11 +69,11 @@ fn others(random: &mut Random, bytes: &[u8], most: usize) -> Vec<Vec<u8>> {
 /// read, at 16 with the byte that is no tag too. At 15 the end is looked at; if
 /// a label isn't whole it doesn't matter what is there of it.
 fn inputs_alike(random: &mut Random, case: &TestCase, gave: &Gave, trace: &Trace) -> Vec<Vec<u8>> {
-    let read = &case.input[..gave.read];
+    let read = &case.input[..gave.read()];
     match (gave.number, trace.stop.mark.opcode) {
         (15, Some(opcode::READ_NUMBER)) => others(random, read, 3),
         (15, _) => others(random, read, 0),
-        _ => others(random, &case.input[..gave.read + looked_at(gave)], 20),
+        _ => others(random, &case.input[..gave.read() + looked_at(gave)], 20),
     }
 }
 
@@ -84,10 +84,10 @@ fn what_stands_behind_the_bytes_read_does_not_matter() {
     let mut seen = BTreeMap::new();
     for _ in 0..6_000 {
         let case = code::any_case(&mut random);
-        let (gave, trace) = lent.answer(&case);
+        let (gave, trace) = lent.answer_traced(&case);
         for input in inputs_alike(&mut random, &case, &gave, &trace) {
             let other = with_input(&case, &input);
-            assert_eq!(lent.perform(&other), gave, "{other:?}");
+            assert_eq!(lent.call(&other), gave, "{other:?}");
             *seen.entry(gave.number).or_insert(0) += usize::from(input != case.input);
         }
     }

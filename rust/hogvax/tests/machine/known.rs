@@ -6,6 +6,7 @@ use std::collections::BTreeSet;
 use reference::generate::code;
 use reference::machine::known::{self, Known};
 
+use super::run_call::assert_gives_alone;
 use super::*;
 
 #[test]
@@ -13,7 +14,7 @@ fn known_codes_have_their_answers() {
     let mut lent = Lent::new();
     let mut seen = BTreeSet::new();
     for known in known::all() {
-        let expected = Gave::told(known.answer, known.bytes);
+        let expected = Gave::told(known.answer, known.bytes, vec![]);
         lent.assert_gives(known.name, &known.case, &expected);
         seen.insert(known.stop.mark);
     }
@@ -31,11 +32,8 @@ fn in_time(known: &Known) -> TestCase {
 fn known_codes_have_their_answers_in_a_new_work_space() {
     for known in known::all() {
         let case = in_time(&known);
-        let mut output = vec![FILLER; case.output];
-        let ran = hogvax::perform(&case.code, &case.input, case.fuel, &mut output);
-        let expected = Gave::told(known.answer, known.bytes);
-        assert_eq!(ran, expected.ran(), "{}", known.name);
-        assert!(output == expected.output, "{}", known.name);
+        let expected = Gave::told(known.answer, known.bytes, vec![]);
+        assert_gives_alone(known.name, &case, &expected);
     }
 }
 
@@ -48,9 +46,9 @@ fn known_codes_one_after_another() {
     let mut pairs = 0;
     for first in all.iter().filter(|known| known.answer.units > 10_000) {
         for known in &all {
-            let _ = lent.perform_into(&in_time(first));
-            let gave = lent.perform_into(&in_time(known));
-            let expected = Gave::told(known.answer, known.bytes.clone());
+            let _ = lent.call_into(&in_time(first));
+            let gave = lent.call_into(&in_time(known));
+            let expected = Gave::told(known.answer, known.bytes.clone(), vec![]);
             assert_eq!(gave, expected, "{} after {}", known.name, first.name);
             pairs += 1;
         }

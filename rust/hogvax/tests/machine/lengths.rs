@@ -15,16 +15,16 @@ use super::*;
 fn code_cut_at_every_byte() {
     let mut lent = Lent::new();
     for case in short(210, 300, 2_000) {
-        let (whole, trace) = lent.answer(&case);
+        let (whole, trace) = lent.answer_traced(&case);
         for length in 0..=case.code.len() {
             let mut cut = case.clone();
             cut.code.truncate(length);
-            let (gave, _) = lent.answer(&cut);
+            let gave = lent.answer(&cut);
             let held = |address: &usize| *address < length / 8;
             let units = trace.addresses.iter().take_while(|&one| held(one)).count() as u64;
             assert!(gave.opens(&whole), "{cut:?}");
-            if units < whole.units || !held(&trace.address) && whole.number != 14 {
-                assert_eq!((gave.number, gave.units), (19, units), "{cut:?}");
+            if units < whole.units() || !held(&trace.address) && whole.number != 14 {
+                assert_eq!((gave.number, gave.units()), (19, units), "{cut:?}");
             } else {
                 assert_eq!(gave, whole, "{cut:?}");
             }
@@ -73,7 +73,7 @@ fn addresses_about_the_ends() {
                     fuel,
                     output,
                 };
-                let gave = lent.perform(&case);
+                let gave = lent.call(&case);
                 let holds = address < INSTRUCTION_LIMIT && 8 * address + 8 <= length;
                 let number = if holds { 0 } else { 19 };
                 assert_eq!(gave.number, number, "address {address}: {case:?}");
@@ -98,15 +98,15 @@ fn outputs_of_every_length() {
             output,
             ..case.clone()
         };
-        let (whole, _) = lent.answer(&with_room(1_000));
-        if whole.written > 200 {
+        let whole = lent.answer(&with_room(1_000));
+        if whole.written() > 200 {
             continue;
         }
-        for length in 0..=whole.written + 5 {
-            let (gave, _) = lent.answer(&with_room(length));
+        for length in 0..=whole.written() + 5 {
+            let gave = lent.answer(&with_room(length));
             assert!(gave.opens(&whole), "{case:?}");
-            if length < whole.written {
-                let free = length - gave.written;
+            if length < whole.written() {
+                let free = length - gave.written();
                 assert_eq!(gave.number, 17, "{case:?}");
                 seen[free] += 1;
             } else {

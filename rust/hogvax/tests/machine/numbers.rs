@@ -23,7 +23,7 @@ fn the_number_is_sign_extended() {
             fuel: 2,
             output: 0,
         };
-        let (gave, _) = lent.answer(&case);
-        assert_eq!((gave.word, gave.ran().number), (word, number));
+        let gave = lent.answer(&case);
+        assert_eq!((gave.word(), gave.ran().number), (word, number));
     }
 }

@@ -70,7 +70,7 @@ fn random_cases_are_answered_as_the_reference_does() {
     let mut seen = Seen::default();
     for _ in 0..CASES {
         let case = code::any_case(&mut random);
-        let (_, trace) = lent.answer(&case);
+        let (_, trace) = lent.answer_traced(&case);
         seen.count(&case, &trace);
     }
     assert_seen(&seen.marks, code::reachable());

@@ -87,7 +87,7 @@ fn broken_trees_are_refused_where_the_tree_reader_refuses() {
         let tokens = generate::tree(&mut random, tips).tokens();
         let input = generate::damaged(&mut random, &tokens);
         let case = worked(GROW, input, 1_000, 200);
-        let ran = lent.perform(&case).ran();
+        let ran = lent.call(&case).ran();
         let refused = hogvax::tree(&case.input).err();
         assert_eq!(ran.refused, refused, "{case:?}");
         seen[refused.map_or(0, |refused| refused.number as usize)] += 1;

@@ -31,7 +31,7 @@ impl Meant {
         let (file, tokens) = (file(program), tree.tokens());
         let case = SourceCase::new(&file, &tokens, MODERATE, 100_000);
         let gave = lent.answer(&case);
-        let [_, begun, written, given] = gave.places;
+        let [_, begun, written, given] = gave.slots;
         matches!(gave.number, 0 | 18).then(|| Meant {
             file,
             tokens,
@@ -47,7 +47,7 @@ impl Meant {
     /// result has bytes.
     fn with(&self, fuel: u64, room: usize) -> Gave {
         let mut output = vec![FILLER; room];
-        let (number, places) = if fuel < self.begun {
+        let (number, slots) = if fuel < self.begun {
             (14, [0, fuel, 0, 0])
         } else if self.number == 18 {
             (18, [0, self.begun, 0, 0])
@@ -60,8 +60,9 @@ impl Meant {
         };
         Gave {
             number,
-            places,
+            slots,
             output,
+            code: vec![],
         }
     }
 
@@ -94,7 +95,7 @@ impl Meant {
         let (fuels, rooms) = (self.fuels(random), self.rooms(random));
         let mut check = |fuel, room| {
             let case = SourceCase::new(&self.file, &self.tokens, fuel, room);
-            let (gave, expected) = (lent.source_into(&case), self.with(fuel, room));
+            let (gave, expected) = (lent.call_into(&case), self.with(fuel, room));
             assert!(gave == expected, "{gave:?} and not {expected:?}: {case:?}");
             seen[gave.number as usize] += 1;
         };

@@ -124,11 +124,11 @@ fn bytes_behind_the_tree_do_not_matter() {
         let (program, tree) = any_program_and_tree(&mut random);
         let tokens = tree.tokens();
         let case = SourceCase::new(&file(&program), &tokens, MODERATE / 10, 10_000);
-        let alone = lent.source_into(&case);
+        let alone = lent.call_into(&case);
         let length = 1 + random.below(9);
         let behind = tag_like_bytes(&mut random, length);
         let input = [tokens, behind].concat();
-        let gave = lent.source_into(&SourceCase { input, ..case });
+        let gave = lent.call_into(&SourceCase { input, ..case });
         assert_eq!(gave, alone, "{program:?}");
         ended += usize::from(gave.number == 0);
     }
@@ -153,7 +153,7 @@ fn each_damage_to_a_file_gives_its_refusal() {
             let (number, place) = (u32::from(refusal.number), refusal.place as u64);
             match number {
                 11 | 12 => assert!(matches!(gave.number, 0 | 14 | 17 | 18), "{case:?}"),
-                _ => assert_eq!((gave.number, gave.places), (number, [place, 0, 0, 0])),
+                _ => assert_eq!((gave.number, gave.slots), (number, [place, 0, 0, 0])),
             }
             seen[number as usize] += 1;
             count += 1;

@@ -3,42 +3,37 @@
 
 use reference::source::known;
 
+use super::known_runs::{assert_answers, assert_answers_alone, assert_sign_extended, Known};
 use super::*;
 
 /// The refusals that a source run gives: all but those of pass two and 19.
 const REFUSALS: [u32; 17] = [1, 2, 3, 4, 5, 6, 7, 8, 9, 10, 13, 14, 15, 16, 17, 18, 20];
 
-#[test]
-fn known_source_runs_have_their_answers() {
-    let mut seen = [0; 21];
-    let mut lent = Lent::new();
-    for known in known::all() {
-        let expected = Gave::told(known.answer, known.output);
-        lent.assert_gives(&known.name, &known.case, &expected);
-        seen[expected.number as usize] += 1;
-    }
-    for number in [0].iter().chain(&REFUSALS) {
-        assert!(
-            seen[*number as usize] > 0,
-            "answer {number} was not seen: {seen:?}"
-        );
-    }
-    assert_eq!([seen[11], seen[12], seen[19]], [0; 3]);
+/// The reference's known source runs.
+pub fn all() -> Vec<Known<SourceCase, 4>> {
+    let known = known::all().into_iter().map(|known| Known {
+        name: known.name,
+        case: known.case,
+        gave: Gave::told(known.answer, known.output),
+        number: known.answer.number,
+    });
+    known.collect()
 }
 
-/// With a work space of its own.
+#[test]
+fn known_source_runs_have_their_answers() {
+    let seen = assert_answers(&mut Lent::new(), &all());
+    assert!(seen.keys().eq([0].iter().chain(&REFUSALS)), "{seen:?}");
+}
+
 #[test]
 fn known_source_runs_have_their_answers_in_a_new_work_space() {
-    for known in known::all() {
-        let expected = Gave::told(known.answer, known.output);
-        if expected.number != 13 {
-            let case = &known.case;
-            let mut output = vec![FILLER; case.output];
-            let sourced = hogvax::source(&case.file, &case.input, case.fuel, &mut output);
-            assert_eq!(sourced, expected.sourced(), "{}", known.name);
-            assert!(output == expected.output, "{}", known.name);
-        }
-    }
+    assert_answers_alone(&all());
+}
+
+#[test]
+fn the_number_is_sign_extended() {
+    assert_sign_extended(&mut Lent::new(), &all());
 }
 
 /// As text, an answer is the line that the reference writes.
@@ -140,19 +135,4 @@ fn sum_is_modulo_2_to_the_32() {
     let input = [2, 1, 0xff, 0xff, 0xff, 0x7f, 1, 1, 0, 0, 0];
     let line = "ended begun 8 written 0 number -2147483648".to_owned();
     assert_eq!(source(&sum, &input, 8), (line, [9; 3]));
-}
-
-/// Place 3 is the number's sign extension.
-#[test]
-fn the_number_is_sign_extended() {
-    let mut lent = Lent::new();
-    let mut seen = [0; 2];
-    for known in known::all() {
-        let number = known.answer.number;
-        let word = lent.source_into(&known.case).places[3];
-        assert_eq!(word as i64, i64::from(number), "{}", known.name);
-        assert_eq!(word >> 63 == 1, number < 0, "{}", known.name);
-        seen[usize::from(number < 0)] += 1;
-    }
-    assert!(seen.iter().all(|&count| count > 0), "{seen:?}");
 }

@@ -20,18 +20,15 @@ fn check(lent: &mut Lent, constructed: &Constructed) {
     let output = [&bytes[..], &[FILLER; 3]].concat();
     let expected = Gave {
         number: 0,
-        places: [0, *begun, written as u64, i64::from(*number) as u64],
+        slots: [0, *begun, written as u64, i64::from(*number) as u64],
         output,
+        code: vec![],
     };
     let case = SourceCase::new(&file(program), tokens, *begun, room);
     assert_eq!(lent.answer(&case), expected, "{program:?}");
-    let less = SourceCase {
-        fuel: begun - 1,
-        ..case
-    };
-    let gave = lent.source_into(&less);
-    let places = [0, begun - 1, 0, 0];
-    assert_eq!((gave.number, gave.places), (14, places), "{program:?}");
+    let gave = lent.call_into(&case.with_fuel(begun - 1));
+    let slots = [0, begun - 1, 0, 0];
+    assert_eq!((gave.number, gave.slots), (14, slots), "{program:?}");
 }
 
 /// Small expressions and large ones, with up to 128 Cases around them: tree

@@ -45,11 +45,11 @@ fn endless() -> Vec<u8> {
 }
 
 /// What the library gives, which is what the reference gives, has this number
-/// and these places.
+/// and these slots.
 fn assert_refused(lent: &mut Lent, case: &SourceCase, number: u32, place: u64, begun: u64) {
     let gave = lent.answer(case);
-    let places = [place, begun, 0, 0];
-    assert_eq!((gave.number, gave.places), (number, places), "{case:?}");
+    let slots = [place, begun, 0, 0];
+    assert_eq!((gave.number, gave.slots), (number, slots), "{case:?}");
     assert!(gave.output.iter().all(|&byte| byte == FILLER), "{case:?}");
 }
 

@@ -1,8 +1,8 @@
 //! What is said of a program's text besides the answer: why it is refused, and
 //! which line stands elsewhere than it seems to.
 
-use super::runs::{RUN, SOURCE};
-use super::texts::{counts, explained, written, GROW, MISPLACED, MISPLACED_NOTICE, RUNNING};
+use super::run_verbs::{OF_PROGRAMS, RUN, SOURCE};
+use super::texts::{explained, written, GROW, MISPLACED, MISPLACED_NOTICE};
 use super::*;
 
 /// Document 01's program whose trees are out of order.
@@ -86,7 +86,7 @@ fn refusals_of_runs_are_explained() {
     let mut ended = 0;
     for (text, line) in refused_texts() {
         let told = explained("standard input", &text, line);
-        for verb in RUNNING {
+        for verb in OF_PROGRAMS {
             let output = verb.run_first(text.as_bytes(), &[]);
             let ordered = !line.starts_with("refused 11 ") && !line.starts_with("refused 12 ");
             if verb.name == "source" && !ordered {
@@ -94,7 +94,7 @@ fn refusals_of_runs_are_explained() {
                 ended += 1;
                 continue;
             }
-            let told = format!("{line}{}{told}", counts(&verb));
+            let told = format!("{line} {}{told}", verb.not_begun);
             assert_gives(&output, 1, &[], &told);
         }
     }
@@ -110,7 +110,7 @@ fn partial_data_of_a_refused_text_is_none() {
         fs::write(&out, "before").unwrap();
         let output = RUN.run_first(text.as_bytes(), &options);
         let told = explained("standard input", &text, line);
-        assert_gives(&output, 1, &[], &format!("{line}{}{told}", counts(&RUN)));
+        assert_gives(&output, 1, &[], &format!("{line} {}{told}", RUN.not_begun));
         assert_eq!(fs::read(&out).unwrap(), b"");
     }
     fs::write(&out, "before").unwrap();

@@ -1,6 +1,6 @@
 //! `perform`: what it alone does.
 
-use super::runs::{small, ENDED, GROWN, PERFORM};
+use super::run_verbs::{small, ENDED, GROWN, PERFORM};
 use super::stream::refused;
 use super::*;
 

@@ -1,7 +1,7 @@
 //! What `perform` and `run` have in common as stream runs: what is written
 //! before a refusal, and --partial.
 
-use super::runs::{Verb, ENDED, GROWN, PERFORM, RUN, SPENT};
+use super::run_verbs::{Verb, ENDED, GROWN, PERFORM, RUN, SPENT};
 use super::*;
 
 /// What is said of a run that is refused. Its place is the bytes read.

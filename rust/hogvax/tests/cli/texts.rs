@@ -3,7 +3,7 @@
 use hogvax::assembly::{self, Numbers, LONGEST_TEXT};
 use hogvax::Refused;
 
-use super::runs::{Verb, GROWN, RUN, SOURCE};
+use super::run_verbs::{GROWN, OF_PROGRAMS, RUN};
 use super::*;
 
 pub const GROW: &str = "\
@@ -37,9 +37,6 @@ pub const MISPLACED_NOTICE: &str = "notice: standard input:6:5: \
 /// The verbs that print their answer on standard output.
 const PRINTING: [&str; 3] = ["check", "listing", "show"];
 
-/// The verbs that make a run of a program.
-pub const RUNNING: [Verb; 2] = [RUN, SOURCE];
-
 /// What is said on standard error after the line that tells a text's refusal.
 pub fn explained(name: &str, text: &str, line: &str) -> String {
     let text = assembly::read(text.as_bytes()).unwrap();
@@ -70,14 +67,6 @@ pub fn written(folder_name: &str, text: &str) -> String {
     let path = folder(folder_name).join("program.txt");
     fs::write(&path, text).unwrap();
     path.to_str().unwrap().to_owned()
-}
-
-/// The counts of a run that was not begun.
-pub fn counts(verb: &Verb) -> &'static str {
-    match verb.name {
-        "run" => " units 0 read 0 written 0 number 0\n",
-        _ => " begun 0 written 0 number 0\n",
-    }
 }
 
 // Texts and program files
@@ -114,7 +103,7 @@ fn a_text_may_have_other_line_ends_marks_and_tabs() {
     let cut = GROW.trim_end();
     for text in [&crlf, &marked, &tabs, cut] {
         assert_says(&run_on(&["check"], text.as_bytes()), 0, "passed\n");
-        for verb in RUNNING {
+        for verb in OF_PROGRAMS {
             let output = verb.run_first(text.as_bytes(), &[]);
             assert_gives(&output, 0, &GROWN, verb.ended);
         }
@@ -145,7 +134,7 @@ fn lines_that_cannot_be_read_are_told() {
         assert_says(&run(&[verb, &path]), 1, &from_file);
         assert_says(&run_on(&[verb], text.as_bytes()), 1, &from_input);
     }
-    for verb in RUNNING {
+    for verb in OF_PROGRAMS {
         let small = sample("small.tokens");
         let output = run(&[verb.name, &path, &small]);
         assert_gives(&output, 1, &[], &from_file);
@@ -166,7 +155,7 @@ fn bytes_that_are_no_text_are_told() {
 #[test]
 fn files_that_cannot_be_read_come_before_refusals() {
     let path = written("texts-and-no-tokens", "Case 0");
-    for verb in RUNNING {
+    for verb in OF_PROGRAMS {
         let message = trouble(run(&[verb.name, &path, "no-such-file"]));
         assert!(message.starts_with("hogvax: no-such-file: "), "{message}");
     }
@@ -234,9 +223,9 @@ fn endless_bytes_are_refused() {
             assert_says(&run(&[verb, endless]), 1, "refused 1 0\n");
         }
     }
-    for verb in RUNNING {
+    for verb in OF_PROGRAMS {
         let output = run(&[verb.name, "/dev/urandom", &sample("small.tokens")]);
-        let line = format!("refused 1 0{}", counts(&verb));
+        let line = verb.refused(1, 0);
         assert_gives(&output, 1, &[], &line);
     }
 }

@@ -20,10 +20,10 @@ mod space;
 mod stream_gave;
 mod trees;
 
-use hogvax::{Ran, WorkSpace};
+use hogvax::Ran;
 use reference::machine::{FILLER, RETURN_WORDS, VALUE_WORDS};
 use reference::{TestCase, Trace};
-use run_call::{Lengths, Lent, RunCall, Slices};
+use run_call::{Lengths, Lent, RunCall, SafeAlone, SafeIn, Slices};
 use stream_gave::{Gave, WRITTEN};
 
 /// More fuel than a run that ends in time can use.
@@ -44,12 +44,16 @@ impl RunCall<5> for TestCase {
 
     const WRITTEN: usize = WRITTEN;
 
-    fn lengths(&self) -> Lengths {
-        lengths(self, (VALUE_WORDS, RETURN_WORDS))
+    const SAFE_IN: SafeIn<Ran> = hogvax::perform_in;
+
+    const SAFE_ALONE: SafeAlone<Ran> = hogvax::perform;
+
+    fn given(&self) -> (&[u8], &[u8], u64) {
+        (&self.code, &self.input, self.fuel)
     }
 
-    fn fuel(&self) -> u64 {
-        self.fuel
+    fn lengths(&self) -> Lengths {
+        lengths(self, (VALUE_WORDS, RETURN_WORDS))
     }
 
     fn with_fuel(&self, fuel: u64) -> TestCase {
@@ -67,14 +71,6 @@ impl RunCall<5> for TestCase {
             lent.returns,
             lent.answer,
         )
-    }
-
-    fn call_in(&self, work: &mut WorkSpace, output: &mut [u8]) -> Ran {
-        hogvax::perform_in(work, &self.code, &self.input, self.fuel, output)
-    }
-
-    fn call_alone(&self, output: &mut [u8]) -> Ran {
-        hogvax::perform(&self.code, &self.input, self.fuel, output)
     }
 
     fn safe_answer(gave: &Gave) -> Ran {

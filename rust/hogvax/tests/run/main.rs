@@ -15,10 +15,10 @@ mod space;
 mod stream_gave;
 mod trees;
 
-use hogvax::{Ran, WorkSpace, LONGEST_CODE};
+use hogvax::{Ran, LONGEST_CODE};
 use reference::machine::{FILLER, RETURN_WORDS, VALUE_WORDS};
 use reference::{lay_out, Program, RunCase};
-use run_call::{Lengths, Lent, RunCall, Slices};
+use run_call::{Lengths, Lent, RunCall, SafeAlone, SafeIn, Slices};
 use stream_gave::{Gave, WRITTEN};
 
 fn file(program: &Program) -> Vec<u8> {
@@ -30,6 +30,14 @@ impl RunCall<5> for RunCase {
 
     const WRITTEN: usize = WRITTEN;
 
+    const SAFE_IN: SafeIn<Ran> = hogvax::run_in;
+
+    const SAFE_ALONE: SafeAlone<Ran> = hogvax::run;
+
+    fn given(&self) -> (&[u8], &[u8], u64) {
+        (&self.file, &self.input, self.fuel)
+    }
+
     fn lengths(&self) -> Lengths {
         Lengths {
             output: self.output,
@@ -37,10 +45,6 @@ impl RunCall<5> for RunCase {
             values: self.value_words,
             returns: self.return_words,
         }
-    }
-
-    fn fuel(&self) -> u64 {
-        self.fuel
     }
 
     fn with_fuel(&self, fuel: u64) -> RunCase {
@@ -63,14 +67,6 @@ impl RunCall<5> for RunCase {
         )
     }
 
-    fn call_in(&self, work: &mut WorkSpace, output: &mut [u8]) -> Ran {
-        hogvax::run_in(work, &self.file, &self.input, self.fuel, output)
-    }
-
-    fn call_alone(&self, output: &mut [u8]) -> Ran {
-        hogvax::run(&self.file, &self.input, self.fuel, output)
-    }
-
     fn safe_answer(gave: &Gave) -> Ran {
         gave.ran()
     }
@@ -89,7 +85,6 @@ impl Lent {
 
     /// As a safe function, which lends enough.
     fn run(&mut self, case: &RunCase) -> (Ran, Vec<u8>) {
-        let mut output = vec![FILLER; case.output];
-        (case.call_in(&mut self.work, &mut output), output)
+        case.call_in(&mut self.work, FILLER)
     }
 }

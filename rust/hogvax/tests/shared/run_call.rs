@@ -56,6 +56,10 @@ pub struct Slices<'a> {
     pub answer: &'a mut [u64],
 }
 
+/// A safe function: of what is run, the input, the fuel and the output.
+pub type SafeIn<A> = fn(&mut WorkSpace, &[u8], &[u8], u64, &mut [u8]) -> A;
+pub type SafeAlone<A> = fn(&[u8], &[u8], u64, &mut [u8]) -> A;
+
 /// A case to be tested: a call of the library with all that decides what it
 /// gives. Its answer has N slots.
 pub trait RunCall<const N: usize>: fmt::Debug + Sized {
@@ -65,26 +69,35 @@ pub trait RunCall<const N: usize>: fmt::Debug + Sized {
     /// The slot that counts the bytes written.
     const WRITTEN: usize;
 
-    fn lengths(&self) -> Lengths;
+    /// The safe function, in a work space that is lent.
+    const SAFE_IN: SafeIn<Self::Answer>;
 
-    fn fuel(&self) -> u64;
+    /// The safe function, in a work space of its own.
+    const SAFE_ALONE: SafeAlone<Self::Answer>;
+
+    /// What is run, the input and the fuel.
+    fn given(&self) -> (&[u8], &[u8], u64);
 
     fn with_fuel(&self, fuel: u64) -> Self;
 
+    fn lengths(&self) -> Lengths;
+
     /// Makes the call with lent slices.
     fn call(&self, lent: Slices) -> u32;
-
-    /// Makes the call as a safe function, in a work space that is lent.
-    fn call_in(&self, work: &mut WorkSpace, output: &mut [u8]) -> Self::Answer;
-
-    /// Makes the call as a safe function, in a work space of its own.
-    fn call_alone(&self, output: &mut [u8]) -> Self::Answer;
 
     /// What the safe functions answer where the call gives this.
     fn safe_answer(gave: &Gave<N>) -> Self::Answer;
 
     /// What the reference gives. Every byte of its buffers is `FILLER` before.
     fn reference(&self) -> Gave<N>;
+
+    /// Makes the call as a safe function, with an output of which each byte is
+    /// this before: the answer, and the whole output.
+    fn call_in(&self, work: &mut WorkSpace, filler: u8) -> (Self::Answer, Vec<u8>) {
+        let (first, input, fuel) = self.given();
+        let mut output = vec![filler; self.lengths().output];
+        (Self::SAFE_IN(work, first, input, fuel, &mut output), output)
+    }
 }
 
 /// Buffers that are lent to one call after another. A work space holds what
@@ -172,8 +185,7 @@ impl Lent {
     pub fn call<const N: usize, C: RunCall<N>>(&mut self, case: &C) -> Gave<N> {
         let gave = self.call_into(case);
         if gave.number != 13 {
-            let mut output = vec![OTHER_FILLER; case.lengths().output];
-            let answer = case.call_in(&mut self.work, &mut output);
+            let (answer, output) = case.call_in(&mut self.work, OTHER_FILLER);
             assert_eq!(answer, C::safe_answer(&gave), "{case:?}");
             let length = gave.slots[C::WRITTEN] as usize;
             let (written, rest) = output.split_at(length);
@@ -190,7 +202,8 @@ impl Lent {
         C: RunCall<N>,
     {
         let more = expected.slots[1] + 1;
-        if case.fuel() > more {
+        let (_, _, fuel) = case.given();
+        if fuel > more {
             let gave = self.call_into(&case.with_fuel(more));
             assert_eq!(gave, *expected, "{name}, with fuel {more}: {case:?}");
         }
@@ -210,8 +223,9 @@ pub fn assert_gives_alone<const N: usize, C>(name: &str, case: &C, expected: &Ga
 where
     C: RunCall<N>,
 {
+    let (first, input, fuel) = case.given();
     let mut output = vec![FILLER; case.lengths().output];
-    let answer = case.call_alone(&mut output);
+    let answer = C::SAFE_ALONE(first, input, fuel, &mut output);
     assert_eq!(answer, C::safe_answer(expected), "{name}");
     assert!(output == expected.output, "{name}");
 }

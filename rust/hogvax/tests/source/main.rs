@@ -21,11 +21,11 @@ mod stream;
 use std::time::{Duration, Instant};
 
 use gave::Gave;
-use hogvax::{Sourced, WorkSpace};
+use hogvax::Sourced;
 use reference::generate::sources::MODERATE;
 use reference::machine::{FILLER, RETURN_WORDS, VALUE_WORDS};
 use reference::{lay_out, Expr, Function, Program, Random, SourceCase};
-use run_call::{Lengths, Lent, RunCall, Slices};
+use run_call::{Lengths, Lent, RunCall, SafeAlone, SafeIn, Slices};
 
 /// So long a test made at random goes on after it has had its least cases.
 const LONG: Duration = Duration::from_secs(2);
@@ -61,6 +61,14 @@ impl RunCall<4> for SourceCase {
 
     const WRITTEN: usize = 2;
 
+    const SAFE_IN: SafeIn<Sourced> = hogvax::source_in;
+
+    const SAFE_ALONE: SafeAlone<Sourced> = hogvax::source;
+
+    fn given(&self) -> (&[u8], &[u8], u64) {
+        (&self.file, &self.input, self.fuel)
+    }
+
     fn lengths(&self) -> Lengths {
         Lengths {
             output: self.output,
@@ -68,10 +76,6 @@ impl RunCall<4> for SourceCase {
             values: self.values,
             returns: self.returns,
         }
-    }
-
-    fn fuel(&self) -> u64 {
-        self.fuel
     }
 
     fn with_fuel(&self, fuel: u64) -> SourceCase {
@@ -94,14 +98,6 @@ impl RunCall<4> for SourceCase {
         )
     }
 
-    fn call_in(&self, work: &mut WorkSpace, output: &mut [u8]) -> Sourced {
-        hogvax::source_in(work, &self.file, &self.input, self.fuel, output)
-    }
-
-    fn call_alone(&self, output: &mut [u8]) -> Sourced {
-        hogvax::source(&self.file, &self.input, self.fuel, output)
-    }
-
     fn safe_answer(gave: &Gave) -> Sourced {
         gave.sourced()
     }
@@ -120,7 +116,6 @@ impl Lent {
 
     /// As a safe function, which lends enough.
     fn source(&mut self, case: &SourceCase) -> (Sourced, Vec<u8>) {
-        let mut output = vec![FILLER; case.output];
-        (case.call_in(&mut self.work, &mut output), output)
+        case.call_in(&mut self.work, FILLER)
     }
 }

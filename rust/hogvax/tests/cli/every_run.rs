@@ -1,125 +1,8 @@
-//! What `perform`, `run` and `source` have in common: each is tried with
-//! document 01's Grow, as code or as a program.
+//! What `perform`, `run` and `source` have in common: their answers, operands
+//! and options.
 
+use super::run_verbs::{small, ALL, PERFORM, RUN, SOURCE};
 use super::*;
-
-/// The same tree as T, each label 1 more: what Grow gives on T.
-pub const GROWN: [u8; 11] = [2, 1, 6, 0, 0, 0, 1, 8, 0, 0, 0];
-
-/// What is said of a stream run of Grow on T, with fuel enough.
-pub const ENDED: &str = "ended units 25 read 11 written 11 number 0\n";
-
-/// The same with fuel 24, which lacks the last return.
-pub const SPENT: &str = "refused 14 11 units 24 read 11 written 11 number 0\n";
-
-/// A verb that makes a run.
-pub struct Verb {
-    pub name: &'static str,
-    /// The sample that is Grow.
-    pub grow: &'static str,
-    /// How its first file is called.
-    first: &'static str,
-    usage: &'static str,
-    /// The fuel that is just enough for Grow on T, and what is then said.
-    enough: &'static str,
-    pub ended: &'static str,
-    /// One unit less, and what is then said.
-    less: &'static str,
-    spent: &'static str,
-}
-
-pub const PERFORM: Verb = Verb {
-    name: "perform",
-    grow: "code/grow.code",
-    first: "CODE",
-    usage: "usage: hogvax perform CODE [FILE] --fuel N \
-        [--space M] [--most-space M] [--out FILE] [--partial]",
-    enough: "25",
-    ended: ENDED,
-    less: "24",
-    spent: SPENT,
-};
-
-pub const RUN: Verb = Verb {
-    name: "run",
-    grow: "programs/grow.program",
-    first: "PROGRAM",
-    usage: "usage: hogvax run PROGRAM [FILE] \
-        [--fuel N] [--space M] [--most-space M] [--out FILE] [--partial]",
-    enough: "25",
-    ended: ENDED,
-    less: "24",
-    spent: SPENT,
-};
-
-/// Document 01: "Source run: fuel 14 ends, 13 gives 14."
-pub const SOURCE: Verb = Verb {
-    name: "source",
-    grow: "programs/grow.program",
-    first: "PROGRAM",
-    usage: "usage: hogvax source PROGRAM [FILE] \
-        [--fuel N] [--space M] [--most-space M] [--out FILE]",
-    enough: "14",
-    ended: "ended begun 14 written 11 number 0\n",
-    less: "13",
-    spent: "refused 14 0 begun 13 written 0 number 0\n",
-};
-
-const ALL: [Verb; 3] = [PERFORM, RUN, SOURCE];
-
-pub fn small() -> String {
-    sample("small.tokens")
-}
-
-/// The file of a program that gives so many leaves for each leaf.
-pub fn manifold(leaves: usize) -> Vec<u8> {
-    let leaf = || Expr::leaf(Expr::var(0));
-    let many = (1..leaves).fold(leaf(), |tree, _| Expr::node(leaf(), tree));
-    file(true, Expr::case(0, many, Expr::node(call(1), call(2))))
-}
-
-impl Verb {
-    pub fn grow(&self) -> String {
-        sample(self.grow)
-    }
-
-    /// The option with fuel that is just enough.
-    fn fuel(&self) -> [&'static str; 2] {
-        ["--fuel", self.enough]
-    }
-
-    /// Runs Grow over the sample that is T.
-    pub fn run_grow(&self, options: &[&str]) -> Output {
-        run(&[&[self.name, &self.grow(), &small()], options].concat())
-    }
-
-    /// The same with just enough fuel.
-    fn run_whole(&self, options: &[&str]) -> Output {
-        self.run_grow(&[&self.fuel(), options].concat())
-    }
-
-    /// Runs Grow over these bytes, from standard input.
-    pub fn run_grow_on(&self, input: &[u8], options: &[&str]) -> Output {
-        run_on(&[&[self.name, &self.grow()], options].concat(), input)
-    }
-
-    /// Runs its first file, from standard input, over the sample that is T.
-    pub fn run_first(&self, first: &[u8], options: &[&str]) -> Output {
-        run_on(&[&[self.name, "-", &small()], options].concat(), first)
-    }
-
-    /// Grow on T is told as it is.
-    fn assert_grown(&self, output: &Output) {
-        assert_gives(output, 0, &GROWN, self.ended);
-    }
-
-    /// A new and empty folder, for one test of this verb.
-    pub fn folder(&self, name: &str) -> PathBuf {
-        folder(&format!("{}-{name}", self.name))
-    }
-}
-
-// Answers
 
 #[test]
 fn grow_adds_1_to_every_label() {
@@ -139,7 +22,6 @@ fn what_stands_behind_the_tree_does_not_matter() {
     }
 }
 
-/// Every label of a long tree is 1 more.
 /// No more is read than some hundred megabytes, and a run needs less.
 #[cfg(target_os = "linux")]
 #[test]
@@ -147,15 +29,12 @@ fn endless_inputs_are_refused() {
     for verb in ALL {
         let (grow, fuel) = (verb.grow(), verb.fuel());
         let words = [&[verb.name, &grow, "/dev/zero"], &fuel[..]].concat();
-        let counts = match verb.name {
-            "source" => "begun 0",
-            _ => "units 0 read 0",
-        };
-        let line = format!("refused 16 0 {counts} written 0 number 0\n");
+        let line = verb.refused(16, 0);
         assert_gives(&run(&words), 1, &[], &line);
     }
 }
 
+/// Every label of a long tree is 1 more.
 #[test]
 fn long_trees_go_through() {
     use reference::Token::{Leaf, Node};
@@ -361,108 +240,5 @@ fn space_that_is_not_there_is_told() {
             let told = format!("no memory for an output of {space} bytes");
             assert_eq!(message, format!("hogvax: {told}\n"));
         }
-    }
-}
-
-// Data
-
-#[test]
-fn data_goes_into_the_file_of_out() {
-    for verb in ALL {
-        let out = verb.folder("out").join("tokens");
-        let out = out.to_str().unwrap();
-        for before in [None, Some(vec![7; 5]), Some(vec![7; 2_000])] {
-            if let Some(before) = before {
-                fs::write(out, before).unwrap();
-            }
-            assert_gives(&verb.run_whole(&["--out", out]), 0, &[], verb.ended);
-            assert_eq!(fs::read(out).unwrap(), GROWN);
-        }
-        verb.assert_grown(&verb.run_whole(&["--out", "-"]));
-    }
-}
-
-/// The input is read whole before the file is made.
-#[test]
-fn a_file_may_be_turned_into_itself() {
-    for verb in ALL {
-        let file = verb.folder("itself").join("tokens");
-        let path = file.to_str().unwrap();
-        fs::write(path, T).unwrap();
-        let words = [verb.name, &verb.grow(), path, "--out", path];
-        let output = run(&[&words[..], &verb.fuel()].concat());
-        assert_gives(&output, 0, &[], verb.ended);
-        assert_eq!(fs::read(path).unwrap(), GROWN);
-    }
-}
-
-#[test]
-fn refusals_make_and_change_no_file() {
-    for verb in ALL {
-        let out = verb.folder("refused").join("tokens");
-        let options = ["--fuel", verb.less, "--out", out.to_str().unwrap()];
-        assert_gives(&verb.run_grow(&options), 1, &[], verb.spent);
-        assert!(!out.exists());
-        fs::write(&out, "before").unwrap();
-        assert_gives(&verb.run_grow(&options), 1, &[], verb.spent);
-        assert_eq!(fs::read(&out).unwrap(), b"before");
-    }
-}
-
-// Files that can't be read or written
-
-#[test]
-fn files_that_cannot_be_read_are_told() {
-    for verb in ALL {
-        let folder = verb.folder("unread");
-        let out = folder.join("out");
-        let folder = folder.to_str().unwrap();
-        let out_words = ["--out", out.to_str().unwrap()];
-        let options = [verb.fuel(), out_words].concat();
-        for unread in ["no-such-file", folder] {
-            for files in [[unread, &small()], [&verb.grow(), unread]] {
-                let message = trouble(run(&[&[verb.name], &files[..], &options].concat()));
-                let told = format!("hogvax: {unread}: ");
-                assert!(message.starts_with(&told), "{message}");
-                assert!(!out.exists());
-            }
-        }
-        let words = [verb.name, &verb.grow()];
-        let mut command = command(&[&words[..], &verb.fuel()].concat());
-        let input = File::open(folder).unwrap();
-        let message = trouble(command.stdin(input).output().unwrap());
-        assert!(message.contains("standard input"), "{message}");
-    }
-}
-
-#[test]
-fn files_that_cannot_be_written_are_told() {
-    for verb in ALL {
-        let folder = verb.folder("unwritten");
-        let inside = folder.join("no-such-folder").join("file");
-        for out in [&folder, &inside] {
-            let out = out.to_str().unwrap();
-            let message = trouble(verb.run_whole(&["--out", out]));
-            let told = format!("hogvax: {out}: ");
-            assert!(message.starts_with(&told), "{message}");
-        }
-        assert_eq!(fs::read_dir(&folder).unwrap().count(), 0);
-    }
-}
-
-#[test]
-fn a_closed_pipe_is_told() {
-    for verb in ALL {
-        let words = [verb.name, &verb.grow()];
-        assert_closed_pipe_is_told(&[&words[..], &verb.fuel()].concat(), &T);
-    }
-}
-
-#[cfg(target_os = "linux")]
-#[test]
-fn a_full_device_is_told() {
-    for verb in ALL {
-        let words = [verb.name, &verb.grow(), &small()];
-        assert_full_device_is_told(&[&words[..], &verb.fuel()].concat());
     }
 }

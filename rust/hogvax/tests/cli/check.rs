@@ -66,28 +66,3 @@ fn check_prints_the_refusals_of_files() {
     // Records are no program file.
     assert_says(&run_on(&["check"], &records), 1, "refused 1 0\n");
 }
-
-#[test]
-fn check_refuses_long_inputs() {
-    for length in [8_705, 9_216, 20_000_000] {
-        let mut input = grow();
-        input.resize(length, 0);
-        assert_says(&run_on(&["check"], &input), 1, "refused 1 0\n");
-    }
-}
-
-/// No more is read than the answer needs.
-#[cfg(target_os = "linux")]
-#[test]
-fn check_refuses_endless_inputs() {
-    assert_says(&run(&["check", "/dev/zero"]), 1, "refused 1 0\n");
-}
-
-#[test]
-fn check_tells_of_files_that_cannot_be_read() {
-    let message = trouble(run(&["check", "no-such-file"]));
-    assert!(message.contains("no-such-file"), "{message}");
-    let folder = env!("CARGO_MANIFEST_DIR");
-    let message = trouble(run(&["check", folder]));
-    assert!(message.contains(folder), "{message}");
-}

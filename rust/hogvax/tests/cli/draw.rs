@@ -242,15 +242,6 @@ fn draw_does_not_look_behind_the_tree() {
     assert_says(&draw_on(&[], &input), 0, &small());
 }
 
-#[cfg(target_os = "linux")]
-#[test]
-fn draw_refuses_endless_inputs() {
-    assert_says(&run(&["draw", "/dev/zero"]), 1, "refused 16 0\n");
-    let input = File::open("/dev/zero").unwrap();
-    let output = command(&["draw"]).stdin(input).output().unwrap();
-    assert_says(&output, 1, "refused 16 0\n");
-}
-
 /// An input without end has a first tree.
 #[test]
 fn draw_reads_no_more_than_it_draws() {
@@ -262,37 +253,7 @@ fn draw_reads_no_more_than_it_draws() {
     assert_says(&child.wait_with_output().unwrap(), 0, &small());
 }
 
-// Files and words
-
-#[test]
-fn draw_tells_of_files_that_cannot_be_read() {
-    let folder = env!("CARGO_MANIFEST_DIR");
-    for file in ["no-such-file", folder] {
-        let message = trouble(run(&["draw", file]));
-        let told = format!("hogvax: {file}: ");
-        assert!(message.starts_with(&told), "{message}");
-    }
-    let input = File::open(folder).unwrap();
-    let message = trouble(command(&["draw"]).stdin(input).output().unwrap());
-    assert!(message.contains("standard input"), "{message}");
-}
-
-/// Before the drawing begins, and while it is written.
-#[test]
-fn draw_tells_of_a_closed_pipe() {
-    assert_closed_pipe_is_told(&["draw"], &T);
-    let tree = generate::balanced(&mut Random::new(474), 1 << 12).tokens();
-    assert_closed_pipe_is_told(&["draw"], &tree);
-}
-
-#[cfg(target_os = "linux")]
-#[test]
-fn draw_tells_of_a_full_device() {
-    let full = File::options().write(true).open("/dev/full").unwrap();
-    let mut command = command(&["draw", &sample("clades.tokens")]);
-    let output = command.stdout(full).output().unwrap();
-    assert!(trouble(output).contains("standard output"));
-}
+// Words
 
 #[test]
 fn draw_takes_numbers_that_are_decimal() {

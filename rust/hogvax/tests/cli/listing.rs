@@ -60,28 +60,3 @@ fn listing_prints_random_programs() {
     }
     assert!(listed > 0 && refused > 30, "{listed} and {refused}");
 }
-
-#[test]
-fn listing_refuses_long_inputs() {
-    for length in [8_705, 9_216, 20_000_000] {
-        let mut input = bytes("programs/grow.program");
-        input.resize(length, 0);
-        assert_says(&run_on(&["listing"], &input), 1, "refused 1 0\n");
-    }
-}
-
-/// No more is read than the answer needs.
-#[cfg(target_os = "linux")]
-#[test]
-fn listing_refuses_endless_inputs() {
-    assert_says(&run(&["listing", "/dev/zero"]), 1, "refused 1 0\n");
-}
-
-#[test]
-fn listing_tells_of_files_that_cannot_be_read() {
-    let message = trouble(run(&["listing", "no-such-file"]));
-    assert!(message.contains("no-such-file"), "{message}");
-    let folder = env!("CARGO_MANIFEST_DIR");
-    let message = trouble(run(&["listing", folder]));
-    assert!(message.contains(folder), "{message}");
-}

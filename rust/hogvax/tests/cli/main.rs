@@ -11,6 +11,7 @@ mod listing;
 mod mistaken;
 mod newick;
 mod perform;
+mod printing;
 mod program_runs;
 mod programs;
 mod progress;

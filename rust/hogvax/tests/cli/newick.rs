@@ -71,45 +71,6 @@ fn newick_reads_large_inputs() {
     }
 }
 
-/// No more is read than the refusal needs.
-#[cfg(target_os = "linux")]
-#[test]
-fn newick_refuses_endless_inputs() {
-    assert_says(&run(&["newick", "/dev/zero"]), 1, "refused 16 0\n");
-    let input = File::open("/dev/zero").unwrap();
-    let output = command(&["newick"]).stdin(input).output().unwrap();
-    assert_says(&output, 1, "refused 16 0\n");
-}
-
-#[test]
-fn newick_tells_of_files_that_cannot_be_read() {
-    let folder = env!("CARGO_MANIFEST_DIR");
-    for file in ["no-such-file", folder] {
-        let message = trouble(run(&["newick", file]));
-        assert!(
-            message.starts_with(&format!("hogvax: {file}: ")),
-            "{message}"
-        );
-    }
-    let input = File::open(folder).unwrap();
-    let message = trouble(command(&["newick"]).stdin(input).output().unwrap());
-    assert!(message.contains("standard input"), "{message}");
-}
-
-#[test]
-fn newick_tells_of_a_closed_pipe() {
-    assert_closed_pipe_is_told(&["newick"], &T);
-}
-
-#[cfg(target_os = "linux")]
-#[test]
-fn newick_tells_of_a_full_device() {
-    let full = File::options().write(true).open("/dev/full").unwrap();
-    let mut command = command(&["newick", &sample("small.tokens")]);
-    let output = command.stdout(full).output().unwrap();
-    assert!(trouble(output).contains("standard output"));
-}
-
 #[test]
 fn newick_takes_a_file_and_nothing_else() {
     let usage = "hogvax: usage: hogvax newick [FILE]\n";

@@ -104,22 +104,6 @@ fn show_refuses_texts_of_no_program() {
 }
 
 #[test]
-fn show_refuses_long_inputs() {
-    for length in [8_705, 9_216, 20_000_000] {
-        let mut input = bytes("programs/grow.program");
-        input.resize(length, 0);
-        assert_says(&run_on(&["show"], &input), 1, "refused 1 0\n");
-    }
-}
-
-/// No more is read than the answer needs.
-#[cfg(target_os = "linux")]
-#[test]
-fn show_refuses_endless_inputs() {
-    assert_says(&run(&["show", "/dev/zero"]), 1, "refused 1 0\n");
-}
-
-#[test]
 fn other_words_are_wrong_usage() {
     for words in [
         &["a", "b"][..],
@@ -130,25 +114,4 @@ fn other_words_are_wrong_usage() {
         let message = trouble(run(&[&["show"], words].concat()));
         assert_eq!(message, "hogvax: usage: hogvax show [FILE] [--bare]\n");
     }
-}
-
-#[test]
-fn files_that_cannot_be_read_or_written_are_told() {
-    let folder = env!("CARGO_MANIFEST_DIR");
-    for unread in ["no-such-file", folder] {
-        let message = trouble(run(&["show", unread]));
-        assert!(
-            message.starts_with(&format!("hogvax: {unread}: ")),
-            "{message}"
-        );
-    }
-    assert_closed_pipe_is_told(&["show"], GROW.as_bytes());
-}
-
-#[cfg(target_os = "linux")]
-#[test]
-fn a_full_device_is_told() {
-    let full = File::options().write(true).open("/dev/full").unwrap();
-    let output = command(&["show"]).stdout(full).output().unwrap();
-    assert!(trouble(output).contains("standard output"));
 }

@@ -51,22 +51,3 @@ fn tree_reads_long_trees() {
     let refused = format!("refused 15 {place}\n");
     assert_says(&run_on(&["tree"], short), 1, &refused);
 }
-
-/// No more is read than the answer needs.
-#[cfg(target_os = "linux")]
-#[test]
-fn tree_refuses_endless_inputs() {
-    assert_says(&run(&["tree", "/dev/zero"]), 1, "refused 16 0\n");
-}
-
-#[test]
-fn tree_tells_of_files_that_cannot_be_read() {
-    let message = trouble(run(&["tree", "no-such-file"]));
-    assert!(message.contains("no-such-file"), "{message}");
-    let folder = env!("CARGO_MANIFEST_DIR");
-    let message = trouble(run(&["tree", folder]));
-    assert!(message.contains(folder), "{message}");
-    let input = File::open(folder).unwrap();
-    let message = trouble(command(&["tree"]).stdin(input).output().unwrap());
-    assert!(message.contains("standard input"), "{message}");
-}

@@ -106,7 +106,7 @@ type Question = unsafe extern "C" fn(*const u8, usize, *mut u64, usize) -> u32;
 type Conversion = unsafe extern "C" fn(*const u8, usize, *mut u8, usize, *mut u64, usize) -> u32;
 
 /// A call that reads its first two slices, takes a fuel, writes to its third
-/// slice, works in the two behind, and answers in its last.
+/// slice, works in the two after it, and answers in its last.
 type Run = unsafe extern "C" fn(
     *const u8,
     usize,

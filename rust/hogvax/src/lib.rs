@@ -38,8 +38,8 @@ pub use source::{source, source_in, source_into, Sourced};
 pub use translate::{translate, translate_into};
 pub use tree::{first_tree, tree, tree_into};
 
-/// A refusal: its number in document 01's table, and its place. What the
-/// place counts depends on the number: the tree reader's is a byte of the
+/// A refusal: its number in document 01's table, and its position, `place`.
+/// What that counts depends on the number: the tree reader's is a byte of the
 /// input, a program file's is a block or a record, a stream run's is the bytes
 /// read; a source run's own refusals are at 0.
 #[derive(Clone, Copy, Debug, PartialEq, Eq)]
@@ -57,7 +57,7 @@ impl fmt::Display for Refused {
 impl Error for Refused {}
 
 impl Refused {
-    /// What a call told by a number, 0 or the refusal's, and the place.
+    /// What a call reported by a number, 0 or the refusal's, and the position.
     fn told(number: u32, place: u64) -> Option<Refused> {
         (number != 0).then_some(Refused { number, place })
     }
@@ -84,7 +84,7 @@ fn written(
 }
 
 /// Makes a call that answers by a number, 0 or the refusal's, and in two
-/// places: the refusal's place, and a length in bytes.
+/// slots: the refusal's position, and a length in bytes.
 fn length_or_refused(call: impl FnOnce(&mut [u64]) -> u32) -> Result<usize, Refused> {
     let mut answer = [0; 2];
     let number = call(&mut answer);

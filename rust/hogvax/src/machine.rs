@@ -5,7 +5,7 @@ use std::fmt;
 use crate::{ffi, write_start, Refused};
 
 /// The bytes of the longest code: 4,128 instructions, 8 bytes each. What
-/// stands behind them is never performed.
+/// comes after them is never performed.
 pub const LONGEST_CODE: usize = 8 * 4_128;
 
 /// The words of a run's value stack.
@@ -32,7 +32,7 @@ pub struct Ran {
 }
 
 impl Ran {
-    /// What a call told by a number, 0 or the refusal's, and in five places.
+    /// What a call reported by a number, 0 or the refusal's, and in five slots.
     pub(crate) fn told(number: u32, answer: [u64; 5]) -> Ran {
         let [place, units, read, written, word] = answer;
         Ran {
@@ -104,7 +104,7 @@ impl Default for WorkSpace {
 /// - 17, `output` has no room for the tag or label to be written;
 /// - 18, a call is to be made and 1,024 are open, the first frame counted.
 ///
-/// The place of each is the bytes read. Any bytes may be run as code, and any
+/// The position of each is the bytes read. Any bytes may be run as code, and any
 /// be its input. 13 does not come, since the run has its own work space.
 ///
 /// What the run wrote stays at the start of `output`, also if it was refused;
@@ -178,7 +178,7 @@ pub fn perform_in(
 }
 
 /// The call behind [`perform`], as the static library exports it: 0, or the
-/// refusal's number; with the refusal's place (0 if there is none), the units,
+/// refusal's number; with the refusal's position (0 if there is none), the units,
 /// the bytes read, the bytes written and the number, sign-extended to 64 bits, in
 /// `answer`.
 ///
@@ -187,7 +187,7 @@ pub fn perform_in(
 /// few would do. Both are then left as they are; after a run they are
 /// unspecified.
 ///
-/// Places of `answer` from 5 on are left as they are. With fewer than 5 places
+/// Slots of `answer` from 5 on are left as they are. With fewer than 5 slots
 /// the number is 13, and all lent slices are left as they are.
 ///
 /// ```

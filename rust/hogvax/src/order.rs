@@ -18,7 +18,7 @@ use crate::{ffi, length_or_refused, Refused};
 ///
 /// - 11, a Case or Call names a tree that is not the first of those pending,
 ///   at its record; the branches of a Case or IfZero leave different trees, at
-///   its record, once both are through; or a function leaves a tree, at the
+///   its record, once both are finished; or a function leaves a tree, at the
 ///   record of its first node;
 /// - 12, a Case stands where 16 trees are pending, at its record.
 ///
@@ -59,8 +59,8 @@ pub fn check_records(records: &[u8]) -> Result<(), Refused> {
 }
 
 /// The call behind [`check`], as the static library exports it: 0, with 0 and
-/// 0 in `answer`; or the refusal's number, with its place and 0 in `answer`.
-/// Places of `answer` from 2 on are left as they are. With fewer than 2 places
+/// 0 in `answer`; or the refusal's number, with its position and 0 in `answer`.
+/// Slots of `answer` from 2 on are left as they are. With fewer than 2 slots
 /// the number is 13 and `answer` is left as it is.
 #[doc(hidden)]
 pub fn check_into(file: &[u8], answer: &mut [u64]) -> u32 {

@@ -95,13 +95,13 @@ pub fn unpack(file: &[u8]) -> Result<Vec<u8>, Refused> {
 
 /// The call behind [`pack`], as the static library exports it: 0, with 0 and
 /// the length of the program file in `answer`, and the file at the start of
-/// `file`; or the refusal's number, with its place and 0 in `answer`.
+/// `file`; or the refusal's number, with its position and 0 in `answer`.
 ///
 /// After the refusals of [`pack`] comes 13 at 0: `file` is shorter than the
 /// program's blocks, 512 bytes for each 63 records or rest of them.
 ///
 /// Bytes of `file` past the program file are left as they are, all of them on
-/// a refusal; so are places of `answer` from 2 on. With fewer than 2 places
+/// a refusal; so are slots of `answer` from 2 on. With fewer than 2 slots
 /// in `answer` the number is 13, and both are left as they are.
 ///
 /// ```
@@ -123,21 +123,21 @@ pub fn pack_into(records: &[u8], file: &mut [u8], answer: &mut [u64]) -> u32 {
 
 /// The call behind [`unpack`], as the static library exports it: 0, with 0
 /// and the length of the records in `answer`, and the records at the start of
-/// `records`; or the refusal's number, with its place and 0 in `answer`.
+/// `records`; or the refusal's number, with its position and 0 in `answer`.
 ///
 /// After the refusals of [`unpack`] comes 13 at 0: `records` is shorter than
 /// the program's records, 8 bytes each.
 ///
 /// Bytes of `records` past the program's are left as they are, all of them on
-/// a refusal; so are places of `answer` from 2 on. With fewer than 2 places
+/// a refusal; so are slots of `answer` from 2 on. With fewer than 2 slots
 /// in `answer` the number is 13, and both are left as they are.
 ///
 /// ```
 /// let (mut records, mut answer) = ([9; 8], [9; 3]);
 /// assert_eq!(hogvax::unpack_into(&[0; 513], &mut records, &mut answer), 1);
 /// assert_eq!((records, answer), ([9; 8], [0, 0, 9]));
-/// let places = &mut answer[..1];
-/// assert_eq!(hogvax::unpack_into(&[0; 513], &mut records, places), 13);
+/// let slots = &mut answer[..1];
+/// assert_eq!(hogvax::unpack_into(&[0; 513], &mut records, slots), 13);
 /// assert_eq!((records, answer), ([9; 8], [0, 0, 9]));
 /// ```
 #[doc(hidden)]

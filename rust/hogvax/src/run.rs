@@ -9,7 +9,7 @@ use crate::{ffi, Ran, WorkSpace};
 /// 1 to 12, with 0 in every count. Else the run ends or is refused as
 /// [`perform`](crate::perform) says, but never with 19.
 ///
-/// On the tokens of a tree, whatever stands behind them, the run reads opening
+/// On the tokens of a tree, whatever comes after them, the run reads opening
 /// bytes of the tree and writes opening bytes of what the program means. Where
 /// the program's evaluation ends after n expressions with at most 1,024 calls
 /// open at once, and `output` has room for the result, every fuel from 4n + 1
@@ -32,7 +32,7 @@ use crate::{ffi, Ran, WorkSpace};
 /// ]
 /// .concat();
 /// let file = hogvax::pack(&records).unwrap();
-/// // Leaves 5 and 7 under a node, and a byte behind the tree.
+/// // Leaves 5 and 7 under a node, and a byte after the tree.
 /// let input = [2, 1, 5, 0, 0, 0, 1, 7, 0, 0, 0, 99];
 ///
 /// let ran = hogvax::run(&file, &input, u64::MAX, &mut []);
@@ -106,7 +106,7 @@ pub fn run_in(
 }
 
 /// The call behind [`run`], as the static library exports it: 0, or the
-/// refusal's number; with the refusal's place (0 if there is none), the units,
+/// refusal's number; with the refusal's position (0 if there is none), the units,
 /// the bytes read, the bytes written and the number, sign-extended to 64 bits,
 /// in `answer`.
 ///
@@ -119,7 +119,7 @@ pub fn run_in(
 /// `code` and stays there, whatever the run answers; the rest of `code` is left
 /// as it is. After a run `values` and `returns` are unspecified.
 ///
-/// Places of `answer` from 5 on are left as they are. With fewer than 5 places
+/// Slots of `answer` from 5 on are left as they are. With fewer than 5 slots
 /// the number is 13, and all lent slices are left as they are.
 ///
 /// ```

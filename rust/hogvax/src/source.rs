@@ -20,7 +20,7 @@ pub struct Sourced {
 }
 
 impl Sourced {
-    /// What a call told by a number, 0 or the refusal's, and in four places.
+    /// What a call reported by a number, 0 or the refusal's, and in four slots.
     fn told(number: u32, answer: [u64; 4]) -> Sourced {
         let [place, begun, written, word] = answer;
         Sourced {
@@ -64,8 +64,8 @@ impl fmt::Display for Sourced {
 ///   counted; whichever the evaluation meets first;
 /// - 17, the evaluation ended and `output` is shorter than the result.
 ///
-/// The place of 14, 17 and 18 is 0, and the expressions begun are counted. The
-/// other refusals have their own place, and 0 in every count. 13 does not
+/// The position of 14, 17 and 18 is 0, and the expressions begun are counted. The
+/// other refusals have their own position, and 0 in every count. 13 does not
 /// come, since the run has its own work space.
 ///
 /// A tree goes to the start of `output` as tokens, and the rest of `output` is
@@ -86,7 +86,7 @@ impl fmt::Display for Sourced {
 /// ]
 /// .concat();
 /// let file = hogvax::pack(&records).unwrap();
-/// // Leaves 5 and 7 under a node, and a byte behind the tree.
+/// // Leaves 5 and 7 under a node, and a byte after the tree.
 /// let input = [2, 1, 5, 0, 0, 0, 1, 7, 0, 0, 0, 99];
 ///
 /// let mut output = [9; 12];
@@ -151,7 +151,7 @@ pub fn source_in(
 }
 
 /// The call behind [`source`], as the static library exports it: 0, or the
-/// refusal's number; with the refusal's place (0 if there is none), the
+/// refusal's number; with the refusal's position (0 if there is none), the
 /// expressions begun, the bytes written and the number, sign-extended to 64
 /// bits, in `answer`.
 ///
@@ -161,7 +161,7 @@ pub fn source_in(
 /// or 20, the call leaves these two as they are; after a run they are
 /// unspecified.
 ///
-/// Places of `answer` from 4 on are left as they are. With fewer than 4 places
+/// Slots of `answer` from 4 on are left as they are. With fewer than 4 slots
 /// the number is 13, and all lent slices are left as they are.
 ///
 /// ```

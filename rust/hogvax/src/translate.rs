@@ -33,13 +33,13 @@ pub fn translate(file: &[u8]) -> Result<Vec<u8>, Refused> {
 
 /// The call behind [`translate`], as the static library exports it: 0, with 0
 /// and the length of the code in `answer`, and the code at the start of
-/// `code`; or the refusal's number, with its place and 0 in `answer`.
+/// `code`; or the refusal's number, with its position and 0 in `answer`.
 ///
 /// After the refusals of [`translate`] comes 13 at 0: `code` is shorter than
 /// this program's code.
 ///
 /// Bytes of `code` past the program's are left as they are, all of them on a
-/// refusal; so are places of `answer` from 2 on. With fewer than 2 places in
+/// refusal; so are slots of `answer` from 2 on. With fewer than 2 slots in
 /// `answer` the number is 13, and both are left as they are.
 ///
 /// ```

@@ -26,9 +26,9 @@ pub fn tree(input: &[u8]) -> Result<usize, Refused> {
 }
 
 /// The call behind [`tree`], as the static library exports it: 0, with 0 and
-/// the tree's length in `answer`; or the refusal's number, with its place and
-/// 0 in `answer`. Places of `answer` from 2 on are left as they are. With
-/// fewer than 2 places the number is 13 and `answer` is left as it is.
+/// the tree's length in `answer`; or the refusal's number, with its position and
+/// 0 in `answer`. Slots of `answer` from 2 on are left as they are. With
+/// fewer than 2 slots the number is 13 and `answer` is left as it is.
 #[doc(hidden)]
 pub fn tree_into(input: &[u8], answer: &mut [u64]) -> u32 {
     ffi::tree(input, answer)

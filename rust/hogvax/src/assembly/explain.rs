@@ -34,7 +34,7 @@ pub struct Detail {
 }
 
 /// Why [`pack`](crate::pack) or [`check_records`](crate::check_records)
-/// refuses these records. Number and place are theirs; this says in words what
+/// refuses these records. Number and position are theirs; this says in words what
 /// stands there. Where they are not those of these records, or none of 4 to
 /// 12, it is a general sentence.
 ///
@@ -80,7 +80,7 @@ fn search(records: &[u8]) -> Result<(), Found> {
     pass_two::check(&program)
 }
 
-/// A refusal's number and what is said of it. Its place is the record.
+/// A refusal's number and what is said of it. Its position is the record.
 struct Found {
     number: u32,
     explanation: Explanation,

@@ -87,7 +87,7 @@ fn whole(lines: &[Line], index: usize) -> Option<(usize, usize)> {
 }
 
 /// A part begins further right than its whole, in the column of the first
-/// part, which is the next line behind the whole. What is left over behind an
+/// part, which is the next line after the whole. What is left over after an
 /// expression begins in the expression's column.
 fn is_misplaced(lines: &[Line], index: usize) -> Option<bool> {
     let column = |index: usize| lines.get(index).map(|line| line.place.column);

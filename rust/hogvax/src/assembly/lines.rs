@@ -19,7 +19,7 @@ pub struct Word<'a> {
 }
 
 impl Word<'_> {
-    /// The place behind the word.
+    /// The place after the word.
     pub fn end(&self) -> Place {
         let Place { line, column } = self.place;
         let column = column + self.text.chars().count();

@@ -1,7 +1,7 @@
 //! Programs as text: one record a line, as document 01 writes them.
 //!
-//! A text has a line for each function, behind it one for each of its records,
-//! and behind each record its parts:
+//! A text has a line for each function, after it one for each of its records,
+//! and after each record its parts:
 //!
 //! ```text
 //! # Adds 1 to every label.

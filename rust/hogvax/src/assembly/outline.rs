@@ -24,7 +24,7 @@ pub struct Node {
     pub number: usize,
     pub record: Record,
     /// The record that it is a part of, and which part, from 0. `None` for a
-    /// function's whole expression, and for records left over behind it.
+    /// function's whole expression, and for records left over after it.
     pub whole: Option<(usize, usize)>,
     /// How many records it is inside of.
     pub depth: usize,

@@ -14,7 +14,7 @@ pub fn begins_a_function(name: &Word) -> bool {
 }
 
 /// The record of the function whose turn it is, as yet without nodes. The line
-/// has these words behind `name`.
+/// has these words after `name`.
 pub fn function(name: &Word, words: &[Word], turn: usize) -> Result<Record, Fault> {
     if name.text != FUNCTION {
         return Err(unknown(name));
@@ -47,7 +47,7 @@ pub fn function(name: &Word, words: &[Word], turn: usize) -> Result<Record, Faul
     })
 }
 
-/// The node record of a line that has these words behind `name`.
+/// The node record of a line that has these words after `name`.
 pub fn node(name: &Word, words: &[Word]) -> Result<Record, Fault> {
     let mut kinds = (0..).zip(&KINDS);
     let Some((index, kind)) = kinds.find(|(_, kind)| kind.name == name.text) else {
@@ -91,7 +91,7 @@ fn form(kind: &Kind) -> String {
 }
 
 /// That no line begins with this word. A word that differs by its capitals
-/// alone is told.
+/// alone is reported.
 fn unknown(name: &Word) -> Fault {
     let known = KINDS.iter().map(|kind| kind.name).chain([FUNCTION]);
     let mut near = known.filter(|known| known.eq_ignore_ascii_case(name.text));

@@ -134,12 +134,12 @@ impl<'a> Line<'a> {
 
 /// The records read so far, each with its place.
 struct Reader {
-    /// The number of the first node's record: it stands behind the functions
+    /// The number of the first node's record: it comes after the functions
     /// of the whole text.
     first_node: usize,
     functions: Vec<(Record, Place)>,
     nodes: Vec<(Record, Place)>,
-    /// The first line with a wrong number. It is told after all else, because
+    /// The first line with a wrong number. It is reported after all else, because
     /// a line that can't be read may be why later ones are counted wrongly.
     misnumbered: Option<Fault>,
 }

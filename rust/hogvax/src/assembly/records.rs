@@ -43,7 +43,7 @@ pub struct Kind {
     pub parts: &'static [&'static str],
 }
 
-/// What stands behind the name of a kind.
+/// What follows the name of a kind.
 #[derive(Clone, Copy, Debug, PartialEq, Eq)]
 pub enum Operands {
     Nothing,

@@ -1,4 +1,4 @@
-//! The words of a line behind its first one, read one after another.
+//! The words of a line after its first one, read one after another.
 
 use std::fmt::Display;
 use std::ops::RangeInclusive;
@@ -10,7 +10,7 @@ use crate::{Fault, Place};
 /// The words of a line that are still to be read.
 pub struct Rest<'a> {
     words: &'a [Word<'a>],
-    /// The place behind the last word that was read.
+    /// The place after the last word that was read.
     end: Place,
     /// What such a line has, for messages.
     form: String,

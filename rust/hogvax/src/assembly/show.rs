@@ -9,7 +9,7 @@ use crate::{unpack, Refused};
 /// Whether each line of a text begins with its record's number.
 #[derive(Clone, Copy, Debug, PartialEq, Eq)]
 pub enum Numbers {
-    /// Each line does, and a comment before them tells the header.
+    /// Each line does, and a comment before them shows the header.
     Shown,
     /// None does, so that lines may be added and taken out.
     Bare,
@@ -136,7 +136,7 @@ fn comment_column(lines: &[Line], starts: &[String]) -> usize {
         .unwrap_or(0)
 }
 
-/// The comment that tells the header, which has no line.
+/// The comment that shows the header, which has no line.
 fn heading(outline: &Outline) -> String {
     let functions = outline.functions.len();
     let nodes = outline

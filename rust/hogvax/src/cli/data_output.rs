@@ -25,13 +25,13 @@ pub fn hand_out(data: &[u8], out: &OsStr, line: &str) -> Outcome {
     Ok(Ended::Done)
 }
 
-/// Tells a refusal. No data goes out, and no file is made or changed.
+/// Reports a refusal. No data goes out, and no file is made or changed.
 pub fn refuse(line: &str) -> Outcome {
     output::tell(line)?;
     Ok(Ended::Refused)
 }
 
-/// Writes the data that came before a refusal, then tells it.
+/// Writes the data that came before a refusal, then reports it.
 pub fn refuse_after(data: &[u8], out: &OsStr, line: &str) -> Outcome {
     output::write(out, data)?;
     refuse(line)
@@ -41,7 +41,7 @@ pub fn refuse_after(data: &[u8], out: &OsStr, line: &str) -> Outcome {
 pub struct Conversion {
     pub convert: fn(&[u8]) -> Result<Vec<u8>, Refused>,
     /// Every input longer than this has the same refusal, whatever it holds.
-    /// So one byte more tells all, and the rest is not read.
+    /// So one byte more is enough, and the rest is not read.
     pub longest_input: usize,
     /// What the answer line calls the data.
     pub name: &'static str,

@@ -12,7 +12,7 @@ use crate::output;
 /// What a verb is given as its program.
 pub enum Given {
     Program(Program),
-    /// A text that can't be read; the line that tells it.
+    /// A text that can't be read; the line that reports it.
     Unread(String),
 }
 
@@ -31,7 +31,7 @@ struct NamedText {
     text: Text,
 }
 
-/// The program in a file. So many bytes of a program file decide; those behind
+/// The program in a file. So many bytes of a program file decide; those after them
 /// need not be read. A text may be longer.
 pub fn load(file: &OsStr, longest: usize) -> Result<Given, Trouble> {
     let bytes = read(file, longest)?;
@@ -84,7 +84,7 @@ impl Program {
         }
     }
 
-    /// Tells on standard error what there is to say of a text after the verb's
+    /// Reports on standard error what there is to say of a text after the verb's
     /// answer: why the program is refused, if it is, and a line that does not
     /// stand where its indentation says.
     pub fn tell_of_text(&self, refused: Option<Refused>) -> Result<(), Trouble> {
@@ -154,7 +154,7 @@ mod tests {
         Detail { record, text }
     }
 
-    /// A line is told where there is one: the header has none.
+    /// A line is named where there is one: the header has none.
     #[test]
     fn details_have_the_lines_of_their_records() {
         let text = assembly::read(b"\n\nfunction 0 takes tree 0 gives number\n  Const 5").unwrap();

@@ -30,7 +30,7 @@ fn main() -> ExitCode {
         Ok(Ended::Done) => ExitCode::SUCCESS,
         Ok(Ended::Refused) => ExitCode::from(1),
         Err(Trouble(message)) => {
-            // If standard error can't be written, the status still tells.
+            // If standard error can't be written, the status still says so.
             let _ = writeln!(io::stderr(), "hogvax: {message}");
             ExitCode::from(2)
         }

@@ -8,7 +8,7 @@ use crate::exit_status::{Ended, Outcome};
 use crate::given_program::{self, Given};
 use crate::output;
 
-/// Prints a verb's answer, or the line that tells its refusal.
+/// Prints a verb's answer, or the line that reports its refusal.
 pub fn print(answer: Result<String, Refused>) -> Outcome {
     match answer {
         Ok(text) => {
@@ -25,7 +25,7 @@ fn refuse(line: &str) -> Outcome {
 }
 
 /// Prints what a verb answers of the program file or text in this file. A
-/// longer program file than the longest is 1 at 0, so one byte more tells all.
+/// longer program file than the longest is 1 at 0, so one byte more is enough.
 pub fn print_of_program(
     file: &OsStr,
     answer: impl FnOnce(&[u8]) -> Result<String, Refused>,

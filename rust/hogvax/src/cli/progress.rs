@@ -1,4 +1,4 @@
-//! What a long call is at, told on standard error where that is a terminal.
+//! What a long call is at, reported on standard error where that is a terminal.
 
 use std::io::{self, IsTerminal, Write};
 use std::sync::atomic::{AtomicUsize, Ordering};
@@ -7,7 +7,7 @@ use std::sync::Arc;
 use std::thread::{self, JoinHandle};
 use std::time::{Duration, Instant};
 
-/// How long a stage takes before it is told, and how often it then is.
+/// How long a stage takes before it is reported, and how often it then is.
 const STEP: Duration = Duration::from_secs(1);
 
 /// A stage of the work. While it lives a line on standard error says what is
@@ -18,14 +18,14 @@ pub struct Progress {
     teller: Option<Teller>,
 }
 
-/// A thread that tells, and the channel that ends it when it is dropped.
+/// A thread that reports, and the channel that ends it when it is dropped.
 struct Teller {
     end: Sender<()>,
     thread: JoinHandle<()>,
 }
 
 impl Progress {
-    /// Begins a stage. Where standard error is no terminal, nothing is told.
+    /// Begins a stage. Where standard error is no terminal, nothing is reported.
     pub fn of(stage: &str) -> Progress {
         let bytes = Arc::new(AtomicUsize::new(0));
         let terminal = io::stderr().is_terminal();
@@ -43,7 +43,7 @@ impl Drop for Progress {
     fn drop(&mut self) {
         if let Some(Teller { end, thread }) = self.teller.take() {
             drop(end);
-            // The line is wiped before anything else is told.
+            // The line is wiped before anything else is reported.
             let _ = thread.join();
         }
     }
@@ -57,7 +57,7 @@ impl Teller {
     }
 }
 
-/// Tells a stage at each step until it has ended. A terminal that can't be
+/// Reports a stage at each step until it has ended. A terminal that can't be
 /// written is no reason to end the work.
 fn tell(stage: &str, bytes: &AtomicUsize, ended: &Receiver<()>, terminal: &mut dyn Write) {
     let began = Instant::now();
@@ -72,7 +72,7 @@ fn tell(stage: &str, bytes: &AtomicUsize, ended: &Receiver<()>, terminal: &mut d
     }
 }
 
-/// What is told of a stage after so many bytes and so much time.
+/// What is reported of a stage after so many bytes and so much time.
 fn line(stage: &str, bytes: usize, time: Duration) -> String {
     let seconds = time.as_secs();
     match bytes {

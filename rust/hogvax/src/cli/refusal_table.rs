@@ -5,9 +5,9 @@ pub struct Refusal {
     pub number: u32,
     pub name: &'static str,
     pub meaning: &'static str,
-    /// What the place counts.
+    /// What the position counts.
     pub place: &'static str,
-    /// An input that is refused so, and the line that tells it. Where a line
+    /// An input that is refused so, and the line that reports it. Where a line
     /// with a command stands before it, that command prints it.
     pub example: &'static str,
 }

@@ -31,7 +31,7 @@ const OPTIONS: [(&str, Takes); 4] = [
 ];
 
 /// So many bytes of the input are read at first: it may be endless, and what
-/// stands behind a tree is not looked at. Where a run needs more, it is made
+/// comes after a tree is not looked at. Where a run needs more, it is made
 /// again over twice as many.
 const FIRST_INPUT: usize = 1 << 28;
 
@@ -47,7 +47,7 @@ type Load = fn(&OsStr, usize) -> Result<Given, Trouble>;
 pub struct RunVerb<A> {
     /// How its first file is called.
     pub name: &'static str,
-    /// So many bytes of the first file decide; those behind need not be read.
+    /// So many bytes of the first file decide; those after them need not be read.
     pub longest: usize,
     /// The fuel, where this one or none is given.
     pub fuel: fn(Option<u64>) -> Result<u64, Trouble>,

@@ -25,7 +25,7 @@ pub fn is_too_short(refused: &Refused) -> bool {
     refused.number == INPUT_ENDED
 }
 
-/// Tells on standard error that an input looks like Newick text, if it was
+/// Reports on standard error that an input looks like Newick text, if it was
 /// refused at its first byte and does: that is how people have their trees.
 pub fn tell_of_newick(input: &Opening, refused: Option<Refused>) -> Result<(), Trouble> {
     let first = Refused {
@@ -42,7 +42,7 @@ pub fn tell_of_newick(input: &Opening, refused: Option<Refused>) -> Result<(), T
     ))
 }
 
-/// What the tree reader says of the bytes from this place on.
+/// What the tree reader says of the bytes from this offset on.
 fn read_tree(opening: &mut Opening, start: usize) -> Result<Result<usize, Refused>, Trouble> {
     let needs_more = |answer: &Result<usize, Refused>| answer.as_ref().is_err_and(is_too_short);
     opening.answer(needs_more, |bytes| Ok(hogvax::tree(&bytes[start..])))
@@ -50,11 +50,11 @@ fn read_tree(opening: &mut Opening, start: usize) -> Result<Result<usize, Refuse
 
 /// What follows the trees that are read.
 enum Next {
-    /// A tree, and its place in the file.
+    /// A tree, and its offsets in the file.
     Tree(Range<usize>),
     /// The end of the file.
     End,
-    /// No tree. The refusal's place is counted from the start of the file.
+    /// No tree. The refusal's position is counted from the start of the file.
     Refused(Refused),
 }
 
@@ -66,7 +66,7 @@ pub struct Trees {
 }
 
 /// The bytes of trees, or the refusal of the first one that is refused, its
-/// place counted from the start of the file.
+/// position counted from the start of the file.
 type Answer<'a> = Result<Result<&'a [u8], Refused>, Trouble>;
 
 impl Trees {
@@ -80,7 +80,7 @@ impl Trees {
         read_tree(&mut self.opening, 0)
     }
 
-    /// Prints a verb's answer, or the line that tells its refusal.
+    /// Prints a verb's answer, or the line that reports its refusal.
     pub fn print(&self, answer: Result<String, Refused>) -> Outcome {
         let refused = answer.as_ref().err().copied();
         let ended = printed_answer::print(answer)?;

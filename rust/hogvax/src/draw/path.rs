@@ -12,7 +12,7 @@ pub struct Node {
 }
 
 /// The nodes above the tip that is drawn, the root first: each at its level,
-/// counted from 0. The tip has the level behind them.
+/// counted from 0. The tip has the level after them.
 #[derive(Default)]
 pub struct Path {
     pub nodes: Vec<Node>,

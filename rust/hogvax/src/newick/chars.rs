@@ -10,7 +10,7 @@ pub struct Chars<I> {
     bytes: I,
     /// The next character; `None` at the end of the text.
     pub next: Option<char>,
-    /// Where that character stands; at the end, behind the last one.
+    /// Where that character stands; at the end, after the last one.
     pub place: Place,
 }
 
@@ -30,7 +30,7 @@ impl<I: Iterator<Item = u8>> Chars<I> {
         Ok(chars)
     }
 
-    /// Goes on to the character behind the next one.
+    /// Goes on to the character after the next one.
     pub fn advance(&mut self) -> Result<(), Fault> {
         match self.next {
             None => return Ok(()),

@@ -7,7 +7,7 @@ use crate::{tree, Refused};
 
 /// The Newick text of trees that stand back to back, one tree a line; no text
 /// if there is no tree. Or the first tree's refusal, as [`tree`](crate::tree)
-/// gives it, its place counted from the start of `tokens`.
+/// gives it, its position counted from the start of `tokens`.
 ///
 /// ```
 /// let tokens = [2, 1, 5, 0, 0, 0, 1, 255, 255, 255, 255, 1, 7, 0, 0, 0];

@@ -43,7 +43,7 @@ pub fn read(text: &[u8]) -> Result<Trees, Fault> {
 }
 
 /// As [`read`], from bytes that come one by one. No more are taken than it
-/// needs to tell a fault, so a text without end may be refused.
+/// needs to report a fault, so a text without end may be refused.
 pub fn read_bytes(bytes: impl Iterator<Item = u8>) -> Result<Trees, Fault> {
     let mut reader = Reader {
         chars: Chars::new(bytes)?,

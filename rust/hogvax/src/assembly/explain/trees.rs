@@ -48,7 +48,7 @@ impl Trees {
     }
 
     /// Behind two branches that began with these trees and leave the same
-    /// pending. The names that a branch binds mean nothing behind it.
+    /// pending. The names that a branch binds mean nothing after it.
     pub fn behind_both(&self, node: &Node, one: Trees, two: Trees) -> Trees {
         let by_two = two.taken.into_iter().skip(self.taken.len());
         let mut both = one;

@@ -41,7 +41,7 @@ Example:
     run,
 };
 
-/// What stands behind the longest code is never performed.
+/// What comes after the longest code is never performed.
 const PERFORM: RunVerb<Ran> = RunVerb {
     name: "CODE",
     longest: hogvax::LONGEST_CODE,

@@ -51,7 +51,7 @@ Example:
     run,
 };
 
-/// A longer file than the longest is 1 at 0, so one byte more tells all.
+/// A longer file than the longest is 1 at 0, so one byte more is enough.
 const RUN: RunVerb<Ran> = RunVerb {
     name: "PROGRAM",
     longest: hogvax::LONGEST_FILE + 1,

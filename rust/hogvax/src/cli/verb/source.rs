@@ -53,7 +53,7 @@ Example:
 /// The fuel, where none is given.
 const FUEL: u64 = 1_000_000_000;
 
-/// A longer file than the longest is 1 at 0, so one byte more tells all.
+/// A longer file than the longest is 1 at 0, so one byte more is enough.
 const SOURCE: RunVerb<Sourced> = RunVerb {
     name: "PROGRAM",
     longest: hogvax::LONGEST_FILE + 1,

@@ -1,6 +1,6 @@
 /* Hogvax: small tree programs over token streams. The calls of libhogvax_c.a.
  *
- * docs/CALLING.md shows C programs that use them. Document 01 and docs/ say what
+ * docs/CALLING.md shows C programs that use them. docs/REFERENCE.md says what
  * trees, programs, code and refusals are.
  *
  * What is proved: every function of the library meets its contract, which is in
@@ -117,8 +117,8 @@ extern "C" {
 
 /* ---- Refusals */
 
-/* Document 01's numbers. Where several apply, the call reports the first in the
- * order that its comment gives. */
+/* The numbers of docs/REFERENCE.md. Where several apply, the call reports the
+ * first in the order that its comment gives. */
 enum hogvax_refusal {
     /* The program file. For 2 and 3 the place is the block, counted from 0; for
      * 5 to 7 it is the record, counted from 0, which is the header. */

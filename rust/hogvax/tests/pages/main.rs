@@ -5,6 +5,7 @@
 #![cfg(unix)]
 
 mod calling;
+mod citations;
 mod columns;
 #[path = "../shared/compiler.rs"]
 mod compiler;
@@ -19,6 +20,7 @@ mod page;
 mod pending;
 mod promises;
 mod readme;
+mod reference;
 mod relying;
 mod stack;
 mod tables;

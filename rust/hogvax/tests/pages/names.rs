@@ -75,7 +75,7 @@ pub fn declarations(text: &str) -> impl Iterator<Item = &str> {
     text.lines().filter_map(declared)
 }
 
-fn declares(text: &str, name: &str) -> bool {
+pub fn declares(text: &str, name: &str) -> bool {
     declarations(text).any(|declared| declared == name)
 }
 

@@ -9,7 +9,7 @@ use lib.ListN.{length, getD, take, length-append}
 use Rattle.formats.specs.Numbers.{Bytes, numberAt}
 use Rattle.formats.specs.Results.{done, each}
 use Rattle.formats.specs.Records.{recordAt}
-use Rattle.formats.specs.Programs.{size, Signature, arityOf, total, Function, signatureOf, Program, signatures}
+use Rattle.formats.specs.Programs.{size, Signature, arityOf, total, Function, signatureOf, Program, signatures, mostRecords}
 use Rattle.formats.specs.Rows.{headerIn, functionIn, readProgram}
 use Rattle.formats.specs.Written.{written}
 use Rattle.formats.proofs.Results.{Value, passed-is, each-inv, each-none, each-front}
@@ -17,8 +17,9 @@ use Rattle.formats.proofs.Rows.{function-read, flattens}
 use Rattle.formats.proofs.Written.{written-append, written-none, wrote}
 use Rattle.functions.specs.Counts.{countsFrom}
 use Rattle.meaning.specs.OpenCalls.{firstRecord}
-use Rattle.rules.proofs.Parts.{Known, Holds, Bodies, no-more, one-more}
-use Rattle.rules.proofs.Walks.{program-held, signature-of}
+use Rattle.walks.specs.Standing.{Known, Holds, Bodies, no-more, one-more}
+use Rattle.walks.specs.Walks.{Inside}
+use Rattle.walks.proofs.Walks.{program-held, signature-of}
 use Rattle.stepwise.specs.Rows.{rowWords, bodyPlace, rowsOf, rowsOfAll, tabled}
 use Rattle.stepwise.proofs.Rows.{length-rows, length-rows-all}
 use Rattle.part_places.specs.declared.Place.{Place}
@@ -76,12 +77,11 @@ pub record Left (s : List ℕ) (functions end : ℕ) (table₀ table : List ℕ)
 -- The same of every program that the records are, with the lengths of the table and of the stack.
 pub record Filling (s : List ℕ) (functions end : ℕ) (table₀ cases₀ table cases : List ℕ) (k j : ℕ) : Type 0 where
   pub some-program : Value (readProgram s)
-  pub within : k ≤ end
-  pub few : end ≤ 1057
+  pub inside : Inside k end
   pub table-long : length table ≡ length table₀
   pub cases-long : length cases ≡ length cases₀
   pub room : tableWords ≤ length table₀
-  pub stack : 1057 ≤ length cases₀
+  pub stack : mostRecords ≤ length cases₀
   pub left : (program : Program) → readProgram s ≡ done program → Left s functions end table₀ table k j program
 
 -- at first all of them
@@ -94,8 +94,7 @@ fill-first s table cases functions nodes end bytes ready ef en el =
     let few = flattens s (v .value) bytes (v .is) .lawful .few-functions in
     record {
       some-program = v;
-      within = omega arith;
-      few = omega (arith, own .functions, own .few-nodes, few);
+      inside = record { before-end = omega arith; few = omega (arith, own .functions, own .few-nodes, few) };
       table-long = refl;
       cases-long = refl;
       room = ready .room;
@@ -132,14 +131,13 @@ module _ (s : List ℕ) (functions end : ℕ) (table₀ cases₀ table cases : L
     fill-asked =
         let few = starts .few in
         record {
-          before-end = l .within;
-          few = omega (arith, l .few);
+          inside = l .inside;
           role = rw (starts .is) (omega arith);
           parent = rw (starts .is) (omega arith);
           slot = rw (starts .is) (omega arith);
-          names = omega (arith, l .few);
-          keeps = rw (starts .is) (omega (arith, l .few));
-          depth = rw (starts .is) (omega (arith, l .few));
+          names = omega (arith, l .inside .few);
+          keeps = rw (starts .is) (omega (arith, l .inside .few));
+          depth = rw (starts .is) (omega (arith, l .inside .few));
         }
 
     -- function j, and those after it
@@ -180,13 +178,10 @@ module _ (s : List ℕ) (functions end : ℕ) (table₀ cases₀ table cases : L
         let t = turn program e in
         let flat-depth : p .depth ≡ 0 = ap (λ (q : Place). q .depth) (starts .is) in
         record {
-          signed = signatures program;
-          known = l .left program e .known;
-          holds = t .holds;
-          fits = omega (arith, t .ends);
+          here = record { signed = signatures program; known = l .left program e .known; holds = t .holds; fits = omega (arith, t .ends) };
           agrees = l .left program e .agrees;
-          room = omega (arith, l .few, l .room, l .table-long);
-          stacked = record { room = omega (arith, l .few, l .stack, l .cases-long); low = λ n below. absurd (omega arith) };
+          room = omega (arith, l .inside .few, l .room, l .table-long);
+          stacked = record { room = omega (arith, l .inside .few, l .stack, l .cases-long); low = λ n below. absurd (omega arith) };
         }
 
     -- its place is the one wanted
@@ -225,7 +220,7 @@ module _ (s : List ℕ) (functions end : ℕ) (table₀ cases₀ table cases : L
           g .rows ∙ ap (λ q. written table place (rowsOf entry arity q k body)) (body-place program (t .here) (t .signed)) in
           let behind-own : place + length own ≡ rowWords * next = omega (arith, g .behind) in
           let room : place + length (own ++ others) ≤ length table =
-          omega (arith, length-append own others, length-rows-all entry arity (k + size body) (t .others), t .ends, l .few, l .room, l .table-long) in
+          omega (arith, length-append own others, length-rows-all entry arity (k + size body) (t .others), t .ends, l .inside .few, l .room, l .table-long) in
           record {
             others = t .others;
             known = l .left program e .known;
@@ -243,8 +238,7 @@ module _ (s : List ℕ) (functions end : ℕ) (table₀ cases₀ table cases : L
       pub fill-more : Filling s functions end table₀ cases₀ table′ cases′ next (j + 1)
       fill-more = record {
         some-program = l .some-program;
-        within = fills .went .inside;
-        few = l .few;
+        inside = record { before-end = fills .went .inside; few = l .inside .few };
         table-long = same-table ∙ l .table-long;
         cases-long = let v = l .some-program in filled (v .value) (v .is) .stack .long ∙ l .cases-long;
         room = l .room;

@@ -8,6 +8,7 @@ use lib.Dec.{leb}
 use lib.ListN.{length}
 use Rattle.formats.specs.Refusals.{spaceTooShort}
 use Rattle.formats.specs.Results.{Result, done, refusal, verdict, check, andThen}
+use Rattle.formats.specs.Programs.{mostRecords}
 use Rattle.formats.specs.Rows.{readProgram}
 use Rattle.formats.proofs.Results.{Followed, byResult, then-done, then-refused, then-inv}
 use Rattle.refusal.specs.Number.{number}
@@ -52,7 +53,7 @@ module _ (s table : List ℕ) where
       pub decode-short : length table < tableWords → Decodes s table table (Refused SpaceTooShort 0)
       decode-short short = refused SpaceTooShort 0 (into ∙ simp (lt-leb _ _ short))
 
-      pub decode-ready : (cases : List ℕ) → length cases ≡ 1057 → tableWords ≤ length table → Ready s table cases
+      pub decode-ready : (cases : List ℕ) → length cases ≡ mostRecords → tableWords ≤ length table → Ready s table cases
       decode-ready cases long room = record { is-read = ap verdict (the-program .first); room = room; stack = omega arith }
 
       pub decode-done : (after : List ℕ) → tableWords ≤ length table → FillsAll s table after → Decodes s table after Passed

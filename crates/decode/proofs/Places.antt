@@ -12,10 +12,12 @@ use lib.ListN.{length, getD, set, take, length-set}
 use lib.Seq.{getD-set-same, getD-set-other, getD-take, take-set-le, take-suc-set, take-take}
 use Rattle.formats.specs.Records.{Kind, Part, aNumber, aTree, asWhole, underNumber, underTrees, partsOf, partCount, nth, nthPart}
 use Rattle.formats.specs.Records.{Const as aConst, Var as aVar, Add as anAdd, IfZero as anIfZero, Let as aLet, Leaf as aLeaf, Node as aNode, Case as aCase, Call as aCall}
+use Rattle.formats.specs.Programs.{mostRecords}
 use Rattle.formats.specs.Rows.{arityIn}
 use Rattle.records.specs.Read.{meant, partOf}
 use Rattle.records.specs.declared.Part.{Part as RecordPart}
 use Rattle.records.specs.declared.Record.{Record}
+use Rattle.walks.specs.Limits.{mostCount}
 use Rattle.stepwise.specs.Rows.{roleOf, slotOf, namesIn, keepsIn, casesIn, partPlace}
 use Rattle.part_places.specs.declared.Place.{Place}
 use Rattle.part_places.specs.Parts.{placeWith, capped, namesInside, keepsInside, depthInside, partIn, noted}
@@ -25,10 +27,10 @@ use Rattle.decode.specs.Walk.{namesUnder, deeper, insidePlace, Grows, St
 -- ---- `inside`, where counts are small
 
 -- one more is below the cap
-one-more : (n : ℕ) → n < 4000 → capped (n + 1) ≡ suc n
+one-more : (n : ℕ) → n < mostCount → capped (n + 1) ≡ suc n
 one-more n low = cap-low (n + 1) (omega arith) ∙ add-one n
 
-names-plain : (part : Part) (n : ℕ) → n < 4000 → namesInside part n ≡ namesUnder part n
+names-plain : (part : Part) (n : ℕ) → n < mostCount → namesInside part n ≡ namesUnder part n
 unfolding namesInside namesUnder
 names-plain aNumber n low = refl
 names-plain aTree n low = refl
@@ -36,7 +38,7 @@ names-plain asWhole n low = refl
 names-plain underNumber n low = one-more n low
 names-plain underTrees n low = refl
 
-depth-plain : (part : Part) (n : ℕ) → n < 4000 → depthInside part n ≡ deeper part n
+depth-plain : (part : Part) (n : ℕ) → n < mostCount → depthInside part n ≡ deeper part n
 unfolding depthInside deeper
 depth-plain aNumber n low = refl
 depth-plain aTree n low = refl
@@ -45,7 +47,7 @@ depth-plain underNumber n low = refl
 depth-plain underTrees n low = one-more n low
 
 module _ (part : Part) (r count : ℕ) where
-  keeps-plain : (kind : Kind) (i : ℕ) (p : Place) → p .keeps + i < 4000 → keepsInside kind i (p .keeps) ≡ insidePlace part kind r i count p .keeps
+  keeps-plain : (kind : Kind) (i : ℕ) (p : Place) → p .keeps + i < mostCount → keepsInside kind i (p .keeps) ≡ insidePlace part kind r i count p .keeps
   unfolding insidePlace keepsInside keepsIn
   keeps-plain (aConst c) i p low = refl
   keeps-plain (aVar a) i p low = refl
@@ -69,7 +71,7 @@ module _ (part : Part) (r count : ℕ) where
 -- ---- `start`
 
 pub started : (s : List ℕ) (j m : ℕ) (p : Place) → m ≡ arityIn s j → m < 256 → p ≡ placed 0 0 0 m 0 0 → Starts s j p
-started s j m p em small e = record { is = e ∙ ap (λ n. placed 0 0 0 n 0 0) em; few = rw e small }
+started s j m p em small e = record { is = e ∙ ap (λ n. placed 0 0 0 n 0 0) em; few = rw e (omega arith) }
 
 -- ---- what holds of a part's place
 
@@ -138,8 +140,7 @@ module _ (part : RecordPart) (node : Record) (r i count k end : ℕ) (p q : Plac
   few-part =
       let n : Near r i p q = rw (is, inside-plain (partOf part) r count (meant node) i p (grows r i k end p small)) (near (partOf part) (meant node) r i count p) in
       record {
-        before-end = small .before-end;
-        few = small .few;
+        inside = small .inside;
         role = n .role;
         parent = omega (arith, n .parent, small .parent);
         slot = omega (arith, n .slot, small .names);
@@ -149,7 +150,7 @@ module _ (part : RecordPart) (node : Record) (r i count k end : ℕ) (p q : Plac
       }
 
 -- it is the place wanted, on the stack as it is noted: what a part names by its kind is what it names by itself
-pub place-inside : (entry arity : ℕ → ℕ) (kind : Kind) (r i count : ℕ) (p : Place) (cases : List ℕ) → Counted arity kind count → i < count → r ≤ 2000 → p .depth < length cases
+pub place-inside : (entry arity : ℕ → ℕ) (kind : Kind) (r i count : ℕ) (p : Place) (cases : List ℕ) → Counted arity kind count → i < count → r ≤ mostRecords → p .depth < length cases
     → placeWith (insidePlace (nthPart (partsOf kind) i) kind r i count p) (noted (nthPart (partsOf kind) i) r (p .depth) cases) ≡ partPlace entry arity (placeWith p cases) kind r i
 unfolding insidePlace namesUnder noted roleOf slotOf namesIn keepsIn casesIn deeper partsOf partCount nthPart nth
 place-inside entry arity (aConst c) r i count p cases counted more low room = absurd (omega (arith, counted .is))
@@ -205,7 +206,7 @@ module _ (cases cases′ : List ℕ) (depth : ℕ) (same : Same cases cases′ d
 
 -- a record put on top
 module _ (cases : List ℕ) (depth r : ℕ) where
-  top-stacked : (more : ℕ) → Stacked cases depth (suc more) → r ≤ 2000 → Stacked (set cases depth (r % 65536)) (suc depth) more
+  top-stacked : (more : ℕ) → Stacked cases depth (suc more) → r ≤ mostRecords → Stacked (set cases depth (r % 65536)) (suc depth) more
   top-stacked more h few =
       let room = h .room in
       record {
@@ -231,7 +232,7 @@ module _ (cases : List ℕ) (depth r : ℕ) where
   }
 
 -- the stack as it is noted has records up to the part's depth
-pub stacked-inside : (part : Part) (r depth : ℕ) (cases : List ℕ) (more : ℕ) → Stacked cases depth (suc more) → r ≤ 2000
+pub stacked-inside : (part : Part) (r depth : ℕ) (cases : List ℕ) (more : ℕ) → Stacked cases depth (suc more) → r ≤ mostRecords
     → Stacked (noted part r depth cases) (deeper part depth) more
 unfolding noted deeper
 stacked-inside aNumber r depth cases more h few = one-less cases depth more h

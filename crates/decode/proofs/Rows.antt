@@ -7,7 +7,7 @@ use native.Mathlib.Omega.{arith}
 use lib.ListN.{length, length-append}
 use Rattle.formats.specs.Records.{Kind, Const, Var, Add, IfZero, Let, Leaf, Node, Case, Call}
 use Rattle.formats.specs.Programs.{Expr, const, var, add, ifZero, letIn, leafOf, nodeOf, caseOf, call, Args, noArgs, arg, size, Placed, behind, argsAt, partsAt, Signature}
-use Rattle.rules.proofs.Parts.{headOf, Row, end, next}
+use Rattle.walks.specs.Standing.{headOf, Row, end, next}
 use Rattle.stepwise.specs.Rows.{Place, rowWords, partPlace, rowOf, rowsOf, rowsOfArgs}
 use Rattle.stepwise.proofs.Rows.{size-const, size-var, size-add, size-ifZero, size-let, size-leaf, size-node, size-case, size-call, behind-args, length-rows}
 use Rattle.decode.specs.Walk.{rowsOfParts}

@@ -2,7 +2,7 @@
 use Prim.Native.Nat.{ℕ, suc, _+_, _-_, _*_, _%_, _≤_, _<_}
 use mathlib.Core.Bool.{true}
 use mathlib.Core.List.{List, [], _∷_, _++_}
-use mathlib.Core.Path.{_≡_, refl, sym, ap, ap₂, subst, _∙_}
+use mathlib.Core.Path.{_≡_, refl, sym, ap, ap₂, _∙_}
 use native.Mathlib.Nat.{le-refl}
 use native.Mathlib.Numerals.{add-one}
 use native.Mathlib.Omega.{arith}
@@ -27,15 +27,17 @@ use Rattle.records.specs.declared.Parts.{Parts}
 use Rattle.records.specs.declared.Template.{Template}
 use Rattle.records.specs.declared.RecordRead.{RecordRead}
 use Rattle.records.specs.declared.RecordRead.the-variants.{Read, Refused}
-use Rattle.rules.proofs.Parts.{headOf, Row}
-use Rattle.rules.proofs.Walks.{node-held, parts-held, parts-counted, FirstOf, row-first, row-none, row-upto}
+use Rattle.walks.specs.Standing.{headOf}
+use Rattle.walks.specs.Walks.{Went}
+use Rattle.walks.proofs.Walks.{node-held, parts-counted, FirstOf, row-first, row-none}
+use Rattle.walks.proofs.Here.{parts-after, first-of, others-of}
 use Rattle.stepwise.specs.Rows.{rowWords, partPlace, rowOf, rowsOf}
 use Rattle.stepwise.proofs.Rows.{length-rows}
 use Rattle.part_places.specs.declared.Place.{Place}
 use Rattle.part_places.specs.Parts.{placeWith, partIn, noted}
 use Rattle.record_rows.specs.declared.Own.{Own}
 use Rattle.record_rows.specs.Halves.{ownIn}
-use Rattle.decode.specs.Walk.{insidePlace, Agrees, Told, rowIn, Small, Went, Entering, Same, Filled, Fills, rowsOfParts, SmallParts, Counted, EnteringParts, FillsParts}
+use Rattle.decode.specs.Walk.{insidePlace, Agrees, Told, rowIn, Small, Entering, Same, Filled, Fills, rowsOfParts, SmallParts, Counted, EnteringParts, FillsParts}
 use Rattle.decode.proofs.Leaves.{told}
 use Rattle.decode.proofs.Places.{inside-plain, grows, place-inside, few-part, stacked-less, stacked-same, same-more, stacked-inside, same-inside}
 use Rattle.decode.proofs.Rows.{rows-split, length-parts}
@@ -49,7 +51,7 @@ row-is entry arity cases k end p kind own next half small inside =
     let role : p .role % 65536 ≡ p .role = omega (arith, small .role) in
     let parent : p .parent % 65536 ≡ p .parent = omega (arith, small .parent) in
     let slot : p .slot % 65536 ≡ p .slot = omega (arith, small .slot) in
-    let after : next % 65536 ≡ next = omega (arith, small .few) in
+    let after : next % 65536 ≡ next = omega (arith, small .inside .few) in
     let rest = ap₂ _∷_ role (ap₂ _∷_ parent (ap₂ _∷_ slot (ap (λ n. n ∷ []) after))) in
     ap₂ _∷_ (half .action) (ap₂ _∷_ (half .operand) (ap₂ _∷_ (half .tree) (ap₂ _∷_ (half .more) rest)))
 
@@ -70,32 +72,32 @@ same-count s entry arity agrees (aCall a b) there = agrees .arities b (ltb-true 
 module _ (s table cases : List ℕ) (k end : ℕ) (p : Place) where
   -- nothing is filled
   stayed : Small k end p → Went k end k
-  stayed small = record { on = le-refl k; inside = small .before-end }
+  stayed small = record { on = le-refl k; inside = small .inside .before-end }
 
   -- past the end no expression stands
   pub fill-past : Small k end p → end ≤ k → Fills s table table cases cases k end p k
-  fill-past small over = record { went = stayed small; is = λ entry arity e h. absurd (omega (arith, some-record e, h .fits)) }
+  fill-past small over = record { went = stayed small; is = λ entry arity e h. absurd (omega (arith, some-record e, h .here .fits)) }
 
   module _ (read : RecordRead) (says : described read ≡ onValue shapeOf (nodeIn s k)) where
     -- no expression begins with a record that is refused
     pub fill-unread : (why : Refusal) (place : ℕ) → Small k end p → read ≡ Refused why place → Fills s table table cases cases k end p k
     fill-unread why place small is = record {
       went = stayed small;
-      is = λ entry arity e h. done-not (says ∙ ap (onValue shapeOf) (node-held s (h .signed) k e (h .holds))) (ap described is);
+      is = λ entry arity e h. done-not (says ∙ ap (onValue shapeOf) (node-held s (h .here .signed) k e (h .here .holds))) (ap described is);
     }
 
     module _ (node : Record) (parts : Parts) (template : Template) (count : ℕ) (is : read ≡ Read node parts template) (many : count ≡ partCount (arityIn s) (listed parts)) where
       module _ {entry arity : ℕ → ℕ} {e : Expr} (h : Entering s table cases entry arity k end p e) where
         -- what is read is the expression's own record
         own-shape : shaped node parts template ≡ shapeOf (headOf e)
-        own-shape = done-injective (ap described (sym is) ∙ says ∙ ap (onValue shapeOf) (node-held s (h .signed) k e (h .holds)))
+        own-shape = done-injective (ap described (sym is) ∙ says ∙ ap (onValue shapeOf) (node-held s (h .here .signed) k e (h .here .holds)))
 
         own-kind : meant node ≡ headOf e
         own-kind = ap (λ (x : Shape). x .kind) own-shape
 
         -- a function that it calls is there
         own-below : below (headerIn s .functions) (meant node) ≡ true
-        own-below = rw own-kind (node-below s k (headOf e) (node-held s (h .signed) k e (h .holds)))
+        own-below = rw own-kind (node-below s k (headOf e) (node-held s (h .here .signed) k e (h .here .holds)))
 
         -- it has so many parts ..
         own-count : count ≡ partCount (arityIn s) (partsOf (meant node))
@@ -109,16 +111,17 @@ module _ (s table cases : List ℕ) (k end : ℕ) (p : Place) where
         own-parts : listed parts ≡ partsOf (meant node)
         own-parts = ap (λ (x : Shape). x .parts) own-shape ∙ ap partsOf (sym own-kind)
 
+        all-counted : 0 + length (partsAt k e) ≡ count
+        all-counted =
+            let h = h .here in
+            omega (arith, parts-counted s (h .signed) k e (h .known) (h .holds), own-count, ap (λ kind. partCount (arityIn s) (partsOf kind)) own-kind)
+
         -- its parts are entered
         parts-entered : k < end → EnteringParts s table cases entry arity node parts 0 count (k + 1) end p (partsAt k e) (k + size e)
         parts-entered more = record {
-          own = own-parts;
-          many = omega (arith, parts-counted s (h .signed) k e (h .known) (h .holds), own-count, ap (λ kind. partCount (arityIn s) (partsOf kind)) own-kind);
+          here = parts-after (h .here);
+          from = record { own = own-parts; many = own-count; left = all-counted };
           counted = own-counted;
-          signed = h .signed;
-          known = h .known;
-          row = rw add-one (parts-held s (h .signed) k e (h .holds));
-          fits = h .fits;
           agrees = h .agrees;
           room = h .room;
           stacked = stacked-less cases (p .depth) (end - k) (suc (end - (k + 1))) (h .stacked) (omega arith);
@@ -148,7 +151,7 @@ module _ (s table cases : List ℕ) (k end : ℕ) (p : Place) where
               rows =
                   wrote-it
                   ∙ ap₂ (λ (l m : List ℕ). written l (rowWords * k) m) others own-row
-                  ∙ written-front table (rowWords * k) row rows (omega (arith, ap length whole, length-rows entry arity P k e, h .fits, h .room))
+                  ∙ written-front table (rowWords * k) row rows (omega (arith, ap length whole, length-rows entry arity P k e, h .here .fits, h .room))
                   ∙ ap (written table (rowWords * k)) (sym whole);
               stack = f .stack;
             };
@@ -163,9 +166,9 @@ module _ (s table cases : List ℕ) (node : Record) (parts : Parts) (r i count k
   pub parts-done : count ≤ i → FillsParts s table table cases cases node parts r i count k end p k
   unfolding rowsOfParts
   parts-done over = record {
-    went = record { on = le-refl k; inside = small .before-end };
+    went = record { on = le-refl k; inside = small .inside .before-end };
     is = λ entry arity ps m h.
-        let none = row-none (h .row) (omega (arith, h .many)) in
+        let none = row-none (h .here .row) (omega (arith, h .from .left)) in
         record {
           behind = sym (none .1);
           rows =
@@ -183,17 +186,14 @@ module _ (s table cases : List ℕ) (node : Record) (parts : Parts) (r i count k
 
     module _ {entry arity : ℕ → ℕ} {ps : List Placed} {m : ℕ} (h : EnteringParts s table cases entry arity node parts i count k end p ps m) where
       -- the part that stands here, and those after it
-      first : FirstOf s (h .signed) k ps m
-      first = row-first (h .row) (omega (arith, h .many))
+      first : FirstOf s (h .here .signed) k ps m
+      first = row-first (h .here .row) (omega (arith, h .from .left))
 
       -- it is entered ..
       first-entered : Entering s table noted-cases entry arity k end inner (first .expr)
       unfolding insidePlace
       first-entered = record {
-        signed = h .signed;
-        known = h .known;
-        holds = first .here;
-        fits = omega (arith, row-upto (first .later), h .fits);
+        here = first-of (h .here) first;
         agrees = h .agrees;
         room = h .room;
         stacked = rw (is-inner, is-noted) (stacked-inside (partOf part) r (p .depth) cases (end - k) (h .stacked) (small .parent));
@@ -220,7 +220,7 @@ module _ (s table cases : List ℕ) (node : Record) (parts : Parts) (r i count k
       own-written =
           let room : p .depth < length cases = omega (arith, h .stacked .room) in
           let kind = meant node in
-          let own-part : partOf part ≡ nthPart (partsOf kind) i = here ∙ ap (λ ps. nthPart ps i) (h .own) in
+          let own-part : partOf part ≡ nthPart (partsOf kind) i = here ∙ ap (λ ps. nthPart ps i) (h .from .own) in
           filled .rows
           ∙ ap (λ q. written table (rowWords * k) (rowsOf entry arity q k (first .expr)))
           (ap₂ placeWith is-inner is-noted
@@ -236,13 +236,9 @@ module _ (s table cases : List ℕ) (node : Record) (parts : Parts) (r i count k
       rest-entered =
           let fewer : suc (end - next) ≤ suc (end - k) = omega (arith, f .went .on) in
           record {
-            own = h .own;
-            many = omega (arith, h .many, ap length (first .both));
+            here = others-of (h .here) first next (filled .behind);
+            from = record { own = h .from .own; many = h .from .many; left = omega (arith, h .from .left, ap length (first .both)) };
             counted = h .counted;
-            signed = h .signed;
-            known = h .known;
-            row = subst (λ n. Row s (h .signed) n (first .others) m) (sym (filled .behind)) (first .later);
-            fits = h .fits;
             agrees = h .agrees;
             room = omega (arith, h .room, same-length);
             stacked = stacked-same cases cases₁ (p .depth) kept _ (stacked-less cases (p .depth) _ _ (h .stacked) fewer);
@@ -271,7 +267,7 @@ module _ (s table cases : List ℕ) (node : Record) (parts : Parts) (r i count k
           let long-own : length own ≡ rowWords * size (first h .expr) = length-rows entry arity (partPlace entry arity P kind r i) k (first h .expr) in
           let long-others = length-parts entry arity P kind r (suc i) (first h .later) in
           let behind-own : rowWords * next ≡ place + length own = omega (arith, filled h .behind) in
-          let room : place + length (own ++ others) ≤ length table = omega (arith, length-append own others, h .fits, h .room) in
+          let room : place + length (own ++ others) ≤ length table = omega (arith, length-append own others, h .here .fits, h .room) in
           record {
             behind = g .behind;
             rows =
@@ -291,9 +287,8 @@ pub ruleset parts = (parts-done, parts-stuck, parts-more)
 -- the parts of a record
 pub few-parts : (k end : ℕ) (p : Place) → Small k end p → k < end → SmallParts k 0 (k + 1) end p
 few-parts k end p small more = record {
-  before-end = omega arith;
-  few = small .few;
-  parent = omega (arith, small .few);
+  inside = record { before-end = omega arith; few = small .inside .few };
+  parent = omega (arith, small .inside .few);
   names = omega (arith, small .names);
   keeps = omega (arith, small .keeps);
   depth = omega (arith, small .depth);
@@ -306,8 +301,7 @@ fall-on t k end next is went on = omega (arith, went .inside)
 -- the parts after it
 pub few-rest : (r i k end : ℕ) (p : Place) (next : ℕ) → SmallParts r i k end p → Went k end next → k < next → SmallParts r (i + 1) next end p
 few-rest r i k end p next small went on = record {
-  before-end = went .inside;
-  few = small .few;
+  inside = record { before-end = went .inside; few = small .inside .few };
   parent = small .parent;
   names = omega (arith, small .names, went .inside);
   keeps = omega (arith, small .keeps, went .inside);

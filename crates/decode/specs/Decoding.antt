@@ -1,20 +1,21 @@
 -- A table filled with a program's rows, or the refusal.
-use Prim.Native.Nat.{ℕ}
+use Prim.Native.Nat.{ℕ, _*_}
 use mathlib.Core.List.{List}
 use mathlib.Core.Path.{_≡_}
 use lib.Dec.{leb}
 use lib.ListN.{length}
 use Rattle.formats.specs.Refusals.{spaceTooShort}
 use Rattle.formats.specs.Results.{Result, done, refusal, andThen, verdict, check}
+use Rattle.formats.specs.Programs.{mostRecords}
 use Rattle.formats.specs.Rows.{readProgram}
 use Rattle.refusal.specs.Said.{said}
 use Rattle.refusal.specs.declared.Verdict.{Verdict}
 use Rattle.rules.specs.PassOne.{passOne}
-use Rattle.stepwise.specs.Rows.{tabled}
+use Rattle.stepwise.specs.Rows.{rowWords, tabled}
 
--- The words of a table: 8 for each of 1,057 records, the header, 32 functions and 1,024 nodes.
+-- The words of a table: a row for each of the most records, 8,456 in all.
 abbrev pub tableWords : ℕ
-tableWords = 8456
+tableWords = rowWords * mostRecords
 
 -- The table with the rows of a program that passes pass one; or the first refusal of the rows header to prefix form and pass one, and last 13 where the
 -- table is too short.

@@ -6,14 +6,15 @@ use mathlib.Core.Path.{_≡_}
 use lib.ListN.{length, getD, take}
 use Rattle.formats.specs.Results.{done, verdict}
 use Rattle.formats.specs.Records.{Kind, Part, aNumber, aTree, asWhole, underNumber, underTrees, partsOf, partCount}
-use Rattle.formats.specs.Programs.{Expr, size, Placed, Signature, Program}
+use Rattle.formats.specs.Programs.{Expr, size, Placed, Program, mostRecords}
 use Rattle.formats.specs.Rows.{headerIn, arityIn, readProgram}
 use Rattle.formats.specs.Written.{written}
 use Rattle.records.specs.Read.{meant, listed}
 use Rattle.records.specs.declared.Record.{Record}
 use Rattle.records.specs.declared.Parts.{Parts}
-use Rattle.rules.proofs.Parts.{Known, Holds, Row}
-use Rattle.stepwise.specs.Rows.{whole, actionOf, roleOf, slotOf, keepsIn, partPlace, operandOf, treeOf, moreOf, rowsOf, rowWords, tabled}
+use Rattle.walks.specs.Limits.{largestByte, mostCount}
+use Rattle.walks.specs.Walks.{Inside, Went, Here, HereRow, PartsFrom}
+use Rattle.stepwise.specs.Rows.{whole, lastArgument, lastWord, actionOf, roleOf, slotOf, keepsIn, partPlace, operandOf, treeOf, moreOf, rowsOf, rowWords, tabled}
 use Rattle.stepwise.specs.Rows.{Place as PlaceThere}
 use Rattle.part_places.specs.declared.Place.{Place}
 use Rattle.part_places.specs.Parts.{placeWith}
@@ -53,9 +54,9 @@ insidePlace part kind r i count p =
 
 -- Counts that can grow on entering part i.
 pub record Grows (i : ℕ) (p : Place) : Type 0 where
-  pub names : p .names < 4000
-  pub keeps : p .keeps + i < 4000
-  pub depth : p .depth < 4000
+  pub names : p .names < mostCount
+  pub keeps : p .keeps + i < mostCount
+  pub depth : p .depth < mostCount
 
 -- ---- a row's first half
 
@@ -63,12 +64,12 @@ pub record Grows (i : ℕ) (p : Place) : Type 0 where
 pub record Agrees (s : List ℕ) (entry arity : ℕ → ℕ) : Type 0 where
   pub entries : (b : ℕ) → b < headerIn s .functions → entry b ≡ firstIn s b
   pub arities : (b : ℕ) → b < headerIn s .functions → arity b ≡ arityIn s b
-  pub low : (b : ℕ) → b < headerIn s .functions → entry b ≤ 2000
+  pub low : (b : ℕ) → b < headerIn s .functions → entry b ≤ mostRecords
 
 -- So many entries of a stack are records, and there is room for so many more.
 pub record Stacked (cases : List ℕ) (depth more : ℕ) : Type 0 where
   pub room : depth + more ≤ length cases
-  pub low : (n : ℕ) → n < depth → getD cases n 0 ≤ 2000
+  pub low : (n : ℕ) → n < depth → getD cases n 0 ≤ mostRecords
 
 -- The first half of a row.
 pub record Told (entry arity : ℕ → ℕ) (p : PlaceThere) (kind : Kind) (o : Own) : Type 0 where
@@ -86,26 +87,17 @@ rowIn o p behind =
 
 -- Counts stay small up to the end.
 pub record Small (k end : ℕ) (p : Place) : Type 0 where
-  pub before-end : k ≤ end
-  pub few : end ≤ 2000
-  pub role : p .role ≤ 7
-  pub parent : p .parent ≤ 2000
-  pub slot : p .slot ≤ 5000
-  pub names : p .names + (end - k) ≤ 4000
-  pub keeps : p .keeps + (end - k) ≤ 4000
-  pub depth : p .depth + (end - k) ≤ 4000
-
--- How far it went.
-pub record Went (k end next : ℕ) : Type 0 where
-  pub on : k ≤ next
-  pub inside : next ≤ end
+  pub inside : Inside k end
+  pub role : p .role ≤ lastArgument
+  pub parent : p .parent ≤ mostRecords
+  pub slot : p .slot ≤ mostCount + lastWord
+  pub names : p .names + (end - k) ≤ mostCount
+  pub keeps : p .keeps + (end - k) ≤ mostCount
+  pub depth : p .depth + (end - k) ≤ mostCount
 
 -- Expression e of a program stands at record k and ends by the end, the table has rows up to the end, and the stack has room.
 pub record Entering (s table cases : List ℕ) (entry arity : ℕ → ℕ) (k end : ℕ) (p : Place) (e : Expr) : Type 0 where
-  pub signed : List Signature
-  pub known : Known s signed
-  pub holds : Holds s signed k e
-  pub fits : k + size e ≤ end
+  pub here : Here s end k e
   pub agrees : Agrees s entry arity
   pub room : rowWords * end ≤ length table
   pub stacked : Stacked cases (p .depth) (end - k)
@@ -135,12 +127,11 @@ rowsOfParts entry arity p kind r i (q ∷ qs) =
 
 -- On entering part i of the record r at record k.
 pub record SmallParts (r i k end : ℕ) (p : Place) : Type 0 where
-  pub before-end : k ≤ end
-  pub few : end ≤ 2000
-  pub parent : r ≤ 2000
-  pub names : p .names + 1 + (end - k) ≤ 4000
-  pub keeps : p .keeps + i + 1 + (end - k) ≤ 4000
-  pub depth : p .depth + 1 + (end - k) ≤ 4000
+  pub inside : Inside k end
+  pub parent : r ≤ mostRecords
+  pub names : p .names + 1 + (end - k) ≤ mostCount
+  pub keeps : p .keeps + i + 1 + (end - k) ≤ mostCount
+  pub depth : p .depth + 1 + (end - k) ≤ mostCount
 
 -- A record of this kind has so many parts.
 pub record Counted (arity : ℕ → ℕ) (kind : Kind) (count : ℕ) : Type 0 where
@@ -148,13 +139,9 @@ pub record Counted (arity : ℕ → ℕ) (kind : Kind) (count : ℕ) : Type 0 wh
 
 -- Parts of the record r from part i on stand one after the other, the next at record k and the last before record m.
 pub record EnteringParts (s table cases : List ℕ) (entry arity : ℕ → ℕ) (node : Record) (parts : Parts) (i count k end : ℕ) (p : Place) (ps : List Placed) (m : ℕ) : Type 0 where
-  pub own : listed parts ≡ partsOf (meant node)
-  pub many : i + length ps ≡ count
+  pub here : HereRow s end k ps m
+  pub from : PartsFrom s (listed parts) (meant node) i count ps
   pub counted : Counted arity (meant node) count
-  pub signed : List Signature
-  pub known : Known s signed
-  pub row : Row s signed k ps m
-  pub fits : m ≤ end
   pub agrees : Agrees s entry arity
   pub room : rowWords * end ≤ length table
   pub stacked : Stacked cases (p .depth) (suc (end - k))
@@ -174,13 +161,13 @@ pub record FillsParts (s table table′ cases cases′ : List ℕ) (node : Recor
 -- Where the body of function j stands.
 pub record Starts (s : List ℕ) (j : ℕ) (p : Place) : Type 0 where
   pub is : p ≡ record { role = whole; parent = 0; slot = 0; names = arityIn s j; keeps = 0; depth = 0 }
-  pub few : p .names < 256
+  pub few : p .names ≤ largestByte
 
 -- The records are a program, and there is room for its rows and for its Cases.
 pub record Ready (s table cases : List ℕ) : Type 0 where
   pub is-read : verdict (readProgram s) ≡ done tt
   pub room : tableWords ≤ length table
-  pub stack : 1057 ≤ length cases
+  pub stack : mostRecords ≤ length cases
 
 pub record FillsAll (s table table′ : List ℕ) : Type 0 where
   pub is : (program : Program) → readProgram s ≡ done program → table′ ≡ tabled table program

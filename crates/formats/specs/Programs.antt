@@ -175,6 +175,10 @@ mostFunctions = 32
 abbrev pub mostNodes : ℕ
 mostNodes = 1024
 
+-- The header, the functions' records and the nodes': 1,057.
+abbrev pub mostRecords : ℕ
+mostRecords = 1 + mostFunctions + mostNodes
+
 -- 01, Function records: "number parameters (0 to 4; function 0 has none)".
 unfoldable pub mostParameters : ℕ → ℕ
 mostParameters zero = 0

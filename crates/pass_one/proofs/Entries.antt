@@ -27,8 +27,8 @@ use Rattle.records.specs.declared.Called.{Called}
 use Rattle.rules.specs.Types.{isInt, isTree, fits}
 use Rattle.rules.specs.Scopes.{entry}
 use Rattle.rules.specs.PassOne.{mostWords, named, typed, bareNumber, wordsTested, roomy, holdsAt, atEntry}
-use Rattle.rules.proofs.Parts.{Known}
-use Rattle.rules.proofs.Walks.{Signed, signature-of}
+use Rattle.walks.specs.Standing.{Known}
+use Rattle.walks.proofs.Walks.{Signed, signature-of}
 use Rattle.pass_one.specs.Walk.{expected, scopeOf, Typed, Bare, Roomy, Tested}
 use Rattle.pass_one.specs.declared.Scope.{Scope}
 

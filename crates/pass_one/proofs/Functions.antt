@@ -8,9 +8,10 @@ use lib.ListN.{getD}
 use Rattle.formats.specs.Numbers.{Bytes, numberAt}
 use Rattle.formats.specs.Results.{Result, done, refusal, andThen, onValue, verdict}
 use Rattle.formats.specs.Programs.{size, Sort, numberValued, treeValued, sortNumber, Function, signatureOf, Program, signatures}
-use Rattle.formats.specs.Rows.{sortIn, arityIn, readProgram}
+use Rattle.formats.specs.Records.{recordAt}
+use Rattle.formats.specs.Rows.{headerIn, sortIn, arityIn, readProgram}
 use Rattle.formats.proofs.Results.{then-done, then-refused, value-inv, passed-is, refused-is, value-refused}
-use Rattle.formats.proofs.Rows.{function-read}
+use Rattle.formats.proofs.Rows.{function-read, flattens}
 use Rattle.refusal.specs.Number.{number}
 use Rattle.refusal.specs.Said.{said}
 use Rattle.refusal.specs.declared.Refusal.{Refusal}
@@ -21,7 +22,9 @@ use Rattle.rules.specs.Types.{resultType}
 use Rattle.rules.specs.Scopes.{scope, startOf, entered, enteredAll}
 use Rattle.rules.specs.PassOne.{passOver, passOne, checkOne}
 use Rattle.rules.proofs.PassOne.{pass-join}
-use Rattle.rules.proofs.Functions.{Left, all-left, Turn, turn, none-left}
+use Rattle.walks.specs.Walks.{Inside}
+use Rattle.walks.proofs.Walks.{program-held}
+use Rattle.walks.proofs.Functions.{Left, all-left, Turn, turn, none-left}
 use Rattle.pass_one.specs.Walk.{expected, told, Entered, Starts, PassSays}
 use Rattle.pass_one.specs.declared.Scope.{Scope}
 use Rattle.pass_one.specs.declared.Walked.{Walked}
@@ -41,9 +44,9 @@ started s j m n em en small = record {
   is = λ f e.
       let r = function-read s j (signatureOf f) e in
       ap₂ (λ p τ. scope p 1 p τ) (em ∙ sym (r .arity)) (type-of (f .sort) n (r .sort ∙ sym en));
-  numbers = small;
+  numbers = omega arith;
   trees = refl;
-  words = small;
+  words = omega arith;
 }
 
 -- ---- `pass`
@@ -54,18 +57,20 @@ rowOne program k fs = passOver (signatures program) (enteredAll k fs)
 
 -- the functions from j on, at record k, say what pass one says of every program that these records are
 pub record Walking (s : List ℕ) (functions end k j : ℕ) : Type 0 where
-  pub upto : k ≤ end
-  pub few : end ≤ 100000
+  pub inside : Inside k end
   pub rest : (program : Program) → readProgram s ≡ done program → Left s functions end passOne rowOne program k j
 
-pub walk-none : (s : List ℕ) (functions nodes : ℕ) → Bytes s → functions ≡ getD s 1 0 → nodes ≡ numberAt 2 s 2 → functions < 256 → nodes < 65536
+pub walk-none : (s : List ℕ) (functions nodes : ℕ) → Bytes s → verdict (readProgram s) ≡ done tt → functions ≡ getD s 1 0 → nodes ≡ numberAt 2 s 2
     → Walking s functions (1 + functions + nodes) (1 + functions) 0
-unfolding passOne
-walk-none s functions nodes bytes ef en small few = record {
-  upto = omega arith;
-  few = omega arith;
-  rest = all-left s functions _ passOne rowOne nodes bytes ef en refl (λ program. refl);
-}
+unfolding headerIn recordAt passOne
+walk-none s functions nodes bytes read ef en =
+    let v = passed-is (readProgram s) read in
+    let h = program-held s (v .value) bytes (v .is) in
+    let few = flattens s (v .value) bytes (v .is) .lawful .few-functions in
+    record {
+      inside = record { before-end = omega arith; few = omega (arith, h .functions, few, h .few-nodes) };
+      rest = all-left s functions _ passOne rowOne nodes bytes ef en refl (λ program. refl);
+    }
 
 module _ (s : List ℕ) (functions end k j : ℕ) where
   pub walk-all : functions ≤ j → Walking s functions end k j → PassSays s Passed
@@ -90,15 +95,14 @@ module _ (s : List ℕ) (functions end k j : ℕ) where
           at-hand = t;
           over = passOver gs (entered (startOf f) k (f .body));
           is-told =
-              is .is gs (f .body) (t .known) (t .holds) (t .fits)
+              is .is (f .body) (record { signed = gs; known = t .known; holds = t .holds; fits = t .fits })
               ∙ ap (λ sc. onValue (λ u. k + size (f .body)) (passOver gs (entered sc k (f .body)))) (starts .is f (t .signed));
           split = t .left ∙ pass-join gs _ _;
         }
 
     pub walk-more : (next : ℕ) → walked ≡ To next → Walking s functions end next (j + 1)
     walk-more next case = record {
-      upto = is .on next case .1;
-      few = w .few;
+      inside = record { before-end = is .went next case .inside; few = w .inside .few };
       rest = λ program e.
           let t = walk program e in
           let v = value-inv (λ u. k + size (t .at-hand .here .body)) (t .over) next (sym (t .is-told) ∙ ap told case) in
@@ -127,4 +131,7 @@ module _ (s : List ℕ) (rows : Verdict) (is : said rows ≡ verdict (readProgra
       let v = passed-is (readProgram s) (sym is ∙ ap said passes) in
       says .is (v .value) (v .is) ∙ sym (then-done passOne (v .is))
 
-pub ruleset checked = (rows-refused, rows-passed)
+  pub rows-read : rows ≡ Passed → verdict (readProgram s) ≡ done tt
+  rows-read passes = sym is ∙ ap said passes
+
+pub ruleset checked = (rows-refused, rows-read, rows-passed)

@@ -49,8 +49,7 @@ pub ruleset part-scopes = (in-number, in-tree, in-whole, in-under-number, in-und
 
 less : {k end g n w g′ n′ w′ : ℕ} → Small k end g n w → g′ ≤ g → n′ ≤ n → w′ ≤ w → Small k end g′ n′ w′
 less h lg ln lw = record {
-  before-end = h .before-end;
-  few = h .few;
+  inside = h .inside;
   numbers = omega (arith, h .numbers);
   trees = omega (arith, h .trees);
   words = omega (arith, h .words);

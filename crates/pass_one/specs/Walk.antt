@@ -3,11 +3,10 @@ use Prim.Native.Nat.{ℕ, suc, _+_, _-_, _*_, _≤_, _<_}
 use mathlib.Core.Bool.{Bool, true, false}
 use mathlib.Core.List.{List}
 use mathlib.Core.Path.{_≡_}
-use lib.ListN.{length}
 use Rattle.formats.specs.Results.{Result, done, refusal, onValue}
-use Rattle.formats.specs.Records.{Kind, below, partsOf, partCount}
+use Rattle.formats.specs.Records.{Kind, below}
 use Rattle.formats.specs.Programs.{Expr, size, Placed, Signature, Function, signatureOf, Program}
-use Rattle.formats.specs.Rows.{headerIn, arityIn, functionIn, readProgram}
+use Rattle.formats.specs.Rows.{headerIn, functionIn, readProgram}
 use Rattle.refusal.specs.Number.{number}
 use Rattle.refusal.specs.Said.{said}
 use Rattle.refusal.specs.declared.Verdict.{Verdict}
@@ -18,7 +17,9 @@ use Rattle.rules.specs.Types.{Ty, Int, Tree⁺}
 use Rattle.rules.specs.Scopes.{scope, startOf, entry, entered}
 use Rattle.rules.specs.Scopes.{Scope as ScopeThere}
 use Rattle.rules.specs.PassOne.{typed, roomy, bareNumber, atEntry, passOver, passOne}
-use Rattle.rules.proofs.Parts.{Known, Holds, Row, passParts}
+use Rattle.walks.specs.Standing.{Known, passParts}
+use Rattle.walks.specs.Limits.{largestByte, mostCount, mostTreeNames}
+use Rattle.walks.specs.Walks.{Inside, Went, Here, HereRow, PartsFrom}
 use Rattle.pass_one.specs.declared.Scope.{Scope}
 use Rattle.pass_one.specs.declared.Walked.{Walked}
 use Rattle.pass_one.specs.declared.Walked.the-variants.{To, Refused}
@@ -38,15 +39,14 @@ told (Refused why place) = refusal (number why) place
 
 -- Counts that can grow on entering part i of a record.
 abbrev pub RoomFor : ℕ → ScopeThere → Type 0
-RoomFor i (scope g n w τ) = (g < 200000) × ((n < 300000) × (w + i < 200000))
+RoomFor i (scope g n w τ) = (g < mostCount) × ((n < mostTreeNames) × (w + i < mostCount))
 
 -- Counts that grow with each record entered, by two at most, stay small up to the end.
 pub record Small (k end g n w : ℕ) : Type 0 where
-  pub before-end : k ≤ end
-  pub few : end ≤ 100000
-  pub numbers : g + (end - k) ≤ 200000
-  pub trees : n + 2 * (end - k) ≤ 300000
-  pub words : w + (end - k) ≤ 200000
+  pub inside : Inside k end
+  pub numbers : g + (end - k) ≤ mostCount
+  pub trees : n + 2 * (end - k) ≤ mostTreeNames
+  pub words : w + (end - k) ≤ mostCount
 
 -- On entering record k.
 abbrev pub Fits : ℕ → ℕ → ScopeThere → Type 0
@@ -73,23 +73,23 @@ pub record Tested (s : List ℕ) (c : Scope) (k : ℕ) (node : Record) (r : Verd
 
 -- The expression at record k, entered so.
 pub record Entered (s : List ℕ) (k end : ℕ) (c : Scope) (r : Walked) : Type 0 where
-  pub on : (next : ℕ) → r ≡ To next → (k < next) × (next ≤ end)
-  pub is : (gs : List Signature) (e : Expr) → Known s gs → Holds s gs k e → k + size e ≤ end
-      → told r ≡ onValue (λ u. k + size e) (passOver gs (entered (scopeOf c) k e))
+  pub went : (next : ℕ) → r ≡ To next → Went (suc k) end next
+  pub is : (e : Expr) (here : Here s end k e)
+      → told r ≡ onValue (λ u. k + size e) (passOver (here .signed) (entered (scopeOf c) k e))
 
 -- The parts of a record from part i on, so many in all, the next of them at record k: for the kind whose parts these are.
 pub record EnteredParts (s : List ℕ) (parts : Parts) (i count k end : ℕ) (c : Scope) (r : Walked) : Type 0 where
-  pub on : (next : ℕ) → r ≡ To next → (k ≤ next) × (next ≤ end)
-  pub is : (gs : List Signature) (kind : Kind) (ps : List Placed) (m : ℕ) → Known s gs → listed parts ≡ partsOf kind → count ≡ partCount (arityIn s) (partsOf kind)
-      → Row s gs k ps m → i + length ps ≡ count → m ≤ end
-      → told r ≡ onValue (λ u. m) (passParts gs kind i (scopeOf c) ps)
+  pub went : (next : ℕ) → r ≡ To next → Went k end next
+  pub is : (kind : Kind) (ps : List Placed) (m : ℕ) (here : HereRow s end k ps m)
+      → PartsFrom s (listed parts) kind i count ps
+      → told r ≡ onValue (λ u. m) (passParts (here .signed) kind i (scopeOf c) ps)
 
 -- The scope on entering the body of function j.
 pub record Starts (s : List ℕ) (j : ℕ) (c : Scope) : Type 0 where
   pub is : (f : Function) → functionIn s j ≡ done (signatureOf f) → scopeOf c ≡ startOf f
-  pub numbers : c .numbers < 256
+  pub numbers : c .numbers ≤ largestByte
   pub trees : c .trees ≡ 1
-  pub words : c .words < 256
+  pub words : c .words ≤ largestByte
 
 -- Pass one, where flat records s are a program's.
 pub record PassSays (s : List ℕ) (r : Verdict) : Type 0 where

@@ -7,6 +7,8 @@ use records::RecordRead;
 use refusal::Refusal;
 use refusal::Verdict;
 ghost use mathlib.Core.Path.{_≡_};
+ghost use Rattle.formats.specs.Results.{done, verdict};
+ghost use Rattle.formats.specs.Rows.{readProgram};
 ghost use Rattle.records.specs.Read.{meant, partOf};
 ghost use Rattle.refusal.specs.Said.{said};
 ghost use Rattle.rules.specs.Scopes.{partScope};
@@ -208,6 +210,7 @@ fn start(flat: &[u8], j: u16) -> Scope
 
 // The row "pass one".
 fn pass(flat: &[u8]) -> Verdict
+    requires { ⌜ verdict (readProgram (now flat)) ≡ done tt ⌝ }
     ensures { λ r. ⌜ PassSays (now (flat .entry)) r ⌝ }
 {
     let functions = words::read8(flat, 1) as u16;

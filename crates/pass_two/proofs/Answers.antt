@@ -1,25 +1,19 @@
--- What the answers of pass two's functions say of the walks that they tell, and where an expression's parts stand.
-use Prim.Native.Nat.{ℕ, suc, _+_}
-use mathlib.Core.List.{List, _∷_}
+-- What the answers of pass two's functions say of the walks that they tell.
+use Prim.Native.Nat.{ℕ}
+use mathlib.Core.List.{List}
 use mathlib.Core.Path.{_≡_, refl, sym, ap, _∙_}
-use native.Mathlib.Nat.{le-trans}
 use native.Mathlib.Omega.{arith}
 use Rattle.formats.specs.Results.{Result, done, refusal, andThen, onValue}
-use Rattle.formats.specs.Programs.{Expr, size, Placed, behind, partsAt}
 use Rattle.formats.proofs.Results.{byResult, done-injective, done-not, then-done, then-refused, value-refused}
 use Rattle.refusal.specs.Number.{number}
 use Rattle.refusal.specs.declared.Refusal.{Refusal}
 use Rattle.refusal.specs.declared.Verdict.{Verdict}
 use Rattle.refusal.specs.declared.Verdict.the-variants.{Passed, Refused}
 use Rattle.rules.specs.PassTwo.{joined}
-use Rattle.rules.proofs.Walks.{parts-held, row-upto}
-use Rattle.rules.proofs.Lists.{row-front, row-others}
 use Rattle.pending.specs.List.{listOf}
 use Rattle.pending.specs.declared.Pending.{Pending}
 use Rattle.pass_two.specs.declared.Checked.{Checked}
-use Rattle.pass_two.specs.Walk.{Stand, stand, Tells, Here, HereRow, Joined, Went}
-
--- ---- what an answer says of a walk
+use Rattle.pass_two.specs.Walk.{Stand, stand, Tells, Joined, WentOn}
 
 -- nothing is both
 pub never : {A : Type 0} {v : Verdict} {why : Refusal} {place : ℕ} → v ≡ Refused why place → v ≡ Passed → A
@@ -68,8 +62,8 @@ tested (done x) test f = byResult (test x) (λ u e. rw e) (λ number place e. rw
 tested (refusal number place) test f = refl
 
 -- a refusal did not go on
-pub stopped : (k last : ℕ) {c : Checked} {why : Refusal} {place : ℕ} → c .verdict ≡ Refused why place → Went k last c
-stopped k last refused = record { on = λ passed. never refused passed }
+pub stopped : (k last : ℕ) {c : Checked} {why : Refusal} {place : ℕ} → c .verdict ≡ Refused why place → WentOn k last c
+stopped k last refused = record { went = λ passed. never refused passed }
 
 -- both branches are through
 pub both-joined : {k i m : ℕ} {u w : Result (List ℕ)} {one other r : Checked} → Tells one i u → one .verdict ≡ Passed → Tells other m w → other .verdict ≡ Passed
@@ -77,15 +71,3 @@ pub both-joined : {k i m : ℕ} {u w : Result (List ℕ)} {one other r : Checked
 unfolding joined
 both-joined told₁ passed₁ told₂ passed₂ j =
     follows _ told₁ passed₁ (follows _ told₂ passed₂ (rw (came told₂ passed₂ .place) at (j .tells passed₂)))
-
--- ---- where the parts stand
-
-module _ {s : List ℕ} {last : ℕ} where
-  pub parts-here : {k : ℕ} {e : Expr} → Here s last k e → HereRow s last (suc k) (partsAt k e) (k + size e)
-  parts-here {k} {e} h = record { signed = h .signed; known = h .known; row = parts-held s (h .signed) k e (h .holds); fits = h .fits }
-
-  pub first-here : {k i m : ℕ} {e : Expr} {ps : List Placed} → HereRow s last k (behind i e ∷ ps) m → Here s last k e
-  first-here h = record { signed = h .signed; known = h .known; holds = row-front (h .row); fits = le-trans (row-upto (row-others (h .row))) (h .fits) }
-
-  pub rest-here : {k i m : ℕ} {e : Expr} {ps : List Placed} → HereRow s last k (behind i e ∷ ps) m → HereRow s last (k + size e) ps m
-  rest-here h = record { signed = h .signed; known = h .known; row = row-others (h .row); fits = h .fits }

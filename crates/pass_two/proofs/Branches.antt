@@ -18,14 +18,16 @@ use Rattle.refusal.specs.declared.Verdict.the-variants.{Passed, Refused}
 use Rattle.rules.specs.Leftover.{mostPending}
 use Rattle.rules.specs.PassOne.{holdsAt}
 use Rattle.rules.specs.PassTwo.{sameNames, joined, walk}
-use Rattle.rules.proofs.Lists.{row-last}
+use Rattle.walks.specs.Walks.{Here}
+use Rattle.walks.proofs.Lists.{row-last}
+use Rattle.walks.proofs.Here.{parts-here, first-here, rest-here}
 use Rattle.pending.specs.List.{listOf, Took, putTwo}
 use Rattle.pending.specs.declared.Pending.{Pending}
 use Rattle.pending.specs.declared.Taken.{Taken}
 use Rattle.pending.proofs.Laws.{not-taken, is-taken, two-fit}
 use Rattle.pass_two.specs.declared.Checked.{Checked}
-use Rattle.pass_two.specs.Walk.{stand, Tells, Here, Joined, Ordered, OrderedCase, OrderedIf}
-use Rattle.pass_two.proofs.Answers.{came, follows, stays, refuses, stopped, both-joined, parts-here, first-here, rest-here}
+use Rattle.pass_two.specs.Walk.{stand, Tells, Joined, Ordered, OrderedCase, OrderedIf}
+use Rattle.pass_two.proofs.Answers.{came, follows, stays, refuses, stopped, both-joined}
 
 -- ---- `joined`
 
@@ -50,7 +52,7 @@ module _ (s : List ℕ) (k last n : ℕ) (p : Pending) (test : Checked) (ot : Or
 
   pub if-test : (why : Refusal) (place : ℕ) → test .verdict ≡ Refused why place → OrderedIf s k last n p test
   unfolding walk
-  if-test why place refused = record { went = stopped k last refused; tells = λ t x y h. stays _ _ (if-told h) refused }
+  if-test why place refused = record { went-on = stopped (suc k) last refused; tells = λ t x y h. stays _ _ (if-told h) refused }
 
   module _ (passed : test .verdict ≡ Passed) (zero : Checked) (oz : Ordered s (test .next) last n (test .pending) zero) where
     zero-told : {t x y : Expr} → Here s last k (ifZero t x y) → Tells zero (suc k + size t + size x) (walk n (suc k + size t) (listOf (test .pending)) x)
@@ -62,7 +64,7 @@ module _ (s : List ℕ) (k last n : ℕ) (p : Pending) (test : Checked) (ot : Or
     pub if-zero : (why : Refusal) (place : ℕ) → zero .verdict ≡ Refused why place → OrderedIf s k last n p zero
     unfolding walk joined
     if-zero why place refused = record {
-      went = stopped k last refused;
+      went-on = stopped (suc k) last refused;
       tells = λ t x y h. follows _ (if-told h) passed (stays _ _ (zero-told h) refused);
     }
 
@@ -78,19 +80,19 @@ module _ (s : List ℕ) (k last n : ℕ) (p : Pending) (test : Checked) (ot : Or
       pub if-other : (why : Refusal) (place : ℕ) → other .verdict ≡ Refused why place → OrderedIf s k last n p other
       unfolding walk joined
       if-other why place refused = record {
-        went = stopped k last refused;
+        went-on = stopped (suc k) last refused;
         tells = λ t x y h. follows _ (if-told h) passed (follows _ (zero-told h) zero-passed (stays _ _ (other-told h) refused));
       }
 
       pub if-joined : (r : Checked) → other .verdict ≡ Passed → Joined (zero .pending) other k r → OrderedIf s k last n p r
       unfolding walk
       if-joined r other-passed j = record {
-        went = record {
-          on = λ u.
-              let first = ot .went .on passed in
-              let second = oz .went .on zero-passed in
-              let third = oo .went .on other-passed in
-              omega (arith, j .on);
+        went-on = record {
+          went = λ u.
+              let first = ot .went-on .went passed in
+              let second = oz .went-on .went zero-passed in
+              let third = oo .went-on .went other-passed in
+              record { on = omega (arith, first .on, second .on, third .on, j .on); inside = omega (arith, third .inside, j .on) };
         };
         tells = λ t x y h. follows _ (if-told h) passed (both-joined (zero-told h) zero-passed (other-told h) other-passed j);
       }
@@ -102,13 +104,13 @@ pub ruleset ifs = (if-test, if-zero, if-other, if-joined)
 module _ (s : List ℕ) (a k last n : ℕ) (p : Pending) (taken : Taken) (took : Took p a taken) where
   pub case-other : not (taken .head) ≡ true → OrderedCase s a k last n p (record { verdict = Refused OutOfOrder k; pending = p; next = k })
   unfolding walk
-  case-other other = record { went = stopped k last refl; tells = λ x y h. refuses (then-refused _ (not-taken p a k taken took other)) }
+  case-other other = record { went-on = stopped (suc k) last refl; tells = λ x y h. refuses (then-refused _ (not-taken p a k taken took other)) }
 
   module _ (head : not (taken .head) ≡ false) (full : Bool) (told : full ≡ leb mostPending (length (listOf p))) where
     pub case-full : full ≡ true → OrderedCase s a k last n p (record { verdict = Refused TooManyPending k; pending = p; next = k })
     unfolding walk
     case-full is = record {
-      went = stopped k last refl;
+      went-on = stopped (suc k) last refl;
       tells = λ x y h.
           let no-room = le-ltb (length (listOf p)) mostPending (leb-true _ _ (sym told ∙ is)) in
           refuses (then-done _ (is-taken p a k taken took head) ∙ rw no-room);
@@ -133,7 +135,7 @@ module _ (s : List ℕ) (a k last n : ℕ) (p : Pending) (taken : Taken) (took :
 
       pub case-leaf : (why : Refusal) (place : ℕ) → leaf .verdict ≡ Refused why place → OrderedCase s a k last n p leaf
       unfolding joined
-      case-leaf why place refused = record { went = stopped k last refused; tells = λ x y h. begun x y (stays _ _ (leaf-told h) refused) }
+      case-leaf why place refused = record { went-on = stopped (suc k) last refused; tells = λ x y h. begun x y (stays _ _ (leaf-told h) refused) }
 
       module _ (leaf-passed : leaf .verdict ≡ Passed) (inner : Pending) (put : listOf inner ≡ putTwo n (n + 1) (listOf (taken .pending))) (node : Checked)
           (on : Ordered s (leaf .next) last (n + 2) inner node)
@@ -150,17 +152,17 @@ module _ (s : List ℕ) (a k last n : ℕ) (p : Pending) (taken : Taken) (took :
           pub case-node : (why : Refusal) (place : ℕ) → node .verdict ≡ Refused why place → OrderedCase s a k last n p node
           unfolding joined
           case-node why place refused = record {
-            went = stopped k last refused;
+            went-on = stopped (suc k) last refused;
             tells = λ x y h. begun x y (follows _ (leaf-told h) leaf-passed (stays _ _ (node-told h) refused));
           }
 
           pub case-joined : (r : Checked) → node .verdict ≡ Passed → Joined (leaf .pending) node k r → OrderedCase s a k last n p r
           case-joined r node-passed j = record {
-            went = record {
-              on = λ u.
-                  let first = ol .went .on leaf-passed in
-                  let second = on .went .on node-passed in
-                  omega (arith, j .on);
+            went-on = record {
+              went = λ u.
+                  let first = ol .went-on .went leaf-passed in
+                  let second = on .went-on .went node-passed in
+                  record { on = omega (arith, first .on, second .on, j .on); inside = omega (arith, second .inside, j .on) };
             };
             tells = λ x y h. begun x y (both-joined (leaf-told h) leaf-passed (node-told h) node-passed j);
           }

@@ -9,6 +9,7 @@ use Rattle.formats.specs.Results.{Result, done, refusal, andThen, verdict}
 use Rattle.formats.specs.Records.{recordAt}
 use Rattle.formats.specs.Programs.{size, Function, Program, signatures}
 use Rattle.formats.specs.Rows.{headerIn, readProgram}
+use Rattle.formats.proofs.Rows.{flattens}
 use Rattle.formats.proofs.Results.{byResult, then-done, then-refused, Followed, then-inv, passed-is}
 use Rattle.refusal.specs.Number.{number}
 use Rattle.refusal.specs.Said.{said}
@@ -17,10 +18,11 @@ use Rattle.refusal.specs.declared.Verdict.{Verdict}
 use Rattle.refusal.specs.declared.Verdict.the-variants.{Passed, Refused}
 use Rattle.rules.specs.PassOne.{passOne, checkOne}
 use Rattle.rules.specs.PassTwo.{walk, noneLeft, walkAll, passTwo, order, checkRecords}
-use Rattle.rules.proofs.Walks.{program-held}
-use Rattle.rules.proofs.Functions.{Left, all-left, Turn, turn, none-left}
+use Rattle.walks.specs.Walks.{Inside, Here}
+use Rattle.walks.proofs.Walks.{program-held}
+use Rattle.walks.proofs.Functions.{Left, all-left, Turn, turn, none-left}
 use Rattle.pass_two.specs.declared.Checked.{Checked}
-use Rattle.pass_two.specs.Walk.{Here, walkFunction, OrderedFunction, PassSays}
+use Rattle.pass_two.specs.Walk.{walkFunction, OrderedFunction, PassSays}
 use Rattle.pass_two.proofs.Answers.{came, stops, tested}
 
 -- ---- `pass`
@@ -32,8 +34,7 @@ rowTwo program k fs = walkAll k fs
 module _ (s : List ℕ) (functions last : ℕ) where
   -- the functions from j on, at record k, say what pass two says of every program that these records are
   pub record Walking (k j : ℕ) : Type 0 where
-    pub within : k ≤ last
-    pub few : last < 2000
+    pub inside : Inside k last
     pub rest : (program : Program) → readProgram s ≡ done program → Left s functions last passTwo rowTwo program k j
 
   pub walk-first : (nodes : ℕ) → Bytes s → verdict (readProgram s) ≡ done tt → functions ≡ getD s 1 0 → nodes ≡ numberAt 2 s 2
@@ -42,9 +43,9 @@ module _ (s : List ℕ) (functions last : ℕ) where
   walk-first nodes bs read ef en el =
       let v = passed-is (readProgram s) read in
       let h = program-held s (v .value) bs (v .is) in
+      let few = flattens s (v .value) bs (v .is) .lawful .few-functions in
       record {
-        within = omega arith;
-        few = omega (arith, h .few-nodes, bs 1);
+        inside = record { before-end = omega arith; few = omega (arith, h .functions, few, h .few-nodes) };
         rest = all-left s functions last passTwo rowTwo nodes bs ef en el (λ program. refl);
       }
 
@@ -72,10 +73,8 @@ module _ (s : List ℕ) (functions last : ℕ) where
 
     pub walk-more : c .verdict ≡ Passed → Walking (c .next) (j + 1)
     walk-more passed =
-        let on = o .went .on passed in
         record {
-          within = on .1;
-          few = w .few;
+          inside = record { before-end = o .went-on .went passed .inside; few = w .inside .few };
           rest = λ program e.
               let t = walked program e in
               let done = came (o .tells (t .at-hand .here .body) (t .here)) passed in

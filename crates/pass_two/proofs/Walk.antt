@@ -1,5 +1,5 @@
 -- Expressions, lists of them, and functions: a law for each way out of the functions that walk them, and what their calls ask.
-use Prim.Native.Nat.{ℕ, _+_, _-_, _*_, _≤_, _<_}
+use Prim.Native.Nat.{ℕ, suc, _+_, _-_, _*_, _≤_, _<_}
 use mathlib.Core.Bool.{true, false, not}
 use mathlib.Core.List.{List, [], _∷_}
 use mathlib.Core.Logic.{_≢_}
@@ -33,17 +33,19 @@ use Rattle.records.specs.declared.TreeName.{TreeName}
 use Rattle.records.specs.declared.Called.{Called}
 use Rattle.records.proofs.Record as TheRecord
 use Rattle.rules.specs.PassTwo.{walk, noneLeft}
-use Rattle.rules.proofs.Parts.{Known, headOf, Row, walkParts}
-use Rattle.rules.proofs.Parts.{end as no-part, next as a-part}
-use Rattle.rules.proofs.Walks.{node-held, parts-counted}
-use Rattle.rules.proofs.Lists.{walk-call, Plain, walk-parts, Shaped, shaped, plain, an-if, a-case, a-call}
+use Rattle.walks.specs.Standing.{Known, headOf, Row, walkParts}
+use Rattle.walks.specs.Standing.{end as no-part, next as a-part}
+use Rattle.walks.specs.Walks.{Inside, Here, HereRow}
+use Rattle.walks.proofs.Walks.{node-held, parts-counted}
+use Rattle.walks.proofs.Here.{parts-here, first-here, rest-here}
+use Rattle.walks.proofs.Lists.{walk-call, Plain, walk-parts, Shaped, shaped, plain, an-if, a-case, a-call}
 use Rattle.pending.specs.List.{listOf, Took}
 use Rattle.pending.specs.declared.Pending.{Pending}
 use Rattle.pending.specs.declared.Taken.{Taken}
 use Rattle.pending.proofs.Laws.{counted-list, by-head, not-taken, is-taken}
 use Rattle.pass_two.specs.declared.Checked.{Checked}
-use Rattle.pass_two.specs.Walk.{Small, Tells, Here, HereRow, Went, Ordered, OrderedCall, OrderedCase, OrderedIf, OrderedList, OrderedFunction}
-use Rattle.pass_two.proofs.Answers.{never, came, follows, stays, refuses, passes, stopped, parts-here, first-here, rest-here}
+use Rattle.pass_two.specs.Walk.{Small, Tells, WentOn, Ordered, OrderedCall, OrderedCase, OrderedIf, OrderedList, OrderedFunction}
+use Rattle.pass_two.proofs.Answers.{never, came, follows, stays, refuses, passes, stopped}
 
 -- ---- `order_list`
 
@@ -62,7 +64,7 @@ split {s} {last} {k} h = by (h .row) (h .known) (h .fits)
 module _ (s : List ℕ) (i count k last n : ℕ) (p : Pending) where
   pub list-done : Small k last n → count ≤ i → OrderedList s i count k last n p (record { verdict = Passed; pending = p; next = k })
   unfolding walkParts
-  list-done small over = record { on = λ u. (le-refl k, small .before-end); tells = λ ps m h e. told (split h) e }
+  list-done small over = record { went-on = record { went = λ u. record { on = le-refl k; inside = small .inside .before-end } }; tells = λ ps m h e. told (split h) e }
     where
       told : {ps : List Placed} {m : ℕ} → Split s last k ps m → i + length ps ≡ count
           → Tells (record { verdict = Passed; pending = p; next = k }) m (walkParts n (listOf p) ps)
@@ -72,7 +74,7 @@ module _ (s : List ℕ) (i count k last n : ℕ) (p : Pending) where
   module _ (first : Checked) (of : Ordered s k last n p first) (more : i < count) where
     pub list-stops : (why : Refusal) (place : ℕ) → first .verdict ≡ Refused why place → OrderedList s i count k last n p first
     unfolding walkParts
-    list-stops why place refused = record { on = λ passed. never refused passed; tells = λ ps m h e. told (split h) e }
+    list-stops why place refused = record { went-on = stopped k last refused; tells = λ ps m h e. told (split h) e }
       where
         told : {ps : List Placed} {m : ℕ} → Split s last k ps m → i + length ps ≡ count → Tells first m (walkParts n (listOf p) ps)
         told none e = absurd (omega arith)
@@ -81,10 +83,12 @@ module _ (s : List ℕ) (i count k last n : ℕ) (p : Pending) where
     pub list-more : (r : Checked) → first .verdict ≡ Passed → OrderedList s (i + 1) count (first .next) last n (first .pending) r → OrderedList s i count k last n p r
     unfolding walkParts
     list-more r passed o = record {
-      on = λ u.
-          let before = of .went .on passed in
-          let behind = o .on u in
-          omega arith;
+      went-on = record {
+        went = λ u.
+            let before = of .went-on .went passed in
+            let rest = o .went-on .went u in
+            record { on = omega (arith, before .on, rest .on); inside = rest .inside };
+      };
       tells = λ ps m h e. told (split h) e;
     }
       where
@@ -104,18 +108,18 @@ module _ (s : List ℕ) (a count k last n : ℕ) (p : Pending) (after : Checked)
   args-told h e = oa .tells _ _ h (omega arith)
 
   pub call-stops : (why : Refusal) (place : ℕ) → after .verdict ≡ Refused why place → OrderedCall s a count k last n p after
-  call-stops why place refused = record { went = stopped k last refused; tells = λ ps m h e. stays _ _ (args-told h e) refused }
+  call-stops why place refused = record { went-on = stopped (suc k) last refused; tells = λ ps m h e. stays _ _ (args-told h e) refused }
 
   module _ (passed : after .verdict ≡ Passed) (taken : Taken) (took : Took (after .pending) a taken) where
     pub call-other : not (taken .head) ≡ true → OrderedCall s a count k last n p (record { verdict = Refused OutOfOrder k; pending = p; next = k })
     call-other other = record {
-      went = stopped k last refl;
+      went-on = stopped (suc k) last refl;
       tells = λ ps m h e. follows _ (args-told h e) passed (refuses (not-taken _ a k taken took other));
     }
 
     pub call-takes : not (taken .head) ≡ false → OrderedCall s a count k last n p (record { verdict = Passed; pending = taken .pending; next = after .next })
     call-takes head = record {
-      went = record { on = λ u. let on = oa .on passed in omega arith };
+      went-on = record { went = λ u. let args = oa .went-on .went passed in record { on = omega (arith, args .on); inside = args .inside } };
       tells = λ ps m h e. follows _ (args-told h e) passed (passes (is-taken _ a k taken took head) (came (args-told h e) passed .place));
     }
 
@@ -124,7 +128,7 @@ pub ruleset calls = (call-stops, call-other, call-takes)
 -- ---- `order_at`
 
 pub at-end : (s : List ℕ) (k last n : ℕ) (p : Pending) → last ≤ k → Ordered s k last n p (record { verdict = Refused PrefixForm k; pending = p; next = k })
-at-end s k last n p over = record { went = stopped k last refl; tells = λ e h. absurd (omega (arith, some-record e, h .fits)) }
+at-end s k last n p over = record { went-on = stopped (suc k) last refl; tells = λ e h. absurd (omega (arith, some-record e, h .fits)) }
 
 -- the arms that take parts alone are those of six kinds
 abbrev plainTags : List ℕ
@@ -147,7 +151,7 @@ module _ (s : List ℕ) (k last n : ℕ) (p : Pending) (read : RecordRead) (told
   own-read {e} h = told ∙ ap (onValue shapeOf) (node-held s (h .signed) k e (h .holds))
 
   pub at-refused : (why : Refusal) (place : ℕ) → read ≡ NotRead why place → Ordered s k last n p (record { verdict = Refused why place; pending = p; next = k })
-  at-refused why place is = record { went = stopped k last refl; tells = λ e h. done-not (own-read h) (ap described is) }
+  at-refused why place is = record { went-on = stopped (suc k) last refl; tells = λ e h. done-not (own-read h) (ap described is) }
 
   module _ (node : Record) (parts : Parts) (template : Template) (is : read ≡ Read node parts template) where
     own-shape : {e : Expr} → Here s last k e → shapeOf (headOf e) ≡ record { kind = meant node; parts = listed parts; template = columnOf template }
@@ -157,14 +161,14 @@ module _ (s : List ℕ) (k last n : ℕ) (p : Pending) (read : RecordRead) (told
     own-kind kind e h case = subst (λ (x : Kind). Shaped x e) (ap (λ (x : Shape). x .kind) (own-shape h) ∙ case) (shaped e)
 
     pub at-if : (r : Checked) → node ≡ IfZero → OrderedIf s k last n p r → Ordered s k last n p r
-    at-if r case o = record { went = o .went; tells = λ e h. by (own-kind anIfZero e h (ap meant case)) h }
+    at-if r case o = record { went-on = o .went-on; tells = λ e h. by (own-kind anIfZero e h (ap meant case)) h }
       where
         by : {e : Expr} → Shaped anIfZero e → Here s last k e → Tells r (k + size e) (walk n k (listOf p) e)
         by (plain never) h = absurd never
         by an-if h = o .tells _ _ _ h
 
     pub at-case : (r : Checked) (t : TreeName) → node ≡ Case t → OrderedCase s (t .a) k last n p r → Ordered s k last n p r
-    at-case r t case o = record { went = o .went; tells = λ e h. by (own-kind (aCase (t .a)) e h (ap meant case)) h }
+    at-case r t case o = record { went-on = o .went-on; tells = λ e h. by (own-kind (aCase (t .a)) e h (ap meant case)) h }
       where
         by : {e : Expr} → Shaped (aCase (t .a)) e → Here s last k e → Tells r (k + size e) (walk n k (listOf p) e)
         by (plain never) h = absurd never
@@ -181,7 +185,7 @@ module _ (s : List ℕ) (k last n : ℕ) (p : Pending) (read : RecordRead) (told
 
       pub at-call : (r : Checked) (c : Called) → node ≡ Call c → OrderedCall s (c .a) count k last n p r → Ordered s k last n p r
       unfolding partsAt
-      at-call r c case o = record { went = o .went; tells = λ e h. by (own-kind (aCall (c .a) (c .b)) e h (ap meant case)) h }
+      at-call r c case o = record { went-on = o .went-on; tells = λ e h. by (own-kind (aCall (c .a) (c .b)) e h (ap meant case)) h }
         where
           by : {e : Expr} → Shaped (aCall (c .a) (c .b)) e → Here s last k e → Tells r (k + size e) (walk n k (listOf p) e)
           by (plain never) h = absurd never
@@ -189,7 +193,7 @@ module _ (s : List ℕ) (k last n : ℕ) (p : Pending) (read : RecordRead) (told
 
       pub at-parts : (r : Checked) → OneOf plainTags (tagOf TheRecord.the-type node) → OrderedList s 0 count (k + 1) last n p r → Ordered s k last n p r
       at-parts r tag o = record {
-        went = record { on = λ u. let on = o .on u in omega arith };
+        went-on = record { went = λ u. let parts = o .went-on .went u in record { on = omega (arith, parts .on); inside = parts .inside } };
         tells = λ e h.
             let kind : headOf e ≡ meant node = ap (λ (x : Shape). x .kind) (own-shape h) in
             let counts = count-parts e h in
@@ -206,20 +210,20 @@ module _ (s : List ℕ) (k last : ℕ) (start : Pending) (alone : listOf start �
   body-told {e} h = rw alone at (o .tells e h)
 
   pub function-stops : (why : Refusal) (place : ℕ) → body .verdict ≡ Refused why place → OrderedFunction s k last body
-  function-stops why place refused = record { went = o .went; tells = λ e h. stays _ _ (body-told h) refused }
+  function-stops why place refused = record { went-on = o .went-on; tells = λ e h. stays _ _ (body-told h) refused }
 
   module _ (passed : body .verdict ≡ Passed) where
     pub function-left : body .pending .len ≢ 0 → OrderedFunction s k last (record { verdict = Refused OutOfOrder k; pending = body .pending; next = k })
     unfolding noneLeft
     function-left left = record {
-      went = stopped k last refl;
+      went-on = stopped (suc k) last refl;
       tells = λ e h. follows _ (body-told h) passed (record { is = rw (by-head (body .pending) _ refl (λ none. left (omega arith))) });
     }
 
     pub function-none : body .pending .len ≡ 0 → OrderedFunction s k last body
     unfolding noneLeft fromLast
     function-none empty = record {
-      went = o .went;
+      went-on = o .went-on;
       tells = λ e h. follows _ (body-told h) passed (record { is = rw (passed, came (body-told h) passed .place, counted-list (body .pending) 0 (omega arith)) });
     }
 
@@ -227,21 +231,25 @@ pub ruleset functions = (function-stops, function-left, function-none)
 
 -- ---- what the calls ask: names stay few, and the records left fall
 
-module _ (k last : ℕ) (c : Checked) (went : Went k last c) (passed : c .verdict ≡ Passed) where
+module _ (k last : ℕ) (c : Checked) (went-on : WentOn (suc k) last c) (passed : c .verdict ≡ Passed) where
+  on-inside : (n : ℕ) → Small k last n → Inside (c .next) last
+  on-inside n small = record { before-end = went-on .went passed .inside; few = small .inside .few }
+
   pub few-on : (n : ℕ) → Small k last n → Small (c .next) last n
-  few-on n small = let on = went .on passed in record { before-end = on .1; few = small .few; trees = omega (arith, small .trees) }
+  few-on n small = record { inside = on-inside n small; trees = omega (arith, small .trees, went-on .went passed .on) }
 
   pub few-inside : (n : ℕ) → Small k last n → Small (c .next) last (n + 2)
-  few-inside n small = let on = went .on passed in record { before-end = on .1; few = small .few; trees = omega (arith, small .trees) }
+  few-inside n small = record { inside = on-inside n small; trees = omega (arith, small .trees, went-on .went passed .on, went-on .went passed .inside) }
 
   pub fall-list : (t : ℕ) → 3 * (last - k) + 2 ≡ t → 3 * (last - c .next) + 2 < t
-  fall-list t h = let on = went .on passed in omega arith
+  fall-list t h = omega (arith, went-on .went passed .on, went-on .went passed .inside)
 
-module _ (t k last : ℕ) (is : 3 * (last - k) ≡ t) (c : Checked) (went : Went (k + 1) last c) (passed : c .verdict ≡ Passed) where
+module _ (t k last : ℕ) (is : 3 * (last - k) ≡ t) (c : Checked) (went-on : WentOn (suc (k + 1)) last c) (passed : c .verdict ≡ Passed) where
   pub fall-second : 3 * (last - c .next) + 1 < t
-  fall-second = let on = went .on passed in omega arith
+  fall-second = omega (arith, went-on .went passed .on, went-on .went passed .inside)
 
-  pub fall-third : (d : Checked) → Went (c .next) last d → d .verdict ≡ Passed → 3 * (last - d .next) + 1 < t
-  fall-third d went′ passed′ = let on = went .on passed in let on′ = went′ .on passed′ in omega arith
+  pub fall-third : (d : Checked) → WentOn (suc (c .next)) last d → d .verdict ≡ Passed → 3 * (last - d .next) + 1 < t
+  fall-third d further passed′ =
+      omega (arith, went-on .went passed .on, further .went passed′ .on, further .went passed′ .inside)
 
 pub ruleset asked = (few-on, few-inside, fall-list, fall-second, fall-third, needs)

@@ -1,26 +1,27 @@
 -- What the functions of pass two answer, over flat records s.
-use Prim.Native.Nat.{ℕ, _+_, _-_, _*_, _≤_, _<_}
+use Prim.Native.Nat.{ℕ, suc, _+_, _-_, _*_, _≤_}
 use mathlib.Core.List.{List, [], _∷_}
 use mathlib.Core.Path.{_≡_}
 use lib.ListN.{length}
 use Rattle.formats.specs.Refusals.{outOfOrder}
 use Rattle.formats.specs.Results.{Result, done, andThen, onValue, check}
-use Rattle.formats.specs.Programs.{Expr, caseOf, ifZero, size, Placed, Signature, Program}
+use Rattle.formats.specs.Programs.{Expr, caseOf, ifZero, size, Placed, Program}
 use Rattle.formats.specs.Rows.{readProgram}
 use Rattle.refusal.specs.Said.{said}
 use Rattle.refusal.specs.declared.Verdict.{Verdict}
 use Rattle.refusal.specs.declared.Verdict.the-variants.{Passed}
 use Rattle.rules.specs.PassTwo.{takeHead, sameNames, walk, noneLeft, passTwo}
-use Rattle.rules.proofs.Parts.{Known, Holds, Row, walkParts}
+use Rattle.walks.specs.Standing.{walkParts}
+use Rattle.walks.specs.Limits.{mostTreeNames}
+use Rattle.walks.specs.Walks.{Inside, Went, Here, HereRow}
 use Rattle.pending.specs.List.{listOf}
 use Rattle.pending.specs.declared.Pending.{Pending}
 use Rattle.pass_two.specs.declared.Checked.{Checked}
 
 -- Names bound stay small up to the end.
 pub record Small (k end n : ℕ) : Type 0 where
-  pub before-end : k ≤ end
-  pub few : end ≤ 2000
-  pub trees : n + 2 * (end - k) ≤ 4000
+  pub inside : Inside k end
+  pub trees : n + 2 * (end - k) ≤ mostTreeNames
 
 -- Trees pending, and the record come to.
 pub record Stand : Type 0 where
@@ -45,46 +46,32 @@ pub record Joined (one : Pending) (other : Checked) (k : ℕ) (r : Checked) : Ty
       → Tells r (other .next) (check (sameNames (listOf one) (listOf (other .pending))) outOfOrder k (listOf (other .pending)))
   pub on : r .next ≡ other .next
 
--- How far a walk went on: behind record k, and not past the end.
-pub record Went (k end : ℕ) (r : Checked) : Type 0 where
-  pub on : r .verdict ≡ Passed → (k < r .next) × (r .next ≤ end)
-
--- Expression e of a program stands at record k, and ends by the end.
-pub record Here (s : List ℕ) (end k : ℕ) (e : Expr) : Type 0 where
-  pub signed : List Signature
-  pub known : Known s signed
-  pub holds : Holds s signed k e
-  pub fits : k + size e ≤ end
-
--- So do several, one behind the other, from record k up to record m.
-pub record HereRow (s : List ℕ) (end k : ℕ) (ps : List Placed) (m : ℕ) : Type 0 where
-  pub signed : List Signature
-  pub known : Known s signed
-  pub row : Row s signed k ps m
-  pub fits : m ≤ end
+-- How far a walk went on, where it passed.
+pub record WentOn (k end : ℕ) (r : Checked) : Type 0 where
+  pub went : r .verdict ≡ Passed → Went k end (r .next)
 
 -- The expression at record k.
 pub record Ordered (s : List ℕ) (k end n : ℕ) (p : Pending) (r : Checked) : Type 0 where
-  pub went : Went k end r
+  pub went-on : WentOn (suc k) end r
   pub tells : (e : Expr) → Here s end k e → Tells r (k + size e) (walk n k (listOf p) e)
 
 -- It is a Call, a Case, an IfZero.
 pub record OrderedCall (s : List ℕ) (a count k end n : ℕ) (p : Pending) (r : Checked) : Type 0 where
-  pub went : Went k end r
+  pub went-on : WentOn (suc k) end r
   pub tells : (ps : List Placed) (m : ℕ) → HereRow s end (k + 1) ps m → length ps ≡ count
       → Tells r m (andThen (walkParts n (listOf p) ps) (takeHead a k))
 
 pub record OrderedCase (s : List ℕ) (a k end n : ℕ) (p : Pending) (r : Checked) : Type 0 where
-  pub went : Went k end r
+  pub went-on : WentOn (suc k) end r
   pub tells : (x y : Expr) → Here s end k (caseOf a x y) → Tells r (k + size (caseOf a x y)) (walk n k (listOf p) (caseOf a x y))
 
 pub record OrderedIf (s : List ℕ) (k end n : ℕ) (p : Pending) (r : Checked) : Type 0 where
-  pub went : Went k end r
+  pub went-on : WentOn (suc k) end r
   pub tells : (t x y : Expr) → Here s end k (ifZero t x y) → Tells r (k + size (ifZero t x y)) (walk n k (listOf p) (ifZero t x y))
 
 -- Parts from number i on, so many in all, the next of them at record k.
 pub record OrderedList (s : List ℕ) (i count k end n : ℕ) (p : Pending) (r : Checked) : Type 0 where
-  pub on : r .verdict ≡ Passed → (k ≤ r .next) × (r .next ≤ end)
+  pub went-on : WentOn k end r
   pub tells : (ps : List Placed) (m : ℕ) → HereRow s end k ps m → i + length ps ≡ count → Tells r m (walkParts n (listOf p) ps)
 
 -- 01, Pass two: "a function ends with none". The function whose body is at record k.
@@ -92,7 +79,7 @@ abbrev pub walkFunction : ℕ → Expr → Result (List ℕ)
 walkFunction k e = andThen (walk 1 k (0 ∷ []) e) (λ Δ. andThen (noneLeft k Δ) (λ u. done Δ))
 
 pub record OrderedFunction (s : List ℕ) (k end : ℕ) (r : Checked) : Type 0 where
-  pub went : Went k end r
+  pub went-on : WentOn (suc k) end r
   pub tells : (e : Expr) → Here s end k e → Tells r (k + size e) (walkFunction k e)
 
 -- Pass two, where flat records s are a program's.

@@ -1,4 +1,4 @@
--- Proofs of the statements in specs/. `Parts`, `Walks`, `Lists` and `Functions` are for the functions that walk a program's records.
+-- Proofs of the statements in specs/.
 pub mod Splits
 pub mod Entries
 pub mod PassOne
@@ -11,9 +11,5 @@ pub mod Untyped
 pub mod Overfull
 pub mod Printed
 pub mod OrderChecker
-pub mod Parts
-pub mod Walks
-pub mod Lists
-pub mod Functions
 pub mod Cases
 pub mod Figure7

@@ -13,14 +13,14 @@ use Rattle.formats.specs.Refusals.{spaceTooShort}
 use Rattle.formats.specs.Results.{Result, done, refusal, andThen, check}
 use Rattle.formats.specs.Records.{recordAt}
 use Rattle.formats.specs.Tokens.{Tree, firstTree, firstEnd}
-use Rattle.formats.specs.Programs.{Program}
+use Rattle.formats.specs.Programs.{Program, mostRecords}
 use Rattle.formats.specs.Rows.{headerIn, readProgram}
 use Rattle.formats.specs.Blocks.{flatIn, flatInto, programIn}
 use Rattle.formats.proofs.Results.{then-done, then-refused, then-inv, check-inv, passed-is, refused-is}
 use Rattle.formats.proofs.Endings.{ended-by, stopped-by}
 use Rattle.formats.proofs.ProgramFiles.{program-files}
 use Rattle.rules.specs.PassOne.{passOne}
-use Rattle.rules.proofs.Walks.{program-held}
+use Rattle.walks.proofs.Walks.{program-held}
 use Rattle.refusal.specs.Number.{number as numberOf}
 use Rattle.refusal.specs.Put.{Put}
 use Rattle.refusal.specs.Said.{said}
@@ -42,7 +42,7 @@ use Rattle.meaning.specs.SourceRun.{SourceRan, Checked, refusedAfter, checkSour
 use Rattle.meaning.specs.Meaning.{PassesOne}
 use Rattle.meaning.specs.WorkWords.{beforeSource, WorkWords}
 use Rattle.meaning.proofs.SourceChecks.{file-stops, pass-one-stops, space-stops, tree-left}
-use Rattle.stepwise.specs.Rows.{tabled}
+use Rattle.stepwise.specs.Rows.{rowWords, tabled}
 use Rattle.stepwise.specs.Comes.{Told, told, toldOf}
 use Rattle.stepwise.proofs.Whole.{comes}
 use Rattle.source.specs.declared.SourceAnswer.{SourceAnswer}
@@ -229,7 +229,7 @@ module _ (s table after input output values places : List ℕ) (fuel : ℕ) (siz
         let program = p .program in
         let passes-one : PassesOne program = record { lawful = program-files .flattens s program bytes (p .reads) .lawful; passes = p .passes } in
         let at : suc (length (program .functions)) ≡ first = omega (arith, program-held s program bytes (p .reads) .functions) in
-        let long : 8 * 1057 ≤ length table = omega arith in
+        let long : rowWords * mostRecords ≤ length table = omega arith in
         record {
           program = program;
           reads = p .reads;

@@ -9,7 +9,7 @@ use Rattle.formats.specs.Results.{done}
 use Rattle.formats.specs.Tokens.{tokens, tagOf, tagAt, labelAt, partsAt, byTag, treeAt, firstTree}
 use Rattle.formats.specs.Records.{nth}
 use Rattle.formats.specs.Programs.{const, var, add, ifZero, letIn, call, noArgs, arg, prefix, prefixes, size}
-use Rattle.formats.specs.Programs.{numberValued, arityOf, total, signatureOf, Program, Every}
+use Rattle.formats.specs.Programs.{numberValued, arityOf, total, signatureOf, Program, mostRecords, Every}
 use Rattle.formats.proofs.ProgramCases.{grow, grow-lawful}
 use Rattle.formats.proofs.Results.{then-inv}
 use Rattle.rules.specs.PassOne.{passOne}
@@ -104,7 +104,7 @@ grow-told = refl
 
 -- so do the steps, over words and return words that hold anything
 grow-steps : (table words places : List ℕ)
-    → rowWords * 1057 ≤ length table
+    → rowWords * mostRecords ≤ length table
     → valueWords ≤ length words
     → returnWords ≤ length places
     → Comes (tabled table grow) five-seven [] (begin 2 (record { words = words; places = places; calls = 0; tree = 0; known = 0; end = 0 }))

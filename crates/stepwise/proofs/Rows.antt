@@ -10,10 +10,10 @@ use lib.ListN.{length, getD, take, length-append, List·getD-append}
 use lib.Seq.{getD-append-add}
 use Rattle.formats.specs.Records.{Kind, Add, IfZero, Let, Leaf, Node, Case, Call, nth}
 use Rattle.formats.specs.Programs.{Expr, const, var, add, ifZero, letIn, leafOf, nodeOf, caseOf, call, Args, noArgs, arg, prefix, prefixes, size}
-use Rattle.formats.specs.Programs.{arityOf, total, Function, signatureOf, Program, signatures}
+use Rattle.formats.specs.Programs.{arityOf, total, Function, signatureOf, Program, signatures, mostFunctions, mostNodes, mostRecords}
 use Rattle.formats.proofs.Written.{wrote}
 use Rattle.meaning.specs.OpenCalls.{firstRecord}
-use Rattle.rules.proofs.Parts.{headOf}
+use Rattle.walks.specs.Standing.{headOf}
 use Rattle.stepwise.specs.Rows.{Place, rowWords, actionOf, operandOf, treeOf, moreOf, rowOf, partPlace, rowsOf, rowsOfArgs, behindArgs, bodyPlace, rowsOfAll, rowsIn, tabled}
 use Rattle.stepwise.specs.Steps.{actionAt, operandAt, treeAt, moreAt, roleAt, parentAt, slotAt, behindAt}
 
@@ -326,7 +326,7 @@ pub bodies-fit : (program : Program) (b : ℕ) (f : Function) → nth (program .
 bodies-fit program b f e = omega (arith, first-record program b, body-counted (program .functions) b f e)
 
 -- the rows of a program stand in its table
-rows-stand : (program : Program) (table : List ℕ) → rowWords * 1057 ≤ length table → length (program .functions) ≤ 32 → total (signatures program) ≤ 1024
+rows-stand : (program : Program) (table : List ℕ) → rowWords * mostRecords ≤ length table → length (program .functions) ≤ mostFunctions → total (signatures program) ≤ mostNodes
     → Shows (tabled table program) (rowWords * suc (length (program .functions))) (rowsIn program)
 unfolding tabled
 rows-stand program table room functions nodes =
@@ -337,7 +337,7 @@ rows-stand program table room functions nodes =
 
 -- the body of each function stands in the table
 pub bodies-stand : (program : Program) (table : List ℕ)
-    → rowWords * 1057 ≤ length table → length (program .functions) ≤ 32 → total (signatures program) ≤ 1024
+    → rowWords * mostRecords ≤ length table → length (program .functions) ≤ mostFunctions → total (signatures program) ≤ mostNodes
     → (b : ℕ) (f : Function) → nth (program .functions) b ≡ some f
     → Stands (firstRecord program) (arityOf (signatures program)) (tabled table program)
     (bodyPlace (firstRecord program) (arityOf (signatures program)) f) (firstRecord program b) (f .body)

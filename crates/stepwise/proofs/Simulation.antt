@@ -21,7 +21,7 @@ use Rattle.formats.specs.Programs.{Expr, const, var, add, ifZero, letIn, leafOf
 use Rattle.formats.specs.Programs.{Sort, numberValued, treeValued, Signature, arityOf, Function, signatureOf, Program, signatures}
 use Rattle.formats.proofs.Records.{nth-mapped}
 use Rattle.rules.specs.PassOne.{mostWords, wordsOf, wordsOfArgs}
-use Rattle.rules.proofs.Parts.{headOf}
+use Rattle.walks.specs.Standing.{headOf}
 use Rattle.rules.proofs.Words.{words-call, words-least, words-least-args}
 use Rattle.meaning.specs.Levels.{atLevel}
 use Rattle.meaning.specs.Running.{valueWords, returnWords}

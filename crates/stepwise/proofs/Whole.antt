@@ -13,7 +13,7 @@ use Rattle.formats.specs.Numbers.{Bytes}
 use Rattle.formats.specs.Results.{done}
 use Rattle.formats.specs.Tokens.{Tree, firstTree}
 use Rattle.formats.specs.Records.{nth}
-use Rattle.formats.specs.Programs.{size, total, arityOf, Signature, Function, Program, signatures, mostParameters, LawfulFunction, LawfulFunctions}
+use Rattle.formats.specs.Programs.{size, total, arityOf, Signature, Function, Program, signatures, mostRecords, mostParameters, LawfulFunction, LawfulFunctions}
 use Rattle.rules.specs.Types.{resultType}
 use Rattle.rules.specs.Scopes.{startOf, entered, enteredAll}
 use Rattle.rules.specs.PassOne.{mostWords, wordsOf, passOver, passOne}
@@ -72,7 +72,7 @@ record Standing (program : Program) (T : List ℕ) : Type 0 where
   inside : (b : ℕ) (f : Function) → nth (program .functions) b ≡ some f → firstRecord program b + size (f .body) ≤ recordLimit
 
 -- a program that passes pass one, in its table
-standing : (program : Program) (table : List ℕ) → PassesOne program → rowWords * 1057 ≤ length table → Standing program (tabled table program)
+standing : (program : Program) (table : List ℕ) → PassesOne program → rowWords * mostRecords ≤ length table → Standing program (tabled table program)
 unfolding passOne
 standing program table p room = record {
   is-proper = proper program p;
@@ -193,7 +193,7 @@ pub comes :
     → PassesOne program
     → Bytes input
     → firstTree input ≡ done t
-    → rowWords * 1057 ≤ length table
+    → rowWords * mostRecords ≤ length table
     → valueWords ≤ length words
     → returnWords ≤ length places
     → Comes (tabled table program) input []

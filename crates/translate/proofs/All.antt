@@ -18,9 +18,10 @@ use Rattle.meaning.specs.Instructions.{Operation, Call, Return}
 use Rattle.rules.specs.Scopes.{startOf, entered, enteredAll}
 use Rattle.rules.specs.PassOne.{passOver, passOne}
 use Rattle.rules.specs.PassTwo.{order, passTwo}
-use Rattle.rules.proofs.Parts.{Known, Bodies, no-more, one-more}
+use Rattle.walks.specs.Standing.{Known, Bodies, no-more, one-more}
 use Rattle.rules.proofs.PassOne.{pass-left, pass-right}
-use Rattle.rules.proofs.Walks.{program-held}
+use Rattle.walks.specs.Limits.{parametersOfAny}
+use Rattle.walks.proofs.Walks.{program-held}
 use Rattle.translation.specs.Calls.{checkedRecords}
 use Rattle.translation.specs.Templates.{Words, firstWords, wordsKept, behind, code, codeArgs, functionCode, behindFunction, entryFrom, functionsCode, entryOf}
 use Rattle.translation.proofs.Operands.{length-function}
@@ -101,7 +102,7 @@ module _ (s : List ℕ) (end : ℕ) (program : Program) where
     pub in-range : Every (InRange (length (program .functions))) (prefix (here .body))
     pub left : FunctionsLeft (before ++ (here ∷ [])) (k + size (here .body)) (j + 1)
 
-  few : (j : ℕ) → mostParameters j ≤ 4
+  few : (j : ℕ) → mostParameters j ≤ parametersOfAny
   unfolding mostParameters
   few zero = omega arith
   few (suc j) = omega arith
@@ -125,11 +126,8 @@ module _ (s : List ℕ) (end : ℕ) (program : Program) where
       by (f ∷ fs) split (one-more signed holds behind) passes lawful ends = record {
         here = f;
         entering = record {
-          signed = gs;
-          known = l .known;
+          here = record { signed = gs; known = l .known; holds = holds; fits = omega arith };
           signature = signed;
-          holds = holds;
-          fits = omega arith;
           few-parameters = omega (arith, lawful .0 .few-parameters, few j);
           passes = pass-left gs (entered (startOf f) k (f .body)) _ passes;
         };

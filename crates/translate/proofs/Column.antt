@@ -9,8 +9,8 @@ use lib.ListN.{length, length-append, length-map}
 use Rattle.formats.specs.CodeColumn.{Item, callFunction, onlyLast, Template, templateOf, before}
 use Rattle.formats.specs.Records.{Call, Parts, partsOf, nth, nthPart, partCount}
 use Rattle.formats.specs.Programs.{Expr, const, var, add, ifZero, letIn, leafOf, nodeOf, caseOf, call, Args, noArgs, arg, size, Placed, argsAt, partsAt, Sort, numberValued}
-use Rattle.rules.proofs.Parts.{headOf}
-use Rattle.rules.proofs.Walks.{length-args}
+use Rattle.walks.specs.Standing.{headOf}
+use Rattle.walks.proofs.Walks.{length-args}
 use Rattle.meaning.specs.Instructions.{Operation}
 use Rattle.translation.specs.Templates.{Words, behind, behindArgs, code, codeArgs}
 use Rattle.translation.proofs.Addresses.{length-code}

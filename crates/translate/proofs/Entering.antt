@@ -23,11 +23,12 @@ use Rattle.rules.specs.Types.{Ty, resultType}
 use Rattle.rules.specs.Scopes.{scope, inside, partScope, entry, entered}
 use Rattle.rules.specs.PassOne.{wordsTested, atEntry, passOver}
 use Rattle.rules.proofs.Entries.{part-scopes}
-use Rattle.rules.proofs.Parts.{headOf, Row, next, passParts}
+use Rattle.walks.specs.Standing.{headOf, Row, next, passParts}
 use Rattle.rules.proofs.PassOne.{Passes, pass-let}
 use Rattle.rules.proofs.Words.{tested, room}
-use Rattle.rules.proofs.Walks.{node-held, parts-held, parts-counted, pass-parts, row-upto}
-use Rattle.rules.proofs.Lists.{row-front, row-others}
+use Rattle.walks.proofs.Walks.{node-held, parts-counted, pass-parts, row-upto}
+use Rattle.walks.proofs.Lists.{row-others}
+use Rattle.walks.proofs.Here.{parts-after, first-here, rest-from}
 use Rattle.code_scope.specs.Around.{Around, partAround, sortOf, aroundOf, mostNames, Binds, Enterable, Enters, insideScope}
 use Rattle.code_scope.proofs.Scopes.{enters}
 use Rattle.code_scope.specs.declared.Scope.{Scope}
@@ -82,7 +83,7 @@ module _ {s : List ℕ} {k end : ℕ} {c : Scope} {e : Expr} (read : RecordRead)
     (counted : count ≡ partCount (arityIn s) (listed parts)) (h : Entering s k end c e) where
   -- what is read is the expression's own record
   own-shape : shaped node parts template ≡ shapeOf (headOf e)
-  own-shape = done-injective (ap described (sym is) ∙ told ∙ ap (onValue shapeOf) (node-held s (h .signed) k e (h .holds)))
+  own-shape = done-injective (ap described (sym is) ∙ told ∙ ap (onValue shapeOf) (node-held s (h .here .signed) k e (h .here .holds)))
 
   pub own-parts : listed parts ≡ partsOf (headOf e)
   own-parts = ap (λ (x : ShapeRead). x .parts) own-shape
@@ -91,30 +92,25 @@ module _ {s : List ℕ} {k end : ℕ} {c : Scope} {e : Expr} (read : RecordRead)
   own-template = ap (λ (x : ShapeRead). x .template) own-shape
 
   pub own-count : length (partsAt k e) ≡ partCount (arityIn s) (partsOf (headOf e))
-  own-count = parts-counted s (h .signed) k e (h .known) (h .holds)
+  own-count = parts-counted s (h .here .signed) k e (h .here .known) (h .here .holds)
 
   -- its parts are entered
   pub parts-entered : k < end → EnteringParts s (record { parts = parts; template = template; count = count }) 0 (k + 1) end c (partsAt k e) (k + size e)
   parts-entered more =
       let sc = scope (h .numbers) (h .trees) (c .standing) (resultType (sortOf (c .tree))) in
-      let below = then-inv (atEntry (h .signed) (entry sc k (headOf e))) _ tt (sym (pass-parts (h .signed) sc k e) ∙ h .passes) in
+      let below = then-inv (atEntry (h .here .signed) (entry sc k (headOf e))) _ tt (sym (pass-parts (h .here .signed) sc k e) ∙ h .passes) in
       let many = counted ∙ ap (partCount (arityIn s)) own-parts in
       record {
         kind = headOf e;
-        parted = own-parts;
-        many = many;
-        counted = omega (arith, own-count);
-        signed = h .signed;
-        known = h .known;
-        row = rw add-one (parts-held s (h .signed) k e (h .holds));
-        fits = h .fits;
+        here = parts-after (h .here);
+        from = record { own = own-parts; many = many; left = omega (arith, own-count) };
         numbers = h .numbers;
         trees = h .trees;
         passes = below .second;
         table = h .table;
         named = h .named;
         words = omega (arith, h .words);
-        room = λ j binds. binder-room (h .signed) (h .numbers) (h .trees) (c .standing) k (resultType (sortOf (c .tree))) e j (h .holds .applied) (h .passes) binds;
+        room = λ j binds. binder-room (h .here .signed) (h .numbers) (h .trees) (c .standing) k (resultType (sortOf (c .tree))) e j (h .here .holds .applied) (h .passes) binds;
       }
 
 -- ---- from parts to the first of them, and the others
@@ -134,47 +130,44 @@ module _ {s : List ℕ} {shape : Shape} {i k end m : ℕ} {c : Scope} {j : ℕ} 
 
   -- it passes, and so do the others
   record Passed : Type 0 where
-    first : passOver (h .signed) (entered (inside (h .kind) i (scope (h .numbers) (h .trees) (c .standing) (resultType (sortOf (c .tree))))) j e) ≡ done tt
-    others : passParts (h .signed) (h .kind) (suc i) (scope (h .numbers) (h .trees) (c .standing) (resultType (sortOf (c .tree)))) ps ≡ done tt
+    first : passOver (h .here .signed) (entered (inside (h .kind) i (scope (h .numbers) (h .trees) (c .standing) (resultType (sortOf (c .tree))))) j e) ≡ done tt
+    others : passParts (h .here .signed) (h .kind) (suc i) (scope (h .numbers) (h .trees) (c .standing) (resultType (sortOf (c .tree)))) ps ≡ done tt
 
   passed : Passed
   unfolding passParts
   passed =
-      let t = then-inv (passOver (h .signed) (entered (inside (h .kind) i _) j e)) _ tt (h .passes) in
+      let t = then-inv (passOver (h .here .signed) (entered (inside (h .kind) i _) j e)) _ tt (h .passes) in
       record { first = t .first; others = t .second }
 
   ends-by : k + size e ≤ m
-  ends-by = row-upto (row-others (h .row))
+  ends-by = row-upto (row-others (h .here .row))
 
   module _ (part : PartRead) (inner : Scope) (is-part : partOf part ≡ nthPart (listed (shape .parts)) i) (is : inner ≡ insideScope (partOf part) i c) where
     -- the part read is the one of its kind, and its scope is the one wanted
     own-part : partOf part ≡ own
-    own-part = is-part ∙ ap (λ ps. nthPart ps i) (h .parted)
+    own-part = is-part ∙ ap (λ ps. nthPart ps i) (h .from .own)
 
     scope-entered : Enters own i c inner
     scope-entered = rw (is ∙ ap (λ p. insideScope p i c) own-part) (enters own i c enterable)
 
     -- so it is where the parts are those read
     pub around-part : aroundOf inner ≡ partAround (nthPart (listed (shape .parts)) i) i (aroundOf c)
-    around-part = scope-entered .is ∙ sym (ap (λ ps. partAround (nthPart ps i) i (aroundOf c)) (h .parted))
+    around-part = scope-entered .is ∙ sym (ap (λ ps. partAround (nthPart ps i) i (aroundOf c)) (h .from .own))
 
     -- the first part is entered
     pub first-entered : Entering s k end inner e
     first-entered =
         let sc = agrees own i (aroundOf c) (h .numbers) (h .trees) in
-        let place : j ≡ k = row-place (h .row) in
+        let place : j ≡ k = row-place (h .here .row) in
         let inside-is : inside (h .kind) i (scope (h .numbers) (h .trees) (c .standing) (resultType (sortOf (c .tree)))) ≡ scope (sc .numbers) (sc .trees) (inner .standing) (resultType (sortOf (inner .tree))) =
-        part-scopes (arityIn s) (h .kind) i _ (omega (arith, h .counted, h .many))
+        part-scopes (arityIn s) (h .kind) i _ (omega (arith, h .from .left, h .from .many))
         ∙ sc .is
         ∙ ap (λ (x : Around). scope (sc .numbers) (sc .trees) (x .standing) (resultType (x .sort))) (sym (scope-entered .is)) in
         record {
-          signed = h .signed;
-          known = h .known;
-          holds = row-front (h .row);
-          fits = omega (arith, h .fits, ends-by);
+          here = first-here (h .here);
           numbers = sc .numbers;
           trees = sc .trees;
-          passes = ap₂ (λ x r. passOver (h .signed) (entered x r e)) (sym inside-is) (sym place) ∙ passed .first;
+          passes = ap₂ (λ x r. passOver (h .here .signed) (entered x r e)) (sym inside-is) (sym place) ∙ passed .first;
           table = scope-entered .table;
           named = scope-entered .named;
           words = omega (arith, h .words, scope-entered .standing);
@@ -184,18 +177,13 @@ module _ {s : List ℕ} {shape : Shape} {i k end m : ℕ} {c : Scope} {j : ℕ} 
   pub rest-entered : (n : ℕ) → n ≡ k + size e → EnteringParts s shape (i + 1) n end c ps m
   rest-entered n is = record {
     kind = h .kind;
-    parted = h .parted;
-    many = h .many;
-    counted = omega (arith, h .counted);
-    signed = h .signed;
-    known = h .known;
-    row = rw is (row-others (h .row));
-    fits = h .fits;
+    here = rest-from n is (h .here);
+    from = record { own = h .from .own; many = h .from .many; left = omega (arith, h .from .left) };
     numbers = h .numbers;
     trees = h .trees;
     passes = rw add-one (passed .others);
     table = h .table;
     named = h .named;
-    words = omega (arith, h .words, is, some-record e, ends-by, h .fits);
+    words = omega (arith, h .words, is, some-record e, ends-by, h .here .fits);
     room = h .room;
   }

@@ -17,6 +17,7 @@ use Rattle.meaning.specs.Instructions.{Return, instructionOf}
 use Rattle.rules.specs.Types.{resultType}
 use Rattle.rules.specs.Scopes.{scope, entered}
 use Rattle.rules.specs.PassOne.{passOver}
+use Rattle.walks.specs.Limits.{parametersOfAny}
 use Rattle.translation.specs.Templates.{behind, code, firstWords, wordsKept, functionCode, behindFunction}
 use Rattle.translation.proofs.Addresses.{length-code}
 use Rattle.code_scope.specs.Around.{Around, around, sortOf, wordsIn, mostNames}
@@ -34,7 +35,7 @@ abbrev pub rising : List ℕ
 rising = 0 ∷ 1 ∷ 2 ∷ 3 ∷ 4 ∷ 5 ∷ 6 ∷ 7 ∷ 8 ∷ 9 ∷ 10 ∷ 11 ∷ 12 ∷ 13 ∷ 14 ∷ 15 ∷ []
 
 -- the first of them, as many as a function may have parameters
-first-words : (n : ℕ) → n ≤ 4 → fromLast rising n ≡ firstWords n
+first-words : (n : ℕ) → n ≤ parametersOfAny → fromLast rising n ≡ firstWords n
 unfolding fromLast firstWords
 first-words zero h = refl
 first-words (suc zero) h = refl
@@ -86,16 +87,13 @@ module _ (s entries code′ : List ℕ) (entry j k end : ℕ) (c : Scope) (start
       let words : c .standing ≡ f .parameters = ap (λ (x : Around). x .standing) is in
       let sort : sortOf (c .tree) ≡ f .sort = ap (λ (x : Around). x .sort) is in
       record {
-        signed = h .signed;
-        known = h .known;
-        holds = h .holds;
-        fits = h .fits;
+        here = h .here;
         numbers = f .parameters;
         trees = 1;
-        passes = ap₂ (λ n t. passOver (h .signed) (entered (scope (f .parameters) 1 n (resultType t)) k (f .body))) words sort ∙ h .passes;
+        passes = ap₂ (λ n t. passOver (h .here .signed) (entered (scope (f .parameters) 1 n (resultType t)) k (f .body))) words sort ∙ h .passes;
         table = starts .table;
         named = starts .named;
-        words = omega (arith, small .few, h .few-parameters);
+        words = omega (arith, small .inside .few, h .few-parameters);
       }
 
   pub function-laid : (n : ℕ) (after : List ℕ) → n ≡ wordsKept (sortOf (c .tree))
@@ -103,11 +101,10 @@ module _ (s entries code′ : List ℕ) (entry j k end : ℕ) (c : Scope) (start
       → LaysFunction s entries code′ after entry j k end (record { next = body .next; at = body .at + 1; last = 0 })
   unfolding functionCode behindFunction instructionOf
   function-laid n after keeps wrote = record {
-    went = record {
-      on = l .went .on;
-      inside = l .went .inside;
+    went-on = record {
+      went = l .went-on .went;
       up = omega arith;
-      small = omega (arith, l .went .small);
+      small = omega (arith, l .went-on .small);
       last-small = omega arith;
     };
     next = λ f h. l .came (f .body) (body-entered f h) .next;
@@ -131,4 +128,4 @@ module _ (s entries code′ : List ℕ) (entry j k end : ℕ) (c : Scope) (start
       address f h = l .came (f .body) (body-entered f h) .address ∙ ap (behind (f .body)) (add-zero entry)
 
 pub body-asked : (k end entry : ℕ) → Small k end entry 0 1 → Small k end entry 0 0
-body-asked k end entry small = record { before-end = small .before-end; few = small .few; base-small = small .base-small; small = omega (arith, small .small) }
+body-asked k end entry small = record { inside = small .inside; base-small = small .base-small; small = omega (arith, small .small) }

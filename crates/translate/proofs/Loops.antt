@@ -13,12 +13,13 @@ use lib.Seq.{getD-set-same, getD-set-other, take-all, drop-drop}
 use Rattle.formats.specs.Numbers.{Bytes, numberAt}
 use Rattle.formats.specs.Results.{done, verdict}
 use Rattle.formats.specs.Records.{recordBytes, recordAt, flat}
-use Rattle.formats.specs.Programs.{size, Function, Program}
+use Rattle.formats.specs.Programs.{size, Function, Program, mostFunctions, mostRecords}
 use Rattle.formats.specs.Rows.{headerIn}
 use Rattle.formats.proofs.Results.{Value, passed-is}
 use Rattle.formats.proofs.Rows.{flattens}
 use Rattle.formats.proofs.Written.{written-fits}
-use Rattle.rules.proofs.Walks.{program-held}
+use Rattle.walks.specs.Limits.{recordInstructions, mostLaid}
+use Rattle.walks.proofs.Walks.{program-held}
 use Rattle.meaning.specs.Instructions.{Operation, instructionOf}
 use Rattle.translation.specs.Calls.{checkedRecords}
 use Rattle.translation.proofs.Operands.{ends, length-function}
@@ -34,8 +35,8 @@ use Rattle.translate.proofs.All.{was-checked, behindAll, behind-more, c
 
 -- Counts of a program that was checked.
 pub record Counts (s : List ℕ) (functions end : ℕ) : Type 0 where
-  few : functions ≤ 32
-  short : end ≤ 1 + functions + 1024
+  few : functions ≤ mostFunctions
+  short : end ≤ mostRecords
   functions-are : (program : Program) → checkedRecords s ≡ done program → length (program .functions) ≡ functions
 
 counted : (s : List ℕ) (functions nodes end : ℕ) → Bytes s → verdict (checkedRecords s) ≡ done tt → functions ≡ getD s 1 0 → nodes ≡ numberAt 2 s 2
@@ -49,7 +50,7 @@ counted s functions nodes end bytes checked ef en el =
     let lawful = flattens s (v .value) bytes (w .is-read) .lawful in
     record {
       few = omega (arith, h .functions, lawful .few-functions);
-      short = omega (arith, h .few-nodes);
+      short = omega (arith, h .functions, lawful .few-functions, h .few-nodes);
       functions-are = λ program e. let p = was-checked s program e in omega (arith, program-held s program bytes (p .is-read) .functions);
     }
 
@@ -93,14 +94,14 @@ begun s functions nodes end program bytes ef en el e =
 -- The entries of the functions before j are in the table.
 pub record Measuring (s : List ℕ) (functions end : ℕ) (entries : List ℕ) (k entry j : ℕ) : Type 0 where
   pub counts : Counts s functions end
-  pub table : length entries ≡ 32
+  pub table : length entries ≡ mostFunctions
   pub within : k ≤ end
-  pub small : entry + 8 * (end - k) + (functions - j) ≤ 20000
+  pub small : entry + recordInstructions * (end - k) + (functions - j) ≤ mostLaid
   pub standing : (program : Program) → checkedRecords s ≡ done program → Standing s end program k j entry
   pub entered : (program : Program) → checkedRecords s ≡ done program → (b : ℕ) → b < j → getD entries b 0 ≡ entryOf program b
 
 pub measure-first : (s : List ℕ) (functions nodes end : ℕ) (entries : List ℕ) → Bytes s → verdict (checkedRecords s) ≡ done tt → functions ≡ getD s 1 0 → nodes ≡ numberAt 2 s 2
-    → end ≡ 1 + functions + nodes → length entries ≡ 32
+    → end ≡ 1 + functions + nodes → length entries ≡ mostFunctions
     → Measuring s functions end entries (1 + functions) 0 0
 measure-first s functions nodes end entries bytes checked ef en el long =
     let c = counted s functions nodes end bytes checked ef en el in
@@ -116,13 +117,12 @@ measure-first s functions nodes end entries bytes checked ef en el long =
 module _ (s : List ℕ) (functions end : ℕ) (entries : List ℕ) (k entry j : ℕ) (m : Measuring s functions end entries k entry j) where
   pub measure-asked : j < functions → Small k end entry 0 1
   measure-asked more = record {
-    before-end = m .within;
-    few = omega (arith, m .counts .few, m .counts .short);
+    inside = record { before-end = m .within; few = m .counts .short };
     base-small = omega (arith, m .small);
     small = omega (arith, m .counts .few, m .counts .short);
   }
 
-  pub measure-index : j < functions → j < 32
+  pub measure-index : j < functions → j < mostFunctions
   measure-index more = omega (arith, m .counts .few)
 
   pub measure-more : (no-entries no-code after : List ℕ) (r : Laid) → j < functions → LaysFunction s no-entries no-code after entry j k end r
@@ -130,8 +130,8 @@ module _ (s : List ℕ) (functions end : ℕ) (entries : List ℕ) (k entry j : 
   measure-more no-entries no-code after r more l = record {
     counts = m .counts;
     table = length-set entries j (entry % 65536) ∙ m .table;
-    within = l .went .inside;
-    small = omega (arith, m .small, l .went .small);
+    within = l .went-on .went .inside;
+    small = omega (arith, m .small, l .went-on .small);
     standing = λ program e.
         let f = follow program e in
         record { before = _; left = f .left; entry-is = f .entry-is };
@@ -148,7 +148,7 @@ module _ (s : List ℕ) (functions end : ℕ) (entries : List ℕ) (k entry j : 
       follow program e = following s no-entries no-code after end program k j entry (m .standing program e) r (omega (arith, m .counts .functions-are program e)) l
 
   pub measure-sum : (no-entries no-code after : List ℕ) (r : Laid) → j < functions → LaysFunction s no-entries no-code after entry j k end r → Fits w64 (entry + r .at)
-  measure-sum no-entries no-code after r more l = record { fits = omega (arith, m .small, l .went .small) }
+  measure-sum no-entries no-code after r more l = record { fits = omega (arith, m .small, l .went-on .small) }
 
   pub measured : functions ≤ j → Tabled s (record { entries = entries; count = entry })
   unfolding operationsOf
@@ -194,7 +194,7 @@ pub record UpTo (s : List ℕ) (functions end : ℕ) (code₀ code : List ℕ) (
   pub before : List Function
   pub left : FunctionsLeft s end program before k j
   pub laid : code ≡ laidAt code₀ 0 (functionsCode (entryOf program) 0 before)
-  pub small : behindAll before 0 + 8 * (end - k) + (functions - j) ≤ 20000
+  pub small : behindAll before 0 + recordInstructions * (end - k) + (functions - j) ≤ mostLaid
 
 pub record LayingAll (s entries : List ℕ) (functions end : ℕ) (code₀ code : List ℕ) (k j : ℕ) : Type 0 where
   pub ready : Ready s entries code₀
@@ -265,8 +265,7 @@ module _ (s entries : List ℕ) (functions end : ℕ) (code₀ code : List ℕ) 
         let v = the-program in
         let u = l .up-to (v .value) (v .is) in
         record {
-          before-end = l .within;
-          few = omega (arith, l .counts .few, l .counts .short);
+          inside = record { before-end = l .within; few = l .counts .short };
           base-small = omega (arith, u .small, begins-at (v .value) (v .is));
           small = omega (arith, l .counts .few, l .counts .short);
         }
@@ -277,7 +276,7 @@ module _ (s entries : List ℕ) (functions end : ℕ) (code₀ code : List ℕ) 
     laid-on after r f = record {
       ready = l .ready;
       counts = l .counts;
-      within = f .went .inside;
+      within = f .went-on .went .inside;
       up-to = λ program e.
           let u = l .up-to program e in
           let at = begins-at program e in
@@ -311,7 +310,7 @@ module _ (s entries : List ℕ) (functions end : ℕ) (code₀ code : List ℕ) 
                 ∙ laid-behind code₀ 0 done-code own entry long-done (omega arith)
                 ∙ ap (λ n. laidAt code₀ 0 (done-code ++ functionCode (entryOf program) n here)) at
                 ∙ ap (laidAt code₀ 0) (sym (code-more (entryOf program) 0 (u .before) here));
-            small = omega (arith, u .small, f .went .small, o .entry-is, at);
+            small = omega (arith, u .small, f .went-on .small, o .entry-is, at);
           };
     }
 

@@ -27,9 +27,9 @@ use Rattle.records.specs.declared.Parts.{Parts}
 use Rattle.records.specs.declared.Template.{Template}
 use Rattle.records.specs.declared.RecordRead.{RecordRead}
 use Rattle.records.specs.declared.RecordRead.the-variants.{Read, Refused}
-use Rattle.rules.proofs.Parts.{headOf, Row}
-use Rattle.rules.proofs.Parts.{end as no-part, next as a-part}
-use Rattle.rules.proofs.Walks.{node-held}
+use Rattle.walks.specs.Standing.{headOf, Row}
+use Rattle.walks.specs.Standing.{end as no-part, next as a-part}
+use Rattle.walks.proofs.Walks.{node-held}
 use Rattle.meaning.specs.Instructions.{Operation}
 use Rattle.translation.specs.Templates.{behind, code}
 use Rattle.translation.proofs.Addresses.{length-code}
@@ -41,7 +41,7 @@ use Rattle.template.proofs.Items.{few-items}
 use Rattle.translate.specs.declared.Laid.{Laid}
 use Rattle.translate.specs.declared.Shape.{Shape}
 use Rattle.translate.specs.Laying.{laidAt, past, partsCode, lastPart, behindParts}
-use Rattle.translate.specs.Walk.{Small, SmallParts, dueFrom, Went, Entering, Came, Lays, EnteringParts, CameParts, LaysParts}
+use Rattle.translate.specs.Walk.{Small, SmallParts, dueFrom, WentOn, Entering, Came, Lays, EnteringParts, CameParts, LaysParts}
 use Rattle.translate.proofs.Written.{length-laid, laid-behind, laid-front, laid-each}
 use Rattle.translate.proofs.Column.{past-length, length-parts, by-column, behind-column}
 use Rattle.translate.proofs.Entering.{own-parts, own-template, own-count, parts-entered, around-part, first-entered, rest-entered}
@@ -53,10 +53,9 @@ module _ (s entries code′ : List ℕ) (base at k end : ℕ) (c : Scope) where
   abbrev stays : Laid
   stays = record { next = k; at = at; last = at }
 
-  stayed : Small k end base at 0 → Went k end at 0 stays
+  stayed : Small k end base at 0 → WentOn k end at 0 stays
   stayed small = record {
-    on = le-refl k;
-    inside = small .before-end;
+    went = record { on = le-refl k; inside = small .inside .before-end };
     up = le-refl at;
     small = omega arith;
     last-small = omega (arith, small .small);
@@ -65,22 +64,22 @@ module _ (s entries code′ : List ℕ) (base at k end : ℕ) (c : Scope) where
   -- past the end no expression stands
   pub lay-past : Small k end base at 0 → end ≤ k → Lays s entries code′ code′ base at k end c stays
   lay-past small over = record {
-    went = stayed small;
-    came = λ e h. absurd (omega (arith, some-record e, h .fits));
-    lays = λ e h. absurd (omega (arith, some-record e, h .fits));
+    went-on = stayed small;
+    came = λ e h. absurd (omega (arith, some-record e, h .here .fits));
+    lays = λ e h. absurd (omega (arith, some-record e, h .here .fits));
   }
 
   module _ (read : RecordRead) (told : described read ≡ onValue shapeOf (nodeIn s k)) where
     -- no expression begins with a record that is refused
     pub lay-unread : (why : Refusal) (place : ℕ) → Small k end base at 0 → read ≡ Refused why place → Lays s entries code′ code′ base at k end c stays
     lay-unread why place small is = record {
-      went = stayed small;
+      went-on = stayed small;
       came = λ e h. never e h;
       lays = λ e h. never e h;
     }
       where
         never : {A : Type 0} (e : Expr) → Entering s k end c e → A
-        never e h = done-not (told ∙ ap (onValue shapeOf) (node-held s (h .signed) k e (h .holds))) (ap described is)
+        never e h = done-not (told ∙ ap (onValue shapeOf) (node-held s (h .here .signed) k e (h .here .holds))) (ap described is)
 
     pub lay-read : (node : Record) (parts : Parts) (template : Template) (count : ℕ) (after : List ℕ) (r : Laid)
         → read ≡ Read node parts template
@@ -89,12 +88,11 @@ module _ (s entries code′ : List ℕ) (base at k end : ℕ) (c : Scope) where
         → LaysParts s entries code′ after base at at (record { parts = parts; template = template; count = count }) 0 (k + 1) end c r
         → Lays s entries code′ after base at k end c r
     lay-read node parts template count after r is counted more l = record {
-      went = record {
-        on = omega (arith, l .went .on);
-        inside = l .went .inside;
-        up = l .went .up;
-        small = omega (arith, l .went .small);
-        last-small = l .went .last-small;
+      went-on = record {
+        went = record { on = omega (arith, l .went-on .went .on); inside = l .went-on .went .inside };
+        up = l .went-on .up;
+        small = omega (arith, l .went-on .small);
+        last-small = l .went-on .last-small;
       };
       came = λ e h. record { next = through e h .next; address = whole e h };
       lays = λ e h room.
@@ -132,9 +130,9 @@ data Split (s : List ℕ) (shape : Shape) (i k end : ℕ) (c : Scope) : List Pla
   some : {m : ℕ} {e : Expr} {ps : List Placed} → EnteringParts s shape i k end c (placed k e ∷ ps) m → Split s shape i k end c (placed k e ∷ ps) m
 
 split : {s : List ℕ} {shape : Shape} {i k end m : ℕ} {c : Scope} {ps : List Placed} → EnteringParts s shape i k end c ps m → Split s shape i k end c ps m
-split {s} {shape} {i} {k} {end} {m} {c} {ps} h = by ps m (h .row) h
+split {s} {shape} {i} {k} {end} {m} {c} {ps} h = by ps m (h .here .row) h
   where
-    by : (ps : List Placed) (m : ℕ) → Row s (h .signed) k ps m → EnteringParts s shape i k end c ps m → Split s shape i k end c ps m
+    by : (ps : List Placed) (m : ℕ) → Row s (h .here .signed) k ps m → EnteringParts s shape i k end c ps m → Split s shape i k end c ps m
     by ps m no-part h = none h
     by ps m (a-part e more) h = some h
 
@@ -146,9 +144,8 @@ module _ (s entries code′ : List ℕ) (base at last : ℕ) (shape : Shape) (i 
       → LaysParts s entries code′ after base at last shape i k end c (record { next = k; at = at + n; last = last })
   unfolding behindParts lastPart partsCode
   parts-done n after small over many wrote = record {
-    went = record {
-      on = le-refl k;
-      inside = small .small .before-end;
+    went-on = record {
+      went = record { on = le-refl k; inside = small .small .inside .before-end };
       up = omega arith;
       small = omega (arith, few-items (shape .template .last));
       last-small = small .last-small;
@@ -163,14 +160,14 @@ module _ (s entries code′ : List ℕ) (base at last : ℕ) (shape : Shape) (i 
         address = omega (arith, past-length (row (shape .template .last)) (base + at));
         last-part = refl;
       }
-      came (some h) = absurd (omega (arith, h .counted))
+      came (some h) = absurd (omega (arith, h .from .left))
 
       lays : {ps : List Placed} {m : ℕ} → Split s shape i k end c ps m → recordBytes * (at + n) ≤ length code′
           → after ≡ laidAt code′ at (partsCode (entriesIn entries) (arityIn s) (listed (shape .parts)) (columnOf (shape .template)) (aroundOf c) (base + last) (base + (at + n)) i (base + at) ps)
       lays (none h) room =
           let f = operationFor (entriesIn entries) (arityIn s) (aroundOf c) (base + last) (base + (at + n)) in
           wrote ∙ laid-each code′ at (map f (row (shape .template .last))) (omega (arith, length-map (row (shape .template .last)) f))
-      lays (some h) room = absurd (omega (arith, h .counted))
+      lays (some h) room = absurd (omega (arith, h .from .left))
 
   module _ (items : Items) (n : ℕ) (part : Part) (inner : Scope) (laid : Laid) (between : List ℕ)
       (before-it : ItemsBefore (shape .template) i items) (many : n ≡ length (row items)) (is-part : partOf part ≡ nthPart (listed (shape .parts)) i)
@@ -178,19 +175,18 @@ module _ (s entries code′ : List ℕ) (base at last : ℕ) (shape : Shape) (i 
     -- a part that is not entered: none stands there
     pub parts-stuck : laid .next ≤ k → LaysParts s entries code′ between base at last shape i k end c laid
     parts-stuck stuck = record {
-      went = record {
-        on = p .went .on;
-        inside = p .went .inside;
-        up = omega (arith, p .went .up);
-        small = omega (arith, p .went .small, before-it .few);
-        last-small = p .went .last-small;
+      went-on = record {
+        went = record { on = p .went-on .went .on; inside = p .went-on .went .inside };
+        up = omega (arith, p .went-on .up);
+        small = omega (arith, p .went-on .small, before-it .few);
+        last-small = p .went-on .last-small;
       };
       came = λ ps m h. never (split h);
       lays = λ ps m h room. never (split h);
     }
       where
         never : {A : Type 0} {ps : List Placed} {m : ℕ} → Split s shape i k end c ps m → A
-        never (none h) = absurd (omega (arith, h .counted))
+        never (none h) = absurd (omega (arith, h .from .left))
         never (some {e = e} h) = absurd (omega (arith, some-record e, p .came e (first-entered h part inner is-part inside) .next))
 
     pub parts-more : (rest : Laid) (there after : List ℕ)
@@ -199,12 +195,11 @@ module _ (s entries code′ : List ℕ) (base at last : ℕ) (shape : Shape) (i 
         → LaysParts s entries code′ after base at last shape i k end c rest
     unfolding behindParts lastPart partsCode
     parts-more rest there after l wrote = record {
-      went = record {
-        on = omega (arith, p .went .on, l .went .on);
-        inside = l .went .inside;
-        up = omega (arith, p .went .up, l .went .up);
-        small = omega (arith, p .went .small, l .went .small, before-it .few);
-        last-small = l .went .last-small;
+      went-on = record {
+        went = record { on = omega (arith, p .went-on .went .on, l .went-on .went .on); inside = l .went-on .went .inside };
+        up = omega (arith, p .went-on .up, l .went-on .up);
+        small = omega (arith, p .went-on .small, l .went-on .small, before-it .few);
+        last-small = l .went-on .last-small;
       };
       came = λ ps m h. came (split h);
       lays = λ ps m h room. lays (split h) room;
@@ -233,7 +228,7 @@ module _ (s entries code′ : List ℕ) (base at last : ℕ) (shape : Shape) (i 
         follow {e} h = own h .address ∙ ap (behind e) begins
 
         came : {ps : List Placed} {m : ℕ} → Split s shape i k end c ps m → CameParts base at last t i ps m rest
-        came (none h) = absurd (omega (arith, h .counted))
+        came (none h) = absurd (omega (arith, h .from .left))
         came (some {e = e} {ps = ps} h) = record {
           next = others h .next;
           address = others h .address ∙ ap₂ (λ j a. behindParts t j a ps) (add-one i) (follow h);
@@ -242,7 +237,7 @@ module _ (s entries code′ : List ℕ) (base at last : ℕ) (shape : Shape) (i 
 
         lays : {ps : List Placed} {m : ℕ} → Split s shape i k end c ps m → recordBytes * rest .at ≤ length code′
             → after ≡ laidAt code′ at (partsCode es (arityIn s) parts-read t (aroundOf c) (base + rest .last) (base + rest .at) i (base + at) ps)
-        lays (none h) room = absurd (omega (arith, h .counted))
+        lays (none h) room = absurd (omega (arith, h .from .left))
         lays (some {m = m} {e = e} {ps = ps} h) room =
             let f = operationFor es (arityIn s) (aroundOf c) (base + rest .last) (base + rest .at) in
             let G = map f (row items) in
@@ -251,7 +246,7 @@ module _ (s entries code′ : List ℕ) (base at last : ℕ) (shape : Shape) (i 
             let long-G : length G ≡ n = length-map (row items) f ∙ sym many in
             let long-P : (at + n) + length P ≡ laid .at = omega (arith, length-code es (sortOf (inner .tree)) (wordsIn inner) (inner .standing) (base + (at + n)) e, own h .address) in
             let long-R : laid .at + length R ≡ rest .at = omega (arith, length-parts es (arityIn s) parts-read t (aroundOf c) (base + rest .last) (base + rest .at) (i + 1) (base + laid .at) ps, others h .address) in
-            let ups = l .went .up in
+            let ups = l .went-on .up in
             let first : between ≡ laidAt code′ (at + n) P = p .lays e (first-entered h part inner is-part inside) (omega arith) in
             let same-length : length between ≡ length code′ = ap length first ∙ length-laid code′ (at + n) P in
             let second : there ≡ laidAt code′ (at + n) (P ++ R) =
@@ -262,7 +257,7 @@ module _ (s entries code′ : List ℕ) (base at last : ℕ) (shape : Shape) (i 
             let own-part : P ≡ code es (partAround (nthPart parts-read i) i (aroundOf c) .sort) (partAround (nthPart parts-read i) i (aroundOf c) .words) (partAround (nthPart parts-read i) i (aroundOf c) .standing) (past (before t i) (base + at)) e =
             ap₂ (λ (x : Around) (a : ℕ). code es (x .sort) (x .words) (x .standing) a e) (around-part h part inner is-part inside) begins in
             wrote
-            ∙ laid-each there at G (omega (arith, p .went .up))
+            ∙ laid-each there at G (omega (arith, p .went-on .up))
             ∙ ap (λ (b : List ℕ). laidAt b at G) second
             ∙ laid-front code′ at G (P ++ R) (at + n) (omega arith) (omega (arith, length-append P R))
             ∙ ap (laidAt code′ at)
@@ -278,33 +273,31 @@ module _ (k end base at : ℕ) where
   pub few-parts : Small k end base at 0 → k < end → SmallParts 0 (k + 1) end base at at
   few-parts small more =
       record {
-        small = record { before-end = omega arith; few = small .few; base-small = small .base-small; small = omega (arith, small .small) };
+        small = record { inside = record { before-end = omega arith; few = small .inside .few }; base-small = small .base-small; small = omega (arith, small .small) };
         last-small = omega (arith, small .small);
       }
 
 module _ (k end base at i : ℕ) (template : Template) (items : Items) (n : ℕ) (before-it : ItemsBefore template i items) (many : n ≡ length (row items)) where
   pub few-part : (last : ℕ) → SmallParts i k end base at last → Small k end base (at + n) 0
   few-part last small = record {
-    before-end = small .small .before-end;
-    few = small .small .few;
+    inside = small .small .inside;
     base-small = small .small .base-small;
     small = omega (arith, small .small .small, before-it .few);
   }
 
-  pub few-rest : (last : ℕ) (part : Laid) → SmallParts i k end base at last → Went k end (at + n) 0 part → SmallParts (i + 1) (part .next) end base (part .at) (at + n)
-  few-rest last part small went =
+  pub few-rest : (last : ℕ) (part : Laid) → SmallParts i k end base at last → WentOn k end (at + n) 0 part → SmallParts (i + 1) (part .next) end base (part .at) (at + n)
+  few-rest last part small went-on =
       record {
         small = record {
-          before-end = went .inside;
-          few = small .small .few;
+          inside = record { before-end = went-on .went .inside; few = small .small .inside .few };
           base-small = small .small .base-small;
-          small = omega (arith, small .small .small, before-it .few, went .small);
+          small = omega (arith, small .small .small, before-it .few, went-on .small);
         };
         last-small = omega (arith, small .small .small, before-it .few);
       }
 
-pub fall-on : (t k end at : ℕ) (part : Laid) → 2 * (end - k) + 1 ≡ t → Went k end at 0 part → k < part .next → 2 * (end - part .next) + 1 < t
-fall-on t k end at part is went on = omega (arith, went .inside)
+pub fall-on : (t k end at : ℕ) (part : Laid) → 2 * (end - k) + 1 ≡ t → WentOn k end at 0 part → k < part .next → 2 * (end - part .next) + 1 < t
+fall-on t k end at part is went-on on = omega (arith, went-on .went .inside)
 
 -- sums of addresses do not overflow
 module _ (k end base at i last : ℕ) (small : SmallParts i k end base at last) where
@@ -317,11 +310,11 @@ module _ (k end base at i last : ℕ) (small : SmallParts i k end base at last) 
   pub sum-last : Fits w64 (base + last)
   sum-last = record { fits = omega (arith, small .small .base-small, small .last-small) }
 
-  pub sum-rest-last : (j from due : ℕ) (rest : Laid) → Went j end from due rest → Fits w64 (base + rest .last)
-  sum-rest-last j from due rest went = record { fits = omega (arith, small .small .base-small, went .last-small) }
+  pub sum-rest-last : (j from due : ℕ) (rest : Laid) → WentOn j end from due rest → Fits w64 (base + rest .last)
+  sum-rest-last j from due rest went-on = record { fits = omega (arith, small .small .base-small, went-on .last-small) }
 
-  pub sum-rest-at : (shape : Shape) (items : Items) (n : ℕ) (part rest : Laid) → ItemsBefore (shape .template) i items → n ≡ length (row items) → Went k end (at + n) 0 part
-      → Went (part .next) end (part .at) (dueFrom (i + 1)) rest → Fits w64 (base + rest .at)
+  pub sum-rest-at : (shape : Shape) (items : Items) (n : ℕ) (part rest : Laid) → ItemsBefore (shape .template) i items → n ≡ length (row items) → WentOn k end (at + n) 0 part
+      → WentOn (part .next) end (part .at) (dueFrom (i + 1)) rest → Fits w64 (base + rest .at)
   sum-rest-at shape items n part rest before-it many went on =
       record { fits = omega (arith, small .small .small, small .small .base-small, before-it .few, went .small, on .small) }
 

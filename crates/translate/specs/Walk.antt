@@ -5,15 +5,17 @@ use mathlib.Core.List.{List}
 use mathlib.Core.Path.{_≡_}
 use lib.ListN.{length}
 use Rattle.formats.specs.CodeColumn.{Template}
-use Rattle.formats.specs.Records.{Kind, recordBytes, partsOf, nthPart, partCount}
+use Rattle.formats.specs.Records.{Kind, recordBytes, partsOf, nthPart}
 use Rattle.formats.specs.Results.{done, verdict}
-use Rattle.formats.specs.Programs.{Expr, size, Placed, Signature, Function, signatureOf, Program}
+use Rattle.formats.specs.Programs.{Expr, size, Placed, Function, signatureOf, Program}
 use Rattle.formats.specs.Rows.{arityIn, functionIn}
 use Rattle.records.specs.Read.{listed, columnOf}
 use Rattle.rules.specs.Types.{resultType}
 use Rattle.rules.specs.Scopes.{scope, entered}
 use Rattle.rules.specs.PassOne.{passOver}
-use Rattle.rules.proofs.Parts.{Known, Holds, Row, passParts}
+use Rattle.walks.specs.Standing.{passParts}
+use Rattle.walks.specs.Limits.{parametersOfAny, mostCount, recordInstructions, mostLaid}
+use Rattle.walks.specs.Walks.{Inside, Went, Here, HereRow, PartsFrom}
 use Rattle.formats.specs.Written.{written}
 use Rattle.translation.specs.Calls.{checkedRecords}
 use Rattle.translation.specs.Templates.{code, behind, firstWords, functionCode, behindFunction, entryOf, operationsOf, codeOf}
@@ -25,12 +27,11 @@ use Rattle.translate.specs.declared.Shape.{Shape}
 use Rattle.translate.specs.declared.Table.{Table}
 use Rattle.translate.specs.Laying.{laidAt, partsCode, lastPart, behindParts}
 
--- Addresses stay small up to the end: a record lays down at most 8 instructions, two at each of four places. Those still due at this record are `due`.
+-- Addresses stay small up to the end, by the instructions that a record lays down at most. Those still due at this record are `due`.
 pub record Small (k end base at due : ℕ) : Type 0 where
-  pub before-end : k ≤ end
-  pub few : end ≤ 2000
-  pub base-small : base ≤ 20000
-  pub small : at + 8 * (end - k) + due ≤ 20000
+  pub inside : Inside k end
+  pub base-small : base ≤ mostLaid
+  pub small : at + recordInstructions * (end - k) + due ≤ mostLaid
 
 -- What may still be laid down at a record from part i on.
 abbrev pub dueFrom : ℕ → ℕ
@@ -39,30 +40,26 @@ dueFrom i = 2 * (3 - i) + 2
 -- On entering part i of a record; `last` is where the part before it begins.
 pub record SmallParts (i k end base at last : ℕ) : Type 0 where
   pub small : Small k end base at (dueFrom i)
-  pub last-small : last ≤ 20000
+  pub last-small : last ≤ mostLaid
 
--- How far it went: not past the end, and no further than a record's 8 instructions.
-pub record Went (k end at due : ℕ) (r : Laid) : Type 0 where
-  pub on : k ≤ r .next
-  pub inside : r .next ≤ end
+-- How far it went on, and no further than a record's instructions.
+pub record WentOn (k end at due : ℕ) (r : Laid) : Type 0 where
+  pub went : Went k end (r .next)
   pub up : at ≤ r .at
-  pub small : r .at + 8 * (end - r .next) ≤ at + 8 * (end - k) + due
-  pub last-small : r .last ≤ 20000
+  pub small : r .at + recordInstructions * (end - r .next) ≤ at + recordInstructions * (end - k) + due
+  pub last-small : r .last ≤ mostLaid
 
 -- ---- an expression
 
 -- Expression e of a program stands at record k, ends by the end, and passes pass one in this scope.
 pub record Entering (s : List ℕ) (k end : ℕ) (c : Scope) (e : Expr) : Type 0 where
-  pub signed : List Signature
-  pub known : Known s signed
-  pub holds : Holds s signed k e
-  pub fits : k + size e ≤ end
+  pub here : Here s end k e
   pub numbers : ℕ
   pub trees : ℕ
-  pub passes : passOver signed (entered (scope numbers trees (c .standing) (resultType (sortOf (c .tree)))) k e) ≡ done tt
+  pub passes : passOver (here .signed) (entered (scope numbers trees (c .standing) (resultType (sortOf (c .tree)))) k e) ≡ done tt
   pub table : length (c .words) ≡ mostNames
   pub named : Named c
-  pub words : c .standing + (end - k) ≤ 4000
+  pub words : c .standing + (end - k) ≤ mostCount
 
 -- The record and the address behind it.
 pub record Came (base at k : ℕ) (e : Expr) (r : Laid) : Type 0 where
@@ -71,7 +68,7 @@ pub record Came (base at k : ℕ) (e : Expr) (r : Laid) : Type 0 where
 
 -- The expression at record k, laid down from address base + at on.
 pub record Lays (s entries code′ after : List ℕ) (base at k end : ℕ) (c : Scope) (r : Laid) : Type 0 where
-  pub went : Went k end at 0 r
+  pub went-on : WentOn k end at 0 r
   pub came : (e : Expr) → Entering s k end c e → Came base at k e r
   pub lays : (e : Expr) → Entering s k end c e → recordBytes * r .at ≤ length code′
       → after ≡ laidAt code′ at (code (entriesIn entries) (sortOf (c .tree)) (wordsIn c) (c .standing) (base + at) e)
@@ -81,19 +78,14 @@ pub record Lays (s entries code′ after : List ℕ) (base at k end : ℕ) (c : 
 -- Parts of a record from number i on stand one behind the other, the next at record k and the last before record m, and pass pass one.
 pub record EnteringParts (s : List ℕ) (shape : Shape) (i k end : ℕ) (c : Scope) (ps : List Placed) (m : ℕ) : Type 0 where
   pub kind : Kind
-  pub parted : listed (shape .parts) ≡ partsOf kind
-  pub many : shape .count ≡ partCount (arityIn s) (partsOf kind)
-  pub counted : i + length ps ≡ shape .count
-  pub signed : List Signature
-  pub known : Known s signed
-  pub row : Row s signed k ps m
-  pub fits : m ≤ end
+  pub here : HereRow s end k ps m
+  pub from : PartsFrom s (listed (shape .parts)) kind i (shape .count) ps
   pub numbers : ℕ
   pub trees : ℕ
-  pub passes : passParts signed kind i (scope numbers trees (c .standing) (resultType (sortOf (c .tree)))) ps ≡ done tt
+  pub passes : passParts (here .signed) kind i (scope numbers trees (c .standing) (resultType (sortOf (c .tree)))) ps ≡ done tt
   pub table : length (c .words) ≡ mostNames
   pub named : Named c
-  pub words : c .standing + i + 1 + (end - k) ≤ 4000
+  pub words : c .standing + i + 1 + (end - k) ≤ mostCount
   pub room : (j : ℕ) → Binds (nthPart (partsOf kind) j) → c .standing < mostNames
 
 pub record CameParts (base at last : ℕ) (t : Template) (i : ℕ) (ps : List Placed) (m : ℕ) (r : Laid) : Type 0 where
@@ -103,7 +95,7 @@ pub record CameParts (base at last : ℕ) (t : Template) (i : ℕ) (ps : List Pl
 
 -- The parts from number i on, with what stands before and behind them.
 pub record LaysParts (s entries code′ after : List ℕ) (base at last : ℕ) (shape : Shape) (i k end : ℕ) (c : Scope) (r : Laid) : Type 0 where
-  pub went : Went k end at (dueFrom i) r
+  pub went-on : WentOn k end at (dueFrom i) r
   pub came : (ps : List Placed) (m : ℕ) → EnteringParts s shape i k end c ps m → CameParts base at last (columnOf (shape .template)) i ps m r
   pub lays : (ps : List Placed) (m : ℕ) → EnteringParts s shape i k end c ps m → recordBytes * r .at ≤ length code′
       → after ≡ laidAt code′ at (partsCode (entriesIn entries) (arityIn s) (listed (shape .parts)) (columnOf (shape .template)) (aroundOf c) (base + r .last) (base + r .at) i (base + at) ps)
@@ -112,24 +104,21 @@ pub record LaysParts (s entries code′ after : List ℕ) (base at last : ℕ) (
 
 -- The scope on entering the body of function j.
 pub record Starts (s : List ℕ) (j : ℕ) (c : Scope) : Type 0 where
-  pub is : (f : Function) → functionIn s j ≡ done (signatureOf f) → f .parameters ≤ 4
+  pub is : (f : Function) → functionIn s j ≡ done (signatureOf f) → f .parameters ≤ parametersOfAny
       → aroundOf c ≡ around (f .sort) (firstWords (f .parameters)) (f .parameters)
   pub table : length (c .words) ≡ mostNames
   pub named : Named c
 
 -- Function f with number j: its body stands at record k.
 pub record EnteringFunction (s : List ℕ) (j k end : ℕ) (f : Function) : Type 0 where
-  pub signed : List Signature
-  pub known : Known s signed
+  pub here : Here s end k (f .body)
   pub signature : functionIn s j ≡ done (signatureOf f)
-  pub holds : Holds s signed k (f .body)
-  pub fits : k + size (f .body) ≤ end
-  pub few-parameters : f .parameters ≤ 4
-  pub passes : passOver signed (entered (scope (f .parameters) 1 (f .parameters) (resultType (f .sort))) k (f .body)) ≡ done tt
+  pub few-parameters : f .parameters ≤ parametersOfAny
+  pub passes : passOver (here .signed) (entered (scope (f .parameters) 1 (f .parameters) (resultType (f .sort))) k (f .body)) ≡ done tt
 
 -- Function j, its body at record k, laid down from its entry on.
 pub record LaysFunction (s entries code′ after : List ℕ) (entry j k end : ℕ) (r : Laid) : Type 0 where
-  pub went : Went k end 0 1 r
+  pub went-on : WentOn k end 0 1 r
   pub next : (f : Function) → EnteringFunction s j k end f → r .next ≡ k + size (f .body)
   pub address : (f : Function) → EnteringFunction s j k end f → entry + r .at ≡ behindFunction f entry
   pub lays : (f : Function) → EnteringFunction s j k end f → recordBytes * r .at ≤ length code′
@@ -141,7 +130,7 @@ pub record LaysFunction (s entries code′ after : List ℕ) (entry j k end : �
 pub record Tabled (s : List ℕ) (t : Table) : Type 0 where
   pub entries : (program : Program) → checkedRecords s ≡ done program → (b : ℕ) → b < length (program .functions) → entriesIn (t .entries) b ≡ entryOf program b
   pub count : (program : Program) → checkedRecords s ≡ done program → t .count ≡ length (operationsOf program)
-  pub small : t .count ≤ 20000
+  pub small : t .count ≤ mostLaid
 
 -- The records are a program that both passes accept, the table has its entries, and its code has room.
 pub record Ready (s entries code′ : List ℕ) : Type 0 where

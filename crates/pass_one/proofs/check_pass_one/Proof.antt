@@ -12,5 +12,5 @@ check-pass-one-spec =
     (λ c. search needs)
     (λ c. search checked)
     (λ c. search needs)
-    (λ c κs. search needs)
+    (λ c κs. search checked)
     (λ c. search checked))

@@ -1,4 +1,4 @@
--- Expressions in flat records: their own record, and their parts one behind the other. For functions that walk a program's records.
+-- Expressions in flat records: their own record, and their parts one after the other.
 use Prim.Native.Nat.{ℕ, suc, _+_}
 use mathlib.Core.List.{List, [], _∷_}
 use mathlib.Core.Path.{_≡_}

@@ -11,9 +11,9 @@ use Rattle.formats.specs.Results.{Result, done}
 use Rattle.formats.specs.Records.{recordAt}
 use Rattle.formats.specs.Programs.{size, total, Function, signatureOf, Program, signatures}
 use Rattle.formats.specs.Rows.{headerIn, functionIn, readProgram}
 use Rattle.rules.specs.OrderChecker.{firstNode}
-use Rattle.rules.proofs.Parts.{Known, Holds, Bodies, no-more, one-more}
-use Rattle.rules.proofs.Walks.{program-held}
+use Rattle.walks.specs.Standing.{Known, Holds, Bodies, no-more, one-more}
+use Rattle.walks.proofs.Walks.{program-held}
 
 module _ (s : List ℕ) (functions last : ℕ) (whole : Program → Result (Unit {0})) (row : Program → ℕ → List Function → Result (Unit {0})) where
   -- the functions from j on say what the whole row does

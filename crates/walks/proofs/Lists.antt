@@ -5,9 +5,9 @@ use mathlib.Core.Path.{_≡_, refl, ap}
 use Rattle.formats.specs.Results.{Result, done, refusal, andThen}
 use Rattle.formats.specs.Records.{Kind, Const, Var, Add, IfZero, Let, Leaf, Node, Case, Call}
 use Rattle.formats.specs.Programs.{Expr, const, var, add, ifZero, letIn, leafOf, nodeOf, caseOf, call, Args, noArgs, arg, size, Placed, behind, argsAt, partsAt, Signature}
 use Rattle.rules.specs.PassTwo.{takeHead, walk, walkArgs}
-use Rattle.rules.proofs.Parts.{headOf, Holds, Row, end, next, walkParts}
-use Rattle.rules.proofs.Walks.{then-nothing}
+use Rattle.walks.specs.Standing.{headOf, Holds, Row, end, next, walkParts}
+use Rattle.walks.proofs.Walks.{then-nothing}
 
 -- what follows may be said in another way
 then-same : {A B : Type 0} (r : Result A) (f g : A → Result B) → ((x : A) → f x ≡ g x) → andThen r f ≡ andThen r g

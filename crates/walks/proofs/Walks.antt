@@ -18,11 +18,11 @@ use Rattle.formats.proofs.Results.{done-injective, then-inv, each-inv, each-nth
 use Rattle.formats.proofs.Records.{node-done}
 use Rattle.formats.proofs.Programs.{stands-left, stands-right, every-left, every-right}
 use Rattle.formats.proofs.Rows.{FieldsRead, header-own, function-read, summed-inv, bodies-inv, row-read, flattens, nodes-stand}
 use Rattle.rules.specs.Scopes.{Scope, inside, entry, Entry, entered, enteredArgs}
 use Rattle.rules.specs.PassOne.{atEntry, passOver}
-use Rattle.rules.proofs.Parts.{Known, headOf, Holds, Row, end, next, passParts, Bodies, no-more}
-use Rattle.rules.proofs.Parts.{one-more as one-body}
+use Rattle.walks.specs.Standing.{Known, headOf, Holds, Row, end, next, passParts, Bodies, no-more}
+use Rattle.walks.specs.Standing.{one-more as one-body}
 use Rattle.rules.proofs.PassOne.{pass-join}
 
 -- ---- an expression's own record
 

@@ -18,6 +18,7 @@ use Rattle.formats.proofs.Written.{written-append, written-none, wrote}
 use Rattle.functions.specs.Counts.{countsFrom}
 use Rattle.meaning.specs.OpenCalls.{firstRecord}
 use Rattle.walks.specs.Standing.{Known, Holds, Bodies, no-more, one-more}
+use Rattle.walks.specs.Limits.{parametersOfAny}
 use Rattle.walks.specs.Walks.{Inside}
 use Rattle.walks.proofs.Walks.{program-held, signature-of}
 use Rattle.stepwise.specs.Rows.{rowWords, bodyPlace, rowsOf, rowsOfAll, tabled}
@@ -26,7 +27,7 @@ use Rattle.part_places.specs.declared.Place.{Place}
 use Rattle.part_places.specs.Parts.{placeWith}
 use Rattle.record_rows.specs.Halves.{firstIn}
 use Rattle.decode.specs.Decoding.{tableWords}
-use Rattle.decode.specs.Walk.{Agrees, Small, Entering, Filled, Fills, Starts, Ready, FillsAll}
+use Rattle.decode.specs.Walk.{Agrees, Small, Entering, Filled, Fills, startPlace, Starts, Ready, FillsAll}
 
 -- ---- the first records and the arities of a program's functions
 
@@ -126,25 +127,12 @@ module _ (s : List ℕ) (functions end : ℕ) (table₀ cases₀ table cases : L
       by program (f ∷ fs) many due = absurd (omega arith)
 
   module _ (p : Place) (starts : Starts s j p) (more : j < functions) where
-    -- its counts are small
-    pub fill-asked : Small k end p
-    fill-asked =
-        let few = starts .few in
-        record {
-          inside = l .inside;
-          role = rw (starts .is) (omega arith);
-          parent = rw (starts .is) (omega arith);
-          slot = rw (starts .is) (omega arith);
-          names = omega (arith, l .inside .few);
-          keeps = rw (starts .is) (omega (arith, l .inside .few));
-          depth = rw (starts .is) (omega (arith, l .inside .few));
-        }
-
     -- function j, and those after it
     record Turn (program : Program) : Type 0 where
       here : Function
       others : List Function
       signed : functionIn s j ≡ done (signatureOf here)
+      few : here .parameters ≤ parametersOfAny
       holds : Holds s (signatures program) k (here .body)
       behind : Bodies s (signatures program) (suc j) (k + size (here .body)) others
       many : suc j + length others ≡ functions
@@ -160,10 +148,11 @@ module _ (s : List ℕ) (functions end : ℕ) (table₀ cases₀ table cases : L
             → tabled table₀ program ≡ written table (rowWords * k) (rowsOfAll (firstRecord program) (arityOf (signatures program)) k fs)
             → Turn program
         by [] no-more many ends due = absurd (omega arith)
-        by (f ∷ fs) (one-more signed holds behind) many ends due = record {
+        by (f ∷ fs) (one-more signed few holds behind) many ends due = record {
           here = f;
           others = fs;
           signed = signed;
+          few = few;
           holds = holds;
           behind = behind;
           many = omega arith;
@@ -171,12 +160,32 @@ module _ (s : List ℕ) (functions end : ℕ) (table₀ cases₀ table cases : L
           due = due;
         }
 
+    -- where it begins
+    starts-at : (program : Program) (e : readProgram s ≡ done program) → p ≡ startPlace (turn program e .here)
+    starts-at program e = let t = turn program e in starts .is (t .here) (t .signed) (t .few)
+
+    -- its counts are small
+    pub fill-asked : Small k end p
+    fill-asked =
+        let v = l .some-program in
+        let t = turn (v .value) (v .is) in
+        rw (starts-at (v .value) (v .is))
+        (record {
+          inside = l .inside;
+          role = omega arith;
+          parent = omega arith;
+          slot = omega arith;
+          names = omega (arith, t .few, l .inside .few);
+          keeps = omega (arith, l .inside .few);
+          depth = omega (arith, l .inside .few);
+        })
+
     -- its body is entered
     body-entered : (program : Program) (e : readProgram s ≡ done program)
         → Entering s table cases (firstRecord program) (arityOf (signatures program)) k end p (turn program e .here .body)
     body-entered program e =
         let t = turn program e in
-        let flat-depth : p .depth ≡ 0 = ap (λ (q : Place). q .depth) (starts .is) in
+        let flat-depth : p .depth ≡ 0 = ap (λ (q : Place). q .depth) (starts-at program e) in
         record {
           here = record { signed = signatures program; known = l .left program e .known; holds = t .holds; fits = omega (arith, t .ends) };
           agrees = l .left program e .agrees;
@@ -185,11 +194,9 @@ module _ (s : List ℕ) (functions end : ℕ) (table₀ cases₀ table cases : L
         }
 
     -- its place is the one wanted
-    body-place : (program : Program) (f : Function) → functionIn s j ≡ done (signatureOf f) → placeWith p cases ≡ bodyPlace (firstRecord program) (arityOf (signatures program)) f
-    unfolding signatureOf
-    body-place program f signed =
-        ap (λ q. placeWith q cases) (starts .is)
-        ∙ ap (λ n. record { role = 0; parent = 0; slot = 0; names = n; keeps = 0; cases = [] }) (sym (function-read s j (signatureOf f) signed .arity))
+    body-place : (program : Program) (e : readProgram s ≡ done program)
+        → placeWith p cases ≡ bodyPlace (firstRecord program) (arityOf (signatures program)) (turn program e .here)
+    body-place program e = ap (λ q. placeWith q cases) (starts-at program e)
 
     module _ (table′ cases′ : List ℕ) (next : ℕ) (fills : Fills s table table′ cases cases′ k end p next) where
       -- its rows are filled
@@ -217,7 +224,7 @@ module _ (s : List ℕ) (functions end : ℕ) (table₀ cases₀ table cases : L
           let place = rowWords * k in
           let long-own : length own ≡ rowWords * size body = length-rows entry arity (bodyPlace entry arity (t .here)) k body in
           let own-written : table′ ≡ written table place own =
-          g .rows ∙ ap (λ q. written table place (rowsOf entry arity q k body)) (body-place program (t .here) (t .signed)) in
+          g .rows ∙ ap (λ q. written table place (rowsOf entry arity q k body)) (body-place program e) in
           let behind-own : place + length own ≡ rowWords * next = omega (arith, g .behind) in
           let room : place + length (own ++ others) ≤ length table =
           omega (arith, length-append own others, length-rows-all entry arity (k + size body) (t .others), t .ends, l .inside .few, l .room, l .table-long) in

@@ -12,8 +12,9 @@ use lib.ListN.{length, getD, set, take, length-set}
 use lib.Seq.{getD-set-same, getD-set-other, getD-take, take-set-le, take-suc-set, take-take}
 use Rattle.formats.specs.Records.{Kind, Part, aNumber, aTree, asWhole, underNumber, underTrees, partsOf, partCount, nth, nthPart}
 use Rattle.formats.specs.Records.{Const as aConst, Var as aVar, Add as anAdd, IfZero as anIfZero, Let as aLet, Leaf as aLeaf, Node as aNode, Case as aCase, Call as aCall}
-use Rattle.formats.specs.Programs.{mostRecords}
+use Rattle.formats.specs.Programs.{signatureOf, mostRecords}
 use Rattle.formats.specs.Rows.{arityIn}
+use Rattle.formats.proofs.Rows.{function-read}
 use Rattle.records.specs.Read.{meant, partOf}
 use Rattle.records.specs.declared.Part.{Part as RecordPart}
 use Rattle.records.specs.declared.Record.{Record}
@@ -70,8 +71,11 @@ module _ (part : Part) (r count : ℕ) where
 
 -- ---- `start`
 
-pub started : (s : List ℕ) (j m : ℕ) (p : Place) → m ≡ arityIn s j → m < 256 → p ≡ placed 0 0 0 m 0 0 → Starts s j p
-started s j m p em small e = record { is = e ∙ ap (λ n. placed 0 0 0 n 0 0) em; few = rw e (omega arith) }
+pub started : (s : List ℕ) (j m : ℕ) (p : Place) → m ≡ arityIn s j → p ≡ placed 0 0 0 m 0 0 → Starts s j p
+unfolding signatureOf
+started s j m p em e = record {
+  is = λ f signed few. e ∙ ap (λ n. placed 0 0 0 n 0 0) (em ∙ sym (function-read s j (signatureOf f) signed .arity));
+}
 
 -- ---- what holds of a part's place
 

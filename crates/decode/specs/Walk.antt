@@ -6,14 +6,14 @@ use mathlib.Core.Path.{_≡_}
 use lib.ListN.{length, getD, take}
 use Rattle.formats.specs.Results.{done, verdict}
 use Rattle.formats.specs.Records.{Kind, Part, aNumber, aTree, asWhole, underNumber, underTrees, partsOf, partCount}
-use Rattle.formats.specs.Programs.{Expr, size, Placed, Program, mostRecords}
+use Rattle.formats.specs.Programs.{Expr, size, Placed, Function, Program, mostRecords}
 use Rattle.formats.specs.Rows.{headerIn, arityIn, readProgram}
 use Rattle.formats.specs.Written.{written}
 use Rattle.records.specs.Read.{meant, listed}
 use Rattle.records.specs.declared.Record.{Record}
 use Rattle.records.specs.declared.Parts.{Parts}
-use Rattle.walks.specs.Limits.{largestByte, mostCount}
-use Rattle.walks.specs.Walks.{Inside, Went, Here, HereRow, PartsFrom}
+use Rattle.walks.specs.Limits.{mostCount}
+use Rattle.walks.specs.Walks.{Inside, Went, Here, HereRow, PartsFrom, Begins}
 use Rattle.stepwise.specs.Rows.{whole, lastArgument, lastWord, actionOf, roleOf, slotOf, keepsIn, partPlace, operandOf, treeOf, moreOf, rowsOf, rowWords, tabled}
 use Rattle.stepwise.specs.Rows.{Place as PlaceThere}
 use Rattle.part_places.specs.declared.Place.{Place}
@@ -158,10 +158,12 @@ pub record FillsParts (s table table′ cases cases′ : List ℕ) (node : Recor
 
 -- ---- all functions
 
--- Where the body of function j stands.
-pub record Starts (s : List ℕ) (j : ℕ) (p : Place) : Type 0 where
-  pub is : p ≡ record { role = whole; parent = 0; slot = 0; names = arityIn s j; keeps = 0; depth = 0 }
-  pub few : p .names ≤ largestByte
+-- Where the body of a function stands.
+abbrev pub startPlace : Function → Place
+startPlace f = record { role = whole; parent = 0; slot = 0; names = f .parameters; keeps = 0; depth = 0 }
+
+abbrev pub Starts : List ℕ → ℕ → Place → Type 0
+Starts s j p = Begins Place s j startPlace p
 
 -- The records are a program, and there is room for its rows and for its Cases.
 pub record Ready (s table cases : List ℕ) : Type 0 where

@@ -10,7 +10,7 @@ use Rattle.formats.specs.Results.{Result, done, refusal, andThen, onValue, verd
 use Rattle.formats.specs.Programs.{size, Sort, numberValued, treeValued, sortNumber, Function, signatureOf, Program, signatures}
 use Rattle.formats.specs.Records.{recordAt}
 use Rattle.formats.specs.Rows.{headerIn, sortIn, arityIn, readProgram}
-use Rattle.formats.proofs.Results.{then-done, then-refused, value-inv, passed-is, refused-is, value-refused}
+use Rattle.formats.proofs.Results.{Value, then-done, then-refused, value-inv, passed-is, refused-is, value-refused}
 use Rattle.formats.proofs.Rows.{function-read, flattens}
 use Rattle.refusal.specs.Number.{number}
 use Rattle.refusal.specs.Said.{said}
@@ -25,7 +25,7 @@ use Rattle.rules.proofs.PassOne.{pass-join}
 use Rattle.walks.specs.Walks.{Inside}
 use Rattle.walks.proofs.Walks.{program-held}
 use Rattle.walks.proofs.Functions.{Left, all-left, Turn, turn, none-left}
-use Rattle.pass_one.specs.Walk.{expected, told, Entered, Starts, PassSays}
+use Rattle.pass_one.specs.Walk.{expected, scopeOf, told, Fits, Entered, Starts, PassSays}
 use Rattle.pass_one.specs.declared.Scope.{Scope}
 use Rattle.pass_one.specs.declared.Walked.{Walked}
 use Rattle.pass_one.specs.declared.Walked.the-variants.{To, Refused}
@@ -37,16 +37,13 @@ unfolding sortNumber resultType
 type-of numberValued n e = ap (λ m. expected (eqb m 1)) (sym e)
 type-of treeValued n e = ap (λ m. expected (eqb m 1)) (sym e)
 
-pub started : (s : List ℕ) (j m n : ℕ) → m ≡ arityIn s j → n ≡ sortIn s j → m < 256
+pub started : (s : List ℕ) (j m n : ℕ) → m ≡ arityIn s j → n ≡ sortIn s j
     → Starts s j (record { numbers = m; trees = 1; words = m; tree = eqb n 1 })
 unfolding startOf signatureOf
-started s j m n em en small = record {
-  is = λ f e.
+started s j m n em en = record {
+  is = λ f e few.
       let r = function-read s j (signatureOf f) e in
       ap₂ (λ p τ. scope p 1 p τ) (em ∙ sym (r .arity)) (type-of (f .sort) n (r .sort ∙ sym en));
-  numbers = omega arith;
-  trees = refl;
-  words = omega arith;
 }
 
 -- ---- `pass`
@@ -57,6 +54,7 @@ rowOne program k fs = passOver (signatures program) (enteredAll k fs)
 
 -- the functions from j on, at record k, say what pass one says of every program that these records are
 pub record Walking (s : List ℕ) (functions end k j : ℕ) : Type 0 where
+  pub some-program : Value (readProgram s)
   pub inside : Inside k end
   pub rest : (program : Program) → readProgram s ≡ done program → Left s functions end passOne rowOne program k j
 
@@ -68,6 +66,7 @@ walk-none s functions nodes bytes read ef en =
     let h = program-held s (v .value) bytes (v .is) in
     let few = flattens s (v .value) bytes (v .is) .lawful .few-functions in
     record {
+      some-program = v;
       inside = record { before-end = omega arith; few = omega (arith, h .functions, few, h .few-nodes) };
       rest = all-left s functions _ passOne rowOne nodes bytes ef en refl (λ program. refl);
     }
@@ -76,6 +75,20 @@ module _ (s : List ℕ) (functions end k j : ℕ) where
   pub walk-all : functions ≤ j → Walking s functions end k j → PassSays s Passed
   unfolding enteredAll passOver
   walk-all over w = record { is = λ program e. sym (none-left s functions end passOne rowOne program k j over (w .rest program e)) }
+
+  -- its counts are small: a program's function has few parameters
+  pub walk-asked : (c : Scope) → j < functions → Walking s functions end k j → Starts s j c → Fits k end (scopeOf c)
+  unfolding startOf
+  walk-asked c more w starts =
+      let v = w .some-program in
+      let t = turn s functions end passOne rowOne (v .value) k j more (w .rest (v .value) (v .is)) in
+      subst (Fits k end) (sym (starts .is (t .here) (t .signed) (t .few)))
+      (record {
+        inside = w .inside;
+        numbers = omega (arith, t .few, w .inside .few);
+        trees = omega (arith, w .inside .few);
+        words = omega (arith, t .few, w .inside .few);
+      })
 
   module _ (c : Scope) (walked : Walked) (more : j < functions) (w : Walking s functions end k j) (starts : Starts s j c) (is : Entered s k end c walked) where
     -- the body of function j, whose walk is told, and then those behind it
@@ -96,12 +109,13 @@ module _ (s : List ℕ) (functions end k j : ℕ) where
           over = passOver gs (entered (startOf f) k (f .body));
           is-told =
               is .is (f .body) (record { signed = gs; known = t .known; holds = t .holds; fits = t .fits })
-              ∙ ap (λ sc. onValue (λ u. k + size (f .body)) (passOver gs (entered sc k (f .body)))) (starts .is f (t .signed));
+              ∙ ap (λ sc. onValue (λ u. k + size (f .body)) (passOver gs (entered sc k (f .body)))) (starts .is f (t .signed) (t .few));
           split = t .left ∙ pass-join gs _ _;
         }
 
     pub walk-more : (next : ℕ) → walked ≡ To next → Walking s functions end next (j + 1)
     walk-more next case = record {
+      some-program = w .some-program;
       inside = record { before-end = is .went next case .inside; few = w .inside .few };
       rest = λ program e.
           let t = walk program e in
@@ -116,7 +130,7 @@ module _ (s : List ℕ) (functions end k j : ℕ) where
           sym (t .split ∙ then-refused _ (value-refused (λ u. k + size (t .at-hand .here .body)) (t .over) (number why) place (sym (t .is-told) ∙ ap told case)));
     }
 
-pub ruleset walking = (walk-none, walk-more, walk-refused, walk-all)
+pub ruleset walking = (walk-none, walk-asked, walk-more, walk-refused, walk-all)
 
 -- ---- `check_pass_one`
 

@@ -5,7 +5,7 @@ use mathlib.Core.List.{List}
 use mathlib.Core.Path.{_≡_}
 use Rattle.formats.specs.Results.{Result, done, refusal, onValue}
 use Rattle.formats.specs.Records.{Kind, below}
-use Rattle.formats.specs.Programs.{Expr, size, Placed, Signature, Function, signatureOf, Program}
+use Rattle.formats.specs.Programs.{Expr, size, Placed, Signature, Program}
 use Rattle.formats.specs.Rows.{headerIn, functionIn, readProgram}
 use Rattle.refusal.specs.Number.{number}
 use Rattle.refusal.specs.Said.{said}
@@ -18,8 +18,8 @@ use Rattle.rules.specs.Scopes.{scope, startOf, entry, entered}
 use Rattle.rules.specs.Scopes.{Scope as ScopeThere}
 use Rattle.rules.specs.PassOne.{typed, roomy, bareNumber, atEntry, passOver, passOne}
 use Rattle.walks.specs.Standing.{Known, passParts}
-use Rattle.walks.specs.Limits.{largestByte, mostCount, mostTreeNames}
-use Rattle.walks.specs.Walks.{Inside, Went, Here, HereRow, PartsFrom}
+use Rattle.walks.specs.Limits.{mostCount, mostTreeNames}
+use Rattle.walks.specs.Walks.{Inside, Went, Here, HereRow, PartsFrom, Begins}
 use Rattle.pass_one.specs.declared.Scope.{Scope}
 use Rattle.pass_one.specs.declared.Walked.{Walked}
 use Rattle.pass_one.specs.declared.Walked.the-variants.{To, Refused}
@@ -85,11 +85,8 @@ pub record EnteredParts (s : List ℕ) (parts : Parts) (i count k end : ℕ) (c 
       → told r ≡ onValue (λ u. m) (passParts (here .signed) kind i (scopeOf c) ps)
 
 -- The scope on entering the body of function j.
-pub record Starts (s : List ℕ) (j : ℕ) (c : Scope) : Type 0 where
-  pub is : (f : Function) → functionIn s j ≡ done (signatureOf f) → scopeOf c ≡ startOf f
-  pub numbers : c .numbers ≤ largestByte
-  pub trees : c .trees ≡ 1
-  pub words : c .words ≤ largestByte
+abbrev pub Starts : List ℕ → ℕ → Scope → Type 0
+Starts s j c = Begins ScopeThere s j startOf (scopeOf c)
 
 -- Pass one, where flat records s are a program's.
 pub record PassSays (s : List ℕ) (r : Verdict) : Type 0 where

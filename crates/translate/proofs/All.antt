@@ -1,5 +1,5 @@
 -- A program's functions one after the other: what is left of them at function j, whose body is at record k, and where its code begins.
-use Prim.Native.Nat.{ℕ, zero, suc, _+_, _-_, _≤_, _<_}
+use Prim.Native.Nat.{ℕ, zero, suc, _+_, _≤_, _<_}
 use mathlib.Core.List.{List, [], _∷_, _++_, append-assoc, append-nil, map}
 use mathlib.Core.Path.{_≡_, refl, sym, ap, ap₂, subst, _∙_}
 use native.Mathlib.Nat.{add-zero}
@@ -9,7 +9,7 @@ use lib.ListN.{length, getD, length-append, length-map}
 use Rattle.formats.specs.Numbers.{Bytes, numberAt}
 use Rattle.formats.specs.Results.{done}
 use Rattle.formats.specs.Records.{recordAt}
-use Rattle.formats.specs.Programs.{Expr, const, var, add, ifZero, letIn, leafOf, nodeOf, caseOf, call, Args, noArgs, arg, prefix, prefixes, size, total, countArgs, Every, InRange, Sort, numberValued, treeValued, Function, signatureOf, Program, signatures, mostParameters, LawfulFunctions, Signature}
+use Rattle.formats.specs.Programs.{Expr, const, var, add, ifZero, letIn, leafOf, nodeOf, caseOf, call, Args, noArgs, arg, prefix, prefixes, size, total, countArgs, Every, InRange, Sort, numberValued, treeValued, Function, signatureOf, Program, signatures, LawfulFunctions, Signature}
 use Rattle.formats.specs.Rows.{headerIn, readProgram}
 use Rattle.formats.proofs.Programs.{every-left, every-right}
 use Rattle.formats.proofs.Results.{then-inv, value-inv}
@@ -20,7 +20,6 @@ use Rattle.rules.specs.PassOne.{passOver, passOne}
 use Rattle.rules.specs.PassTwo.{order, passTwo}
 use Rattle.walks.specs.Standing.{Known, Bodies, no-more, one-more}
 use Rattle.rules.proofs.PassOne.{pass-left, pass-right}
-use Rattle.walks.specs.Limits.{parametersOfAny}
 use Rattle.walks.proofs.Walks.{program-held}
 use Rattle.translation.specs.Calls.{checkedRecords}
 use Rattle.translation.specs.Templates.{Words, firstWords, wordsKept, behind, code, codeArgs, functionCode, behindFunction, entryFrom, functionsCode, entryOf}
@@ -102,11 +101,6 @@ module _ (s : List ℕ) (end : ℕ) (program : Program) where
     pub in-range : Every (InRange (length (program .functions))) (prefix (here .body))
     pub left : FunctionsLeft (before ++ (here ∷ [])) (k + size (here .body)) (j + 1)
 
-  few : (j : ℕ) → mostParameters j ≤ parametersOfAny
-  unfolding mostParameters
-  few zero = omega arith
-  few (suc j) = omega arith
-
   pub next-function : (before : List Function) (k j : ℕ) → FunctionsLeft before k j → j < length (program .functions) → Next before k j
   unfolding enteredAll startOf total signatureOf
   next-function before k j l more = by (l .others) (l .split) (l .held) (l .passes) (l .lawful) (l .ends)
@@ -123,12 +117,12 @@ module _ (s : List ℕ) (end : ℕ) (program : Program) where
           → Next before k j
       by [] split no-more passes lawful ends =
           absurd (omega (arith, ap length split, length-append before [], l .many))
-      by (f ∷ fs) split (one-more signed holds behind) passes lawful ends = record {
+      by (f ∷ fs) split (one-more signed few holds behind) passes lawful ends = record {
         here = f;
         entering = record {
           here = record { signed = gs; known = l .known; holds = holds; fits = omega arith };
           signature = signed;
-          few-parameters = omega (arith, lawful .0 .few-parameters, few j);
+          few-parameters = few;
           passes = pass-left gs (entered (startOf f) k (f .body)) _ passes;
         };
         in-range = subst (λ n. Every (InRange n) (prefix (f .body))) (length-map (program .functions) signatureOf) (lawful .0 .in-range);

@@ -1,5 +1,5 @@
 -- A function laid down: what is known on entering its body, its body, and its return.
-use Prim.Native.Nat.{ℕ, zero, suc, _+_, _-_, _*_, _≤_, min}
+use Prim.Native.Nat.{ℕ, zero, suc, _+_, _*_, _≤_, min}
 use mathlib.Core.Bool.{Bool, true, false}
 use mathlib.Core.List.{List, [], _∷_}
 use mathlib.Core.Path.{_≡_, refl, sym, ap, ap₂, _∙_}
@@ -12,7 +12,7 @@ use Rattle.formats.specs.Records.{recordBytes, bytesOfRecord, fields}
 use Rattle.formats.specs.Programs.{Sort, numberValued, treeValued, sortNumber, Function, signatureOf}
 use Rattle.formats.specs.Rows.{arityIn, sortIn}
 use Rattle.formats.specs.Written.{written}
-use Rattle.formats.proofs.Rows.{function-read}
+use Rattle.formats.proofs.Rows.{FieldsRead, function-read}
 use Rattle.meaning.specs.Instructions.{Return, instructionOf}
 use Rattle.rules.specs.Types.{resultType}
 use Rattle.rules.specs.Scopes.{scope, entered}
@@ -25,7 +25,7 @@ use Rattle.template.specs.Items.{entriesIn}
 use Rattle.code_scope.specs.declared.Scope.{Scope}
 use Rattle.translate.specs.declared.Laid.{Laid}
 use Rattle.translate.specs.Laying.{laidAt}
-use Rattle.translate.specs.Walk.{Small, Entering, Lays, Starts, EnteringFunction, LaysFunction}
+use Rattle.translate.specs.Walk.{Small, Entering, Lays, startAround, Starts, EnteringFunction, LaysFunction}
 use Rattle.translate.proofs.Written.{laid-behind, laid-one}
 
 -- ---- `start`
@@ -54,15 +54,18 @@ pub started : (s : List ℕ) (j m n : ℕ) → m ≡ arityIn s j → n ≡ sortI
     → Starts s j (record { words = rising; names = m; standing = m; tree = eqb n 1 })
 unfolding wordsIn signatureOf
 started s j m n em en = record {
-  is = λ f known few.
-      let g = function-read s j (signatureOf f) known in
-      let same : m ≡ f .parameters = em ∙ sym (g .arity) in
-      let least : min m mostNames ≡ f .parameters = omega arith in
-      let words : fromLast rising (min m mostNames) ≡ firstWords (f .parameters) = ap (fromLast rising) least ∙ first-words (f .parameters) few in
-      ap₂ (λ x y. around x y m) (sorted n (f .sort) (en ∙ sym (g .sort))) words ∙ ap (around (f .sort) (firstWords (f .parameters))) same;
+  begins = record { is = λ f known few. begun f (function-read s j (signatureOf f) known) few };
   table = refl;
   named = record { few = omega arith };
 }
+  where
+    begun : (f : Function) → FieldsRead s j (signatureOf f) → f .parameters ≤ parametersOfAny
+        → around (sortOf (eqb n 1)) (fromLast rising (min m mostNames)) m ≡ startAround f
+    begun f g few =
+        let same : m ≡ f .parameters = em ∙ sym (g .arity) in
+        let least : min m mostNames ≡ f .parameters = omega arith in
+        let words : fromLast rising (min m mostNames) ≡ firstWords (f .parameters) = ap (fromLast rising) least ∙ first-words (f .parameters) few in
+        ap₂ (λ x y. around x y m) (sorted n (f .sort) (en ∙ sym (g .sort))) words ∙ ap (around (f .sort) (firstWords (f .parameters))) same
 
 -- ---- `words_kept`
 
@@ -83,7 +86,7 @@ module _ (s entries code′ : List ℕ) (entry j k end : ℕ) (c : Scope) (start
   -- the body is entered
   body-entered : (f : Function) → EnteringFunction s j k end f → Entering s k end c (f .body)
   body-entered f h =
-      let is = starts .is f (h .signature) (h .few-parameters) in
+      let is = starts .begins .is f (h .signature) (h .few-parameters) in
       let words : c .standing ≡ f .parameters = ap (λ (x : Around). x .standing) is in
       let sort : sortOf (c .tree) ≡ f .sort = ap (λ (x : Around). x .sort) is in
       record {
@@ -110,7 +113,7 @@ module _ (s entries code′ : List ℕ) (entry j k end : ℕ) (c : Scope) (start
     next = λ f h. l .came (f .body) (body-entered f h) .next;
     address = λ f h. omega (arith, address f h);
     lays = λ f h room.
-        let is = starts .is f (h .signature) (h .few-parameters) in
+        let is = starts .begins .is f (h .signature) (h .few-parameters) in
         let sort : sortOf (c .tree) ≡ f .sort = ap (λ (x : Around). x .sort) is in
         let own = code (entriesIn entries) (f .sort) (firstWords (f .parameters)) (f .parameters) entry (f .body) in
         let first : between ≡ laidAt code′ 0 own =

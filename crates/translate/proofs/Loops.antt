@@ -19,6 +19,7 @@ use Rattle.formats.proofs.Results.{Value, passed-is}
 use Rattle.formats.proofs.Rows.{flattens}
 use Rattle.formats.proofs.Written.{written-fits}
 use Rattle.walks.specs.Limits.{recordInstructions, mostLaid}
+use Rattle.walks.specs.Walks.{Inside}
 use Rattle.walks.proofs.Walks.{program-held}
 use Rattle.meaning.specs.Instructions.{Operation, instructionOf}
 use Rattle.translation.specs.Calls.{checkedRecords}
@@ -95,7 +96,7 @@ begun s functions nodes end program bytes ef en el e =
 pub record Measuring (s : List ℕ) (functions end : ℕ) (entries : List ℕ) (k entry j : ℕ) : Type 0 where
   pub counts : Counts s functions end
   pub table : length entries ≡ mostFunctions
-  pub within : k ≤ end
+  pub inside : Inside k end
   pub small : entry + recordInstructions * (end - k) + (functions - j) ≤ mostLaid
   pub standing : (program : Program) → checkedRecords s ≡ done program → Standing s end program k j entry
   pub entered : (program : Program) → checkedRecords s ≡ done program → (b : ℕ) → b < j → getD entries b 0 ≡ entryOf program b
@@ -108,7 +109,7 @@ measure-first s functions nodes end entries bytes checked ef en el long =
     record {
       counts = c;
       table = long;
-      within = omega arith;
+      inside = record { before-end = omega arith; few = c .short };
       small = omega (arith, c .few, c .short);
       standing = λ program e. begun s functions nodes end program bytes ef en el e;
       entered = λ program e b below. absurd (omega arith);
@@ -117,7 +118,7 @@ measure-first s functions nodes end entries bytes checked ef en el long =
 module _ (s : List ℕ) (functions end : ℕ) (entries : List ℕ) (k entry j : ℕ) (m : Measuring s functions end entries k entry j) where
   pub measure-asked : j < functions → Small k end entry 0 1
   measure-asked more = record {
-    inside = record { before-end = m .within; few = m .counts .short };
+    inside = m .inside;
     base-small = omega (arith, m .small);
     small = omega (arith, m .counts .few, m .counts .short);
   }
@@ -130,7 +131,7 @@ module _ (s : List ℕ) (functions end : ℕ) (entries : List ℕ) (k entry j : 
   measure-more no-entries no-code after r more l = record {
     counts = m .counts;
     table = length-set entries j (entry % 65536) ∙ m .table;
-    within = l .went-on .went .inside;
+    inside = record { before-end = l .went-on .went .inside; few = m .inside .few };
     small = omega (arith, m .small, l .went-on .small);
     standing = λ program e.
         let f = follow program e in
@@ -199,7 +200,7 @@ pub record UpTo (s : List ℕ) (functions end : ℕ) (code₀ code : List ℕ) (
 pub record LayingAll (s entries : List ℕ) (functions end : ℕ) (code₀ code : List ℕ) (k j : ℕ) : Type 0 where
   pub ready : Ready s entries code₀
   pub counts : Counts s functions end
-  pub within : k ≤ end
+  pub inside : Inside k end
   pub up-to : (program : Program) → checkedRecords s ≡ done program → UpTo s functions end code₀ code k j program
 
 pub all-first : (s entries : List ℕ) (functions nodes end : ℕ) (code : List ℕ) → Bytes s → Ready s entries code → functions ≡ getD s 1 0 → nodes ≡ numberAt 2 s 2
@@ -211,7 +212,7 @@ all-first s entries functions nodes end code bytes ready ef en el =
     record {
       ready = ready;
       counts = c;
-      within = omega arith;
+      inside = record { before-end = omega arith; few = c .short };
       up-to = λ program e. record {
         before = [];
         left = all-left s end program functions nodes bytes (was-checked s program e) ef en el;
@@ -265,7 +266,7 @@ module _ (s entries : List ℕ) (functions end : ℕ) (code₀ code : List ℕ) 
         let v = the-program in
         let u = l .up-to (v .value) (v .is) in
         record {
-          inside = record { before-end = l .within; few = l .counts .short };
+          inside = l .inside;
           base-small = omega (arith, u .small, begins-at (v .value) (v .is));
           small = omega (arith, l .counts .few, l .counts .short);
         }
@@ -276,7 +277,7 @@ module _ (s entries : List ℕ) (functions end : ℕ) (code₀ code : List ℕ) 
     laid-on after r f = record {
       ready = l .ready;
       counts = l .counts;
-      within = f .went-on .went .inside;
+      inside = record { before-end = f .went-on .went .inside; few = l .inside .few };
       up-to = λ program e.
           let u = l .up-to program e in
           let at = begins-at program e in

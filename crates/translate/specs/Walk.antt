@@ -15,11 +15,11 @@ use Rattle.rules.specs.Scopes.{scope, entered}
 use Rattle.rules.specs.PassOne.{passOver}
 use Rattle.walks.specs.Standing.{passParts}
 use Rattle.walks.specs.Limits.{parametersOfAny, mostCount, recordInstructions, mostLaid}
-use Rattle.walks.specs.Walks.{Inside, Went, Here, HereRow, PartsFrom}
+use Rattle.walks.specs.Walks.{Inside, Went, Here, HereRow, PartsFrom, Begins}
 use Rattle.formats.specs.Written.{written}
 use Rattle.translation.specs.Calls.{checkedRecords}
 use Rattle.translation.specs.Templates.{code, behind, firstWords, functionCode, behindFunction, entryOf, operationsOf, codeOf}
-use Rattle.code_scope.specs.Around.{around, sortOf, wordsIn, aroundOf, mostNames, Named, Binds}
+use Rattle.code_scope.specs.Around.{Around, around, sortOf, wordsIn, aroundOf, mostNames, Named, Binds}
 use Rattle.code_scope.specs.declared.Scope.{Scope}
 use Rattle.template.specs.Items.{entriesIn}
 use Rattle.translate.specs.declared.Laid.{Laid}
@@ -102,10 +102,13 @@ pub record LaysParts (s entries code′ after : List ℕ) (base at last : ℕ) (
 
 -- ---- a function
 
+-- What is known on entering the body of a function: its parameters stand on the first words.
+abbrev pub startAround : Function → Around
+startAround f = around (f .sort) (firstWords (f .parameters)) (f .parameters)
+
 -- The scope on entering the body of function j.
 pub record Starts (s : List ℕ) (j : ℕ) (c : Scope) : Type 0 where
-  pub is : (f : Function) → functionIn s j ≡ done (signatureOf f) → f .parameters ≤ parametersOfAny
-      → aroundOf c ≡ around (f .sort) (firstWords (f .parameters)) (f .parameters)
+  pub begins : Begins Around s j startAround (aroundOf c)
   pub table : length (c .words) ≡ mostNames
   pub named : Named c
 

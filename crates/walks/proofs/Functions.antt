@@ -12,6 +12,7 @@ use Rattle.formats.specs.Records.{recordAt}
 use Rattle.formats.specs.Programs.{size, total, Function, signatureOf, Program, signatures}
 use Rattle.formats.specs.Rows.{headerIn, functionIn, readProgram}
 use Rattle.rules.specs.OrderChecker.{firstNode}
+use Rattle.walks.specs.Limits.{parametersOfAny}
 use Rattle.walks.specs.Standing.{Known, Holds, Bodies, no-more, one-more}
 use Rattle.walks.proofs.Walks.{program-held}
 
@@ -48,6 +49,7 @@ module _ (s : List ℕ) (functions last : ℕ) (whole : Program → Result (Unit
     pub others : List Function
     pub known : Known s (signatures program)
     pub signed : functionIn s j ≡ done (signatureOf here)
+    pub few : here .parameters ≤ parametersOfAny
     pub holds : Holds s (signatures program) k (here .body)
     pub fits : k + size (here .body) ≤ last
     pub left : whole program ≡ row program k (here ∷ others)
@@ -60,11 +62,12 @@ module _ (s : List ℕ) (functions last : ℕ) (whole : Program → Result (Unit
       by : (fs : List Function) → Bodies s (signatures program) j k fs → j + length fs ≡ functions → k + total (map signatureOf fs) ≡ last
           → whole program ≡ row program k fs → Turn program k j
       by [] no-more many ends left = absurd (omega arith)
-      by (f ∷ fs) (one-more signed holds behind) many ends left = record {
+      by (f ∷ fs) (one-more signed few holds behind) many ends left = record {
         here = f;
         others = fs;
         known = l .known;
         signed = signed;
+        few = few;
         holds = holds;
         fits = omega arith;
         left = left;

@@ -1,6 +1,6 @@
 -- Laws of expressions in flat records, for functions that walk a program's records: an expression's own record, then its parts; the functions'
 -- signatures; and what is known of a program that was read.
-use Prim.Native.Nat.{ℕ, suc, _+_, _≤_, _<_}
+use Prim.Native.Nat.{ℕ, zero, suc, _+_, _≤_, _<_}
 use mathlib.Core.List.{List, [], _∷_, _++_, map}
 use mathlib.Core.Option.{some}
 use mathlib.Core.Path.{_≡_, refl, sym, ap, subst, _∙_}
@@ -11,7 +11,7 @@ use Rattle.formats.specs.Numbers.{Bytes}
 use Rattle.formats.specs.Results.{Result, done, refusal, andThen, each}
 use Rattle.formats.specs.Records.{Kind, Add, IfZero, Let, Leaf, Node, Case, Call, recordAt, fieldsOf, nth, partsOf, partCount}
 use Rattle.formats.specs.Programs.{Expr, const, var, add, ifZero, letIn, leafOf, nodeOf, caseOf, call, Args, noArgs, arg, prefix, prefixes, size, Placed, behind, argsAt, partsAt}
-use Rattle.formats.specs.Programs.{countArgs, Applied, AppliedArgs, Signature, arityOf, total, Function, signatureOf, Program, signatures, nodes, mostNodes, InRange, Every, LawfulFunctions}
+use Rattle.formats.specs.Programs.{countArgs, Applied, AppliedArgs, Signature, arityOf, total, Function, signatureOf, Program, signatures, nodes, mostNodes, mostParameters, InRange, Every, LawfulFunctions}
 use Rattle.formats.specs.Rows.{headerIn, functionIn, arityIn, nodeIn, nodeAt, headerRow, functionRow, nodeRow, prefixRow, readProgram}
 use Rattle.formats.specs.ProgramFiles.{Stands, one-more}
 use Rattle.formats.proofs.Results.{done-injective, then-inv, each-inv, each-nth, each-length}
@@ -20,6 +20,7 @@ use Rattle.formats.proofs.Programs.{stands-left, stands-right, every-left, ever
 use Rattle.formats.proofs.Rows.{FieldsRead, header-own, function-read, summed-inv, bodies-inv, row-read, flattens, nodes-stand}
 use Rattle.rules.specs.Scopes.{Scope, inside, entry, Entry, entered, enteredArgs}
 use Rattle.rules.specs.PassOne.{atEntry, passOver}
+use Rattle.walks.specs.Limits.{parametersOfAny}
 use Rattle.walks.specs.Standing.{Known, headOf, Holds, Row, end, next, passParts, Bodies, no-more}
 use Rattle.walks.specs.Standing.{one-more as one-body}
 use Rattle.rules.proofs.PassOne.{pass-join}
@@ -247,6 +248,12 @@ rows-read s program e =
     ap signatures (sym (done-injective (f .second))) ∙ bodies-inv _ (g .value) (k .value) _ (f .value) long (f .first) .signed in
     subst (RowsRead s) (sym signed) (record { known = row-read s (g .value) (rw own (g .first)); sum = rw own sum })
 
+-- no function has more parameters than the limit of any
+few-parameters : (j : ℕ) → mostParameters j ≤ parametersOfAny
+unfolding mostParameters
+few-parameters zero = omega arith
+few-parameters (suc j) = omega arith
+
 -- the bodies stand one behind the other
 bodies-stand : (s : List ℕ) (gs : List Signature) (j k : ℕ) (fs : List Function) → length gs ≡ headerIn s .functions
     → each (functionIn s) (length fs) j ≡ done (map signatureOf fs) → Stands s k (nodes fs) → LawfulFunctions gs j fs → Bodies s gs j k fs
@@ -256,6 +263,7 @@ bodies-stand s gs j k (f ∷ fs) many e h l =
     let i = each-inv (functionIn s) (length fs) j (map signatureOf (f ∷ fs)) e in
     one-body {f = f}
     (i .here ∙ cc)
+    (omega (arith, l .0 .few-parameters, few-parameters j))
     (record { stands = stands-left (prefix (f .body)) (nodes fs) h; in-range = rw (← many) (l .0 .in-range); applied = l .0 .applied })
     (bodies-stand s gs (suc j) (k + length (prefix (f .body))) fs many (i .later ∙ cc) (stands-right (prefix (f .body)) (nodes fs) h) (l .1))
 

@@ -1,4 +1,4 @@
--- What the functions share that walk a program's records.
-pub mod Standing
+-- What the functions share that walk a program's records: pass one, pass two, the translator, the decoder.
 pub mod Limits
+pub mod Standing
 pub mod Walks

@@ -3,10 +3,6 @@
 use Prim.Native.Nat.{ℕ, _+_, _*_}
 use Rattle.formats.specs.Programs.{mostFunctions, mostRecords}
 
--- A byte counts a function's parameters.
-abbrev pub largestByte : ℕ
-largestByte = 255
-
 -- The most number parameters of any function: function 0 has none, the others have these at most
 -- (formats/specs/Programs: `mostParameters`).
 abbrev pub parametersOfAny : ℕ
@@ -15,7 +11,7 @@ parametersOfAny = 4
 -- A count that begins with a function's parameters, or with none, and grows by one at most at each record:
 -- number names, words above the frame's base, numbers kept, Cases around.
 abbrev pub mostCount : ℕ
-mostCount = largestByte + mostRecords
+mostCount = parametersOfAny + mostRecords
 
 -- Tree names: the parameter, and two more at most at each record.
 abbrev pub mostTreeNames : ℕ

@@ -1,5 +1,5 @@
 -- Expressions in flat records: their own record, and their parts one after the other.
-use Prim.Native.Nat.{ℕ, suc, _+_}
+use Prim.Native.Nat.{ℕ, suc, _+_, _≤_}
 use mathlib.Core.List.{List, [], _∷_}
 use mathlib.Core.Path.{_≡_}
 use Rattle.formats.specs.Results.{Result, done, andThen, each}
@@ -10,6 +10,7 @@ use Rattle.formats.specs.ProgramFiles.{Stands}
 use Rattle.rules.specs.Scopes.{Scope, inside, entered}
 use Rattle.rules.specs.PassOne.{passOver}
 use Rattle.rules.specs.PassTwo.{walk}
+use Rattle.walks.specs.Limits.{parametersOfAny}
 
 -- gs are the signatures that the function records of s have.
 abbrev pub Known : List ℕ → List Signature → Type 0
@@ -55,6 +56,7 @@ pub data Bodies (s : List ℕ) (gs : List Signature) : ℕ → ℕ → List Func
   one-more :
       {j k : ℕ} {f : Function} {fs : List Function}
       → functionIn s j ≡ done (signatureOf f)
+      → f .parameters ≤ parametersOfAny
       → Holds s gs k (f .body)
       → Bodies s gs (suc j) (k + size (f .body)) fs
       → Bodies s gs j k (f ∷ fs)

@@ -37,7 +37,7 @@ pass-spec =
     (λ c. search needs)
     loop-holds
     (λ c κs. search needs)
-    (λ c κs. search needs)
+    (λ c κs. search walking)
     (λ c. search needs)
     (λ c. search walking)
     (λ c. search needs)

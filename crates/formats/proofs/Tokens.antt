@@ -3,7 +3,7 @@
 -- stands there (`stands`), each by recursion on the room.
 use Prim.Native.Nat.{ℕ, zero, suc, _+_, _*_, _-_, _≤_, _<_, max, _^_}
 use mathlib.Core.Bool.{Bool, true, false}
-use mathlib.Core.List.{List}
+use mathlib.Core.List.{List, [], _∷_, _++_, append-assoc}
 use mathlib.Core.Logic.{_≢_}
 use mathlib.Core.Path.{_≡_, refl, sym, ap, subst, _∙_}
 use native.Mathlib.Nat.{le-max-left, le-max-right}
@@ -31,6 +31,12 @@ six-a-tip (node l r) =
 
 pub length-of-tokens : (t : Tree) → length (tokens t) ≡ 6 * tips t - 1
 length-of-tokens t = let h = six-a-tip t in omega arith
+
+-- a node's tokens are its tag and its parts' tokens, one after the other
+pub joined-tokens : (output : List ℕ) (l r : Tree) → output ++ (nodeTag ∷ []) ++ tokens l ++ tokens r ≡ output ++ tokens (node l r)
+unfolding tokens
+joined-tokens output l r =
+    append-assoc (output ++ (nodeTag ∷ [])) (tokens l) (tokens r) ∙ append-assoc output (nodeTag ∷ []) (tokens l ++ tokens r)
 
 -- what is known where a tag was found
 pub data Look (s : List ℕ) (p : ℕ) : Tag → Type 0 where

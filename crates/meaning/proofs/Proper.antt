@@ -58,6 +58,12 @@ mutual
     proper-none : {g n : ℕ} → ProperArgs fs g n 0 noArgs
     proper-arg : {g n k : ℕ} {x : Expr} {xs : Args} → Proper fs g n numberValued x → ProperArgs fs g n k xs → ProperArgs fs g n (suc k) (arg x xs)
 
+-- they are as many as it says
+pub count-proper : {fs : List Function} {g n count : ℕ} {xs : Args} → ProperArgs fs g n count xs → countArgs xs ≡ count
+unfolding countArgs
+count-proper proper-none = refl
+count-proper (proper-arg x xs) = ap suc (count-proper xs)
+
 -- Each function's body is, under its own parameters; function 0 has no number parameters.
 pub record ProperProgram (program : Program) : Type 0 where
   pub bodies : (b : ℕ) (f : Function) → nth (program .functions) b ≡ some f → Proper (program .functions) (f .parameters) 1 (f .sort) (f .body)

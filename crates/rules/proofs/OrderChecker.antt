@@ -1,13 +1,13 @@
 -- The order checker passes precisely what the typing rules of 000, Figure 6 admit, within the
 -- limits: the proof of specs/OrderChecker.antt.
-use Prim.Native.Nat.{ℕ, zero, suc, _+_, _≤_, _<_}
+use Prim.Native.Nat.{ℕ, suc, _+_, _≤_, _<_}
 use mathlib.Core.List.{List, [], _∷_, append-nil}
 use mathlib.Core.Path.{_≡_, refl, ap, _∙_}
 use native.Mathlib.Omega.{arith}
 use lib.Dec.{lit<}
 use Rattle.formats.specs.Numbers.{Bytes}
 use Rattle.formats.specs.Results.{done}
-use Rattle.formats.specs.Programs.{size, Signature, Function, Program, signatures, mostParameters, LawfulFunction, LawfulFunctions, Lawful}
+use Rattle.formats.specs.Programs.{size, Signature, Function, Program, signatures, LawfulFunction, LawfulFunctions, Lawful}
 use Rattle.formats.specs.Rows.{readProgram}
 use Rattle.formats.specs.Blocks.{flatIn, programIn}
 use Rattle.formats.proofs.Results.{done-not, then-done, then-inv}
@@ -16,13 +16,13 @@ use Rattle.formats.proofs.ProgramFiles.{program-files}
 use Rattle.rules.specs.Types.{resultType}
 use Rattle.rules.specs.Typing.{TypedFunction}
 use Rattle.rules.specs.Scopes.{startOf, entered, enteredAll}
-use Rattle.rules.specs.PassOne.{mostWords, passOver, passOne}
+use Rattle.rules.specs.PassOne.{passOver, passOne}
 use Rattle.rules.specs.PassTwo.{walk, noneLeft, walkAll, passTwo, order, checkRecords, checkFile}
 use Rattle.rules.specs.OrderChecker.{firstNode, AdmittedFunction, AdmittedFrom, Admitted, AdmittedRecords, AdmittedFile, Split, OrderChecker}
 use Rattle.rules.proofs.Splits.{splits, checks-types, no-longer, one-listing}
 use Rattle.rules.proofs.Entries.{in-prefix-order, one-by-one, part-types, part-scopes}
 use Rattle.rules.proofs.PassOne.{Passes, pass-one, pass-nothing, pass-left, pass-right, pass-both}
-use Rattle.rules.proofs.Words.{few-words}
+use Rattle.rules.proofs.Words.{few-parameters, few-words}
 use Rattle.rules.proofs.Typed.{passes-one}
 use Rattle.rules.proofs.PassTwo.{walks, second, no-typing, only-full}
 use Rattle.rules.proofs.FirstFault.{pass-two, only-one}
@@ -32,12 +32,6 @@ use Rattle.rules.proofs.Overfull.{pass-one-overfull-there}
 use Rattle.rules.proofs.Printed.{printed, fixed}
 
 -- ---- one function
-
--- a function's parameters are few words
-few-parameters : (gs : List Signature) (j : ℕ) (f : Function) → LawfulFunction gs j f → f .parameters ≤ mostWords
-unfolding mostParameters
-few-parameters gs zero f l = omega (arith, l .few-parameters)
-few-parameters gs (suc j) f l = omega (arith, l .few-parameters)
 
 -- a walk that ends with no tree pending
 none-left : (r : ℕ) (Δ : List ℕ) → noneLeft r Δ ≡ done tt → Δ ≡ []

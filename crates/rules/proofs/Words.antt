@@ -1,5 +1,5 @@
 -- The limit of 16 words: what passes pass one stays within it.
-use Prim.Native.Nat.{ℕ, suc, _+_, _≤_, _<_, max}
+use Prim.Native.Nat.{ℕ, zero, suc, _+_, _≤_, _<_, max}
 use mathlib.Core.Bool.{true, false≢true}
 use mathlib.Core.List.{List, _∷_}
 use mathlib.Core.Option.{Option, none, some}
@@ -10,7 +10,7 @@ use borrow.Author.Tests.{ltb-true}
 use Rattle.formats.specs.Results.{done}
 use Rattle.formats.specs.Records.{Kind, Const, Var, Case, Call, nth}
 use Rattle.formats.specs.Programs.{Expr, const, var, add, ifZero, letIn, leafOf, nodeOf, caseOf, call, Args, noArgs, arg, size, countArgs}
-use Rattle.formats.specs.Programs.{Applied, AppliedArgs, Sort, numberValued, treeValued, Signature, arityOf}
+use Rattle.formats.specs.Programs.{Applied, AppliedArgs, Sort, numberValued, treeValued, Signature, arityOf, Function, mostParameters, LawfulFunction}
 use Rattle.rules.specs.Types.{Ty, Int, Tree⁺, resultType, isInt}
 use Rattle.rules.specs.Scopes.{scope, Entry, entry, entered}
 use Rattle.rules.specs.PassOne.{mostWords, bareNumber, wordsTested, roomy, passOver, valueWords, wordsOf, wordsOfArgs}
@@ -24,6 +24,12 @@ pub tested : (gs : List Signature) (g n w r : ℕ) (τ : Ty) (kind : Kind) (xs :
     → w < mostWords
 unfolding roomy
 tested gs g n w r τ kind xs t e = ltb-true w mostWords (rw (t, roomy) at (pass-inv gs (scope g n w τ) r kind xs e .room))
+
+-- a function's parameters are few words
+pub few-parameters : (gs : List Signature) (j : ℕ) (f : Function) → LawfulFunction gs j f → f .parameters ≤ mostWords
+unfolding mostParameters
+few-parameters gs zero f l = omega (arith, l .few-parameters)
+few-parameters gs (suc j) f l = omega (arith, l .few-parameters)
 
 -- a function of no arguments whose value is a number
 bare : (s : Signature) → Int ≡ resultType (s .sort) → s .parameters ≡ 0 → bareNumber s ≡ true

@@ -5,7 +5,7 @@
 -- to do so.
 use Prim.Native.Nat.{ℕ, zero, suc, _+_, _-_, _*_, _≤_, _<_}
 use mathlib.Core.Bool.{Bool, true, false}
-use mathlib.Core.List.{List, [], _∷_, _++_, append-nil, append-assoc}
+use mathlib.Core.List.{List, [], _∷_, _++_, append-nil}
 use mathlib.Core.Logic.{_≢_}
 use mathlib.Core.Option.{some, Option·some-injective}
 use mathlib.Core.Path.{_≡_, refl, sym, ap, _∙_}
@@ -20,6 +20,7 @@ use Rattle.formats.specs.Records.{nth, Case, Call}
 use Rattle.formats.specs.Programs.{Expr, const, var, add, ifZero, letIn, leafOf, nodeOf, caseOf, call, Args, noArgs, arg, size, countArgs}
 use Rattle.formats.specs.Programs.{Sort, numberValued, treeValued, Signature, arityOf, Function, signatureOf, Program, signatures}
 use Rattle.formats.proofs.Records.{nth-mapped}
+use Rattle.formats.proofs.Tokens.{joined-tokens}
 use Rattle.rules.specs.PassOne.{mostWords, wordsOf, wordsOfArgs}
 use Rattle.walks.specs.Standing.{headOf}
 use Rattle.rules.proofs.Words.{words-call, words-least, words-least-args}
@@ -29,7 +30,7 @@ use Rattle.meaning.specs.Evaluation.{Value, number, tree, Environment, treeName
 use Rattle.meaning.specs.OpenCalls.{Outcome, gives, begins, next, numberOr, treeOr, resultTree, evaluate, evaluateArgs, firstRecord, called}
 use Rattle.meaning.proofs.Levels.{level-newest, level-older, level-found, level-below}
 use Rattle.meaning.proofs.Proper.{Proper, proper-const, proper-var, proper-add, proper-ifZero, proper-let, proper-leaf}
-use Rattle.meaning.proofs.Proper.{proper-node, proper-case, proper-call, ProperArgs, proper-none, proper-arg}
+use Rattle.meaning.proofs.Proper.{proper-node, proper-case, proper-call, proper-none, proper-arg, count-proper}
 use Rattle.meaning.proofs.Sorts.{ValuesOf, valueOf}
 use Rattle.stepwise.specs.Rows.{Place, passed, lastWord, codeOf, partPlace}
 use Rattle.stepwise.specs.Rows.{callsFunction, actionOf, roleOf, slotOf, namesIn, keepsIn, casesIn, operandOf, treeOf, moreOf}
@@ -64,11 +65,6 @@ holding-more on x numbers newest h = record { each = λ a i e. by-test a i e (eq
         let top : a ≡ length numbers = eqb-true a (length numbers) t in
         rw top newest ∙ Option·some-injective x i (sym (level-newest x a numbers top) ∙ e)
     by-test a i e false t = h .each a i (sym (level-older x a numbers (eqb-false a (length numbers) t)) ∙ e)
-
--- a node's tokens are its tag and its trees' tokens
-joined-tokens : (out : List ℕ) (l r : Tree) → out ++ (nodeTag ∷ []) ++ tokens l ++ tokens r ≡ out ++ tokens (node l r)
-unfolding tokens
-joined-tokens out l r = append-assoc (out ++ (nodeTag ∷ [])) (tokens l) (tokens r) ∙ append-assoc out (nodeTag ∷ []) (tokens l ++ tokens r)
 
 -- ---- one program, one table, one input, k calls still to be opened
 
@@ -629,12 +625,6 @@ module _ (program : Program) (T input : List ℕ) (k : ℕ) where
     where
       none-there : (c i : ℕ) → atLevel [] c ≡ some i → onWord s (p .keeps) c ≡ i
       none-there c i e = let below = level-below [] c e in absurd (omega arith)
-
-  -- as many arguments as the function has number parameters
-  count-proper : {g n count : ℕ} {xs : Args} → ProperArgs (program .functions) g n count xs → countArgs xs ≡ count
-  unfolding countArgs
-  count-proper proper-none = refl
-  count-proper (proper-arg x xs) = ap suc (count-proper xs)
 
   -- every expression that pass one takes comes to what its evaluation comes to, if the calls in it do
   pub sim : SimCalls → {g n : ℕ} {sort : Sort} {e : Expr} → Proper (program .functions) g n sort e → Sim g n sort e

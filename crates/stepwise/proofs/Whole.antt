@@ -13,12 +13,12 @@ use Rattle.formats.specs.Numbers.{Bytes}
 use Rattle.formats.specs.Results.{done}
 use Rattle.formats.specs.Tokens.{Tree, firstTree}
 use Rattle.formats.specs.Records.{nth}
-use Rattle.formats.specs.Programs.{size, total, arityOf, Signature, Function, Program, signatures, mostRecords, mostParameters, LawfulFunction, LawfulFunctions}
+use Rattle.formats.specs.Programs.{size, total, arityOf, Signature, Function, Program, signatures, mostRecords, LawfulFunctions}
 use Rattle.rules.specs.Types.{resultType}
 use Rattle.rules.specs.Scopes.{startOf, entered, enteredAll}
 use Rattle.rules.specs.PassOne.{mostWords, wordsOf, passOver, passOne}
 use Rattle.rules.proofs.PassOne.{pass-left, pass-right}
-use Rattle.rules.proofs.Words.{few-words, words-least}
+use Rattle.rules.proofs.Words.{few-parameters, few-words, words-least}
 use Rattle.meaning.specs.Running.{valueWords, returnWords, mostCalls}
 use Rattle.meaning.specs.Evaluation.{Value, inCall}
 use Rattle.meaning.specs.OpenCalls.{Outcome, next, evaluate, firstRecord, called, evaluation}
@@ -35,12 +35,6 @@ use Rattle.stepwise.proofs.Trees.{Lies, lies-first, cached-none, named-
 use Rattle.stepwise.proofs.Simulation.{holding-same, Agrees, Follows, Ready, SimCalls, sim}
 
 -- ---- bodies
-
--- a function's parameters are few words
-few-parameters : (gs : List Signature) (j : ℕ) (f : Function) → LawfulFunction gs j f → f .parameters ≤ mostWords
-unfolding mostParameters
-few-parameters gs zero f l = omega (arith, l .few-parameters)
-few-parameters gs (suc j) f l = omega (arith, l .few-parameters)
 
 -- the body of each function that passes stays within the words of a frame
 bodies-few :

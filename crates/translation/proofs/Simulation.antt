@@ -20,6 +20,7 @@ use Rattle.formats.specs.Programs.{Expr, const, var, add, ifZero, letIn, leafOf
 use Rattle.formats.specs.Programs.{Sort, numberValued, treeValued, Signature, Function, signatureOf, Program, signatures}
 use Rattle.formats.proofs.Records.{nth-mapped}
 use Rattle.formats.proofs.Results.{done-injective, then-inv}
+use Rattle.formats.proofs.Tokens.{joined-tokens}
 use Rattle.rules.specs.PassOne.{mostWords, wordsOf, wordsOfArgs, valueWords}
 use Rattle.rules.specs.PassTwo.{walk, walkArgs}
 use Rattle.rules.proofs.Words.{words-call, words-least, words-least-args}
@@ -32,7 +33,7 @@ use Rattle.meaning.specs.OpenCalls.{numberOr, treeOr, resultTree, evaluate, eva
 use Rattle.meaning.proofs.Evaluation.{unitsInArgs}
 use Rattle.meaning.proofs.Levels.{level-newest, level-found, level-kept}
 use Rattle.meaning.proofs.Proper.{Proper, proper-const, proper-var, proper-add, proper-ifZero, proper-let, proper-leaf}
-use Rattle.meaning.proofs.Proper.{proper-node, proper-case, proper-call, ProperArgs, proper-none, proper-arg}
+use Rattle.meaning.proofs.Proper.{proper-node, proper-case, proper-call, proper-none, proper-arg, count-proper}
 use Rattle.meaning.proofs.Sorts.{ValuesOf, valueOf, Numbers, numbersOf}
 use Rattle.translation.specs.Templates.{behind, behindArgs, Words, wordOf, code, codeArgs, endOf, entryOf}
 use Rattle.translation.proofs.Addresses.{At, Held, Split, at-code, at-args}
@@ -56,12 +57,6 @@ pushed treeValued t frame = frame
 abbrev pub appended : (s : Sort) → ValuesOf s → List ℕ → List ℕ
 appended numberValued i output = output
 appended treeValued t output = output ++ tokens t
-
--- a node's tokens are its tag and its parts' tokens
-joined-tokens : (output : List ℕ) (l r : Tree) → output ++ (nodeTag ∷ []) ++ tokens l ++ tokens r ≡ output ++ tokens (node l r)
-unfolding tokens
-joined-tokens output l r =
-    append-assoc (output ++ (nodeTag ∷ [])) (tokens l) (tokens r) ∙ append-assoc output (nodeTag ∷ []) (tokens l ++ tokens r)
 
 -- The state with a value of this sort, at this address, with so many bytes read.
 abbrev pub finished : (sort : Sort) → ValuesOf sort → (a read : ℕ) → State → State
@@ -545,12 +540,6 @@ module _ (Faulty : Type 0) (m : Setting) (program : Program) (end : ℕ) (wide :
           after-by (Calls (after₁ .derivation) found known (after₂ .derivation))
           (omega (arith, after₁ .is-begun, after₂ .is-begun)) (omega (arith, after₁ .counts, after₂ .counts))
           (record { pending = ts; named = named; carries = after₂ .carries }))
-
-  -- as many arguments as the function has number parameters
-  count-proper : {g n count : ℕ} {xs : Args} → ProperArgs (program .functions) g n count xs → countArgs xs ≡ count
-  unfolding countArgs
-  count-proper proper-none = refl
-  count-proper (proper-arg x xs) = ap suc (count-proper xs)
 
   -- every expression that pass one takes keeps up, if the calls in it do
   pub sim : SimCalls → {g n : ℕ} {sort : Sort} {e : Expr} → Proper (program .functions) g n sort e → Sim g n sort e

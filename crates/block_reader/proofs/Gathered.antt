@@ -7,22 +7,18 @@ use mathlib.Core.Path.{_≡_, refl, sym, ap, ap₂, subst, _∙_}
 use native.Mathlib.Nat.{zero-add}
 use native.Mathlib.Numerals.{add-one}
 use native.Mathlib.Omega.{arith}
-use borrow.Author.Tests.{leb-true}
-use lib.Dec.{leb}
 use lib.ListN.{length, take, drop, length-append, length-drop, take-append-drop}
 use lib.Seq.{length-take-le, take-add, take-all}
 use Rattle.formats.specs.Numbers.{numberAt}
 use Rattle.formats.specs.Written.{written}
-use Rattle.formats.specs.Refusals.{spaceTooShort}
 use Rattle.formats.specs.Results.{Result, done, onValue, verdict, each}
 use Rattle.formats.specs.Records.{recordBytes}
-use Rattle.formats.specs.Blocks.{blockBytes, blockRecords, partBytes, usedPlace, lengthRow, usedFits, blockAt, blockRow, joined, flatIn, within, flatInto, lent}
+use Rattle.formats.specs.Blocks.{blockBytes, blockRecords, partBytes, mostBytes, usedPlace, lengthRow, usedFits, blockAt, blockRow, joined, flatIn, lent}
 use Rattle.formats.proofs.Written.{written-none, written-append, wrote}
-use Rattle.formats.proofs.Results.{done-injective, then-inv, then-done, then-refused, each-inv, each-none, each-length, each-front, each-part, check-inv, value-inv, refused-is}
+use Rattle.formats.proofs.Results.{then-inv, each-inv, each-none, each-length, each-front, each-part, value-inv, refused-is}
 use Rattle.formats.proofs.Blocks.{used-some, used-full, passed}
-use Rattle.formats.proofs.Files.{Whole, length-inv, within-room, within-short, length-lent}
+use Rattle.formats.proofs.Files.{Whole, length-inv, flat-short, length-lent}
 use Rattle.refusal.specs.declared.Refusal.{Refusal}
-use Rattle.refusal.specs.declared.Refusal.the-variants.{SpaceTooShort}
 use Rattle.refusal.specs.declared.Verdict.{Verdict}
 use Rattle.refusal.specs.declared.Verdict.the-variants as verdict-is
 use Rattle.refusal.specs.Number.{number}
@@ -162,15 +158,8 @@ record Fits (s : List ℕ) (room : ℕ) : Type 0 where
   passes : verdict (flatIn s) ≡ done tt
   enough : length (joined (taken s passes .parts)) ≤ room
 
-fits : (s : List ℕ) (room : ℕ) → verdict (flatInto room s) ≡ done tt → Fits s room
-unfolding flatInto within
-fits s room passes =
-    let v = value-inv (λ r. tt) (flatInto room s) tt passes in
-    let t = then-inv (flatIn s) (within room) (v .value) (v .first) in
-    let c = check-inv (leb (length (t .value)) room) spaceTooShort 0 (t .value) (v .value) (t .second) in
-    let passed : verdict (flatIn s) ≡ done tt = ap verdict (t .first) in
-    let same : joined (taken s passed .parts) ≡ t .value = done-injective (sym (taken s passed .gives) ∙ t .first) in
-    record { passes = passed; enough = rw same (leb-true _ _ (c .held)) }
+fits : (s : List ℕ) (room : ℕ) → verdict (flatIn s) ≡ done tt → room ≡ mostBytes → Fits s room
+fits s room passes size = let t = taken s passes in record { passes = passes; enough = rw size (flat-short s (joined (t .parts)) (t .gives)) }
 
 -- the parts of the first j blocks are written
 pub record Gathered (s before after : List ℕ) (j : ℕ) : Type 0 where
@@ -187,9 +176,9 @@ front-lent : (s before : List ℕ) (t : Taken s) (j : ℕ) → j ≤ count s t
 unfolding lent
 front-lent s before t j h = ap (λ (r : Result (List (List ℕ))). lent before (onValue joined r)) (each-front (blockAt (count s t) s) (count s t) j 0 (t .parts) (t .row) h)
 
-module _ (s before : List ℕ) (passes : verdict (flatInto (length before) s) ≡ done tt) where
+module _ (s before : List ℕ) (passes : verdict (flatIn s) ≡ done tt) (size : length before ≡ mostBytes) where
   f : Fits s (length before)
-  f = fits s (length before) passes
+  f = fits s (length before) passes size
 
   t : Taken s
   t = taken s (f .passes)
@@ -252,36 +241,18 @@ flat s bytes e =
     let v = value-inv length (flatIn s) bytes (sym e) in
     record { records = v .value; is = v .first; measure = v .second }
 
-flat-into : (s : List ℕ) (room bytes : ℕ) (f : Flat s bytes) → flatInto room s ≡ within room (f .records)
-unfolding flatInto
-flat-into s room bytes f = then-done (within room) (f .is)
-
 pub take-refused : (s before : List ℕ) (rows : Verdict) (why : Refusal) (place : ℕ) → said rows ≡ verdict (flatIn s) → rows ≡ verdict-is.Refused why place
-    → Put (flatInto (length before) s) before before (filled.Refused why place)
-unfolding flatInto
-take-refused s before rows why place told is =
-    put-refused _ before why place (then-refused (within (length before)) (refused-is (flatIn s) (number why) place (sym told ∙ ap said is)))
+    → Put (flatIn s) before before (filled.Refused why place)
+take-refused s before rows why place told is = put-refused _ before why place (refused-is (flatIn s) (number why) place (sym told ∙ ap said is))
 
 pub take-passes : (s : List ℕ) (rows : Verdict) → said rows ≡ verdict (flatIn s) → rows ≡ verdict-is.Passed → verdict (flatIn s) ≡ done tt
 take-passes s rows told is = sym told ∙ ap said is
 
-pub take-short : (s before : List ℕ) (bytes : ℕ) → done bytes ≡ onValue length (flatIn s) → length before < bytes
-    → Put (flatInto (length before) s) before before (filled.Refused SpaceTooShort 0)
-take-short s before bytes e short =
-    let f = flat s bytes e in
-    put-refused _ before SpaceTooShort 0 (flat-into s (length before) bytes f ∙ within-short (length before) (f .records) (omega (arith, f .measure)))
-
-pub take-room : (s before : List ℕ) (bytes : ℕ) → done bytes ≡ onValue length (flatIn s) → bytes ≤ length before → verdict (flatInto (length before) s) ≡ done tt
-take-room s before bytes e room =
-    let f = flat s bytes e in
-    ap verdict (flat-into s (length before) bytes f ∙ within-room (length before) (f .records) (omega (arith, f .measure)))
-
-pub take-done : (s before after : List ℕ) (bytes : ℕ) → done bytes ≡ onValue length (flatIn s) → bytes ≤ length before → after ≡ lent before (flatIn s)
-    → Put (flatInto (length before) s) before after (filled.Written bytes)
+pub take-done : (s before after : List ℕ) (bytes : ℕ) → done bytes ≡ onValue length (flatIn s) → after ≡ lent before (flatIn s)
+    → Put (flatIn s) before after (filled.Written bytes)
 unfolding lent
-take-done s before after bytes e room wrote =
+take-done s before after bytes e wrote =
     let f = flat s bytes e in
-    let into : flatInto (length before) s ≡ done (f .records) = flat-into s (length before) bytes f ∙ within-room (length before) (f .records) (omega (arith, f .measure)) in
-    put-done _ before after (f .records) bytes into (f .measure) (wrote ∙ ap (lent before) (f .is))
+    put-done _ before after (f .records) bytes (f .is) (f .measure) (wrote ∙ ap (lent before) (f .is))
 
-pub ruleset taken-out = (take-refused, take-passes, take-short, take-room, take-done)
+pub ruleset taken-out = (take-refused, take-passes, take-done)

@@ -6,7 +6,7 @@ ghost use Prim.Native.Nat.{_+_, _*_, _≤_};
 ghost use mathlib.Core.Path.{_≡_};
 ghost use lib.ListN.{length, take, drop};
 ghost use Rattle.formats.specs.Results.{done, verdict, onValue};
-ghost use Rattle.formats.specs.Blocks.{blockBytes, blockRow, flatIn, flatInto, lent};
+ghost use Rattle.formats.specs.Blocks.{blockBytes, mostBytes, blockRow, flatIn, lent};
 ghost use Rattle.refusal.specs.Put.{Put};
 ghost use Rattle.refusal.specs.Said.{said};
 
@@ -20,6 +20,9 @@ const MOST_BLOCKS: usize = 17;
 const PART_BYTES: usize = 504;
 
 const USED_PLACE: usize = 506;
+
+// The bytes of flat records that the most blocks hold: 17 times 63 records of 8 bytes.
+pub const MOST_BYTES: usize = 8568;
 
 // Block j of a file.
 fn block_at(file: &[u8], j: usize) -> &[u8]
@@ -73,9 +76,9 @@ fn flat_bytes(file: &[u8]) -> usize
     PART_BYTES * full + RECORD_BYTES * used
 }
 
-// Writes the flat records of a file to the start of a lent buffer that has room for them.
+// Writes the flat records of a file to the start of a lent buffer that has room for those of every file.
 fn gather(file: &[u8], flat: &mut [u8])
-    requires { ⌜ verdict (flatInto (length (now flat)) (now file)) ≡ done tt ⌝ }
+    requires { ⌜ (verdict (flatIn (now file)) ≡ done tt) × (length (now flat) ≡ mostBytes) ⌝ }
     ensures { λ _. ⌜ now (flat .exit) ≡ lent (now (flat .entry)) (flatIn (now (file .entry))) ⌝ }
 {
     let blocks = file.len() / BLOCK_BYTES;
@@ -88,18 +91,15 @@ fn gather(file: &[u8], flat: &mut [u8])
     }
 }
 
-// The flat records of a file's blocks, written to the start of a lent buffer; 13 where it is too short for them, last.
-pub fn take_out(file: &[u8], flat: &mut [u8]) -> Filled
-    ensures { λ r. ⌜ Put (flatInto (length (now (flat .entry))) (now (file .entry))) (now (flat .entry)) (now (flat .exit)) r ⌝ }
+// The flat records of a file's blocks, written to the start of a lent buffer, which has room for those of every file: only the block rows
+// refuse.
+pub fn take_out(file: &[u8], flat: &mut [u8; MOST_BYTES]) -> Filled
+    ensures { λ r. ⌜ Put (flatIn (now (file .entry))) (now (flat .entry)) (now (flat .exit)) r ⌝ }
 {
     let rows = block_rows(file);
     if let Verdict::Refused(why, place) = rows {
         return Filled::Refused(why, place);
     }
-    let bytes = flat_bytes(file);
-    if flat.len() < bytes {
-        return Filled::Refused(Refusal::SpaceTooShort, 0);
-    }
     gather(file, flat);
-    Filled::Written(bytes)
+    Filled::Written(flat_bytes(file))
 }

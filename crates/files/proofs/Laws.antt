@@ -7,7 +7,7 @@ use lib.ListN.{length, take}
 use Rattle.formats.specs.Written.{written}
 use Rattle.formats.specs.Results.{refusal, andThen, onValue, verdict}
 use Rattle.formats.specs.Rows.{readProgram}
-use Rattle.formats.specs.Blocks.{flatInto, fileOf, programRecords, readFile, writeFile, within, programInto, readInto, writeInto}
+use Rattle.formats.specs.Blocks.{mostBytes, flatIn, fileOf, programRecords, readFile, writeFile, within, programInto, readInto, writeInto}
 use Rattle.formats.proofs.Results.{then-done, then-refused, Value, passed-is, refused-is}
 use Rattle.formats.proofs.Files.{within-room, within-short}
 use Rattle.refusal.specs.declared.Refusal.{Refusal}
@@ -20,7 +20,7 @@ use Rattle.refusal.specs.Put.{Put}
 use Rattle.refusal.specs.declared.Filled.{Filled}
 use Rattle.refusal.specs.declared.Filled.the-variants.{Written, Refused}
 use Rattle.refusal.proofs.Put.{put-refused, put-done}
-use Rattle.block_reader.proofs.Taken.{mostBytes, not-taken, taken-out}
+use Rattle.block_reader.proofs.Taken.{not-taken, taken-out, taken-inside}
 
 -- ---- the rows header to prefix form
 
@@ -69,14 +69,11 @@ pub ruleset write-ways = (file-refused, file-put)
 
 -- ---- `read_file`
 
-module _ (s space : List ℕ) (size : length space ≡ mostBytes) (after : List ℕ) (taken : Filled) (put : Put (flatInto (length space) s) space after taken) where
+module _ (s space : List ℕ) (size : length space ≡ mostBytes) (after : List ℕ) (taken : Filled) (put : Put (flatIn s) space after taken) where
   pub read-refused : (before : List ℕ) (why : Refusal) (place : ℕ) → taken ≡ Refused why place → Put (readInto (length before) s) before before (Refused why place)
   unfolding readInto readFile
   read-refused before why place is =
       put-refused _ before why place (then-refused (within (length before)) (then-refused programRecords (not-taken s space size after taken put why place is)))
-
-  pub read-inside : (bytes : ℕ) → taken ≡ Written bytes → bytes ≤ length after
-  read-inside bytes is = taken-out s space size after taken put bytes is .inside
 
   pub read-put : (before last : List ℕ) (bytes : ℕ) (filled : Filled) → taken ≡ Written bytes → Put (programInto (length before) (take bytes after)) before last filled
       → Put (readInto (length before) s) before last filled
@@ -87,4 +84,4 @@ module _ (s space : List ℕ) (size : length space ≡ mostBytes) (after : List 
       ap (λ r. andThen r (within (length before))) (then-done programRecords (f .is)) ∙ ap (programInto (length before)) (sym (f .there)) in
       rw same p
 
-pub ruleset read-ways = (read-refused, read-inside, read-put)
+pub ruleset read-ways = (read-refused, taken-inside, read-put)

@@ -1,13 +1,11 @@
 // Program files: the reader, from a file to flat records, and the writer, from flat records to the file.
+use block_reader::MOST_BYTES;
 use refusal::Filled;
 use refusal::Refusal;
 use refusal::Verdict;
 ghost use lib.ListN.{length};
 ghost use Rattle.formats.specs.Blocks.{programInto, readInto, writeInto};
 ghost use Rattle.refusal.specs.Put.{Put};
-
-// The bytes of flat records that the most blocks hold: 17 times 63 records of 8 bytes.
-const MOST_BYTES: usize = 8568;
 
 // Flat records that are a program, written to the start of a lent buffer: the rows header to prefix form, then 13 where the
 // buffer is too short.

@@ -13,7 +13,7 @@ use Rattle.formats.specs.Numbers.{Bytes}
 use Rattle.formats.specs.Refusals.{fileLength, spaceTooShort}
 use Rattle.formats.specs.Results.{Result, done, refusal, onValue, each}
 use Rattle.formats.specs.Records.{recordBytes}
-use Rattle.formats.specs.Blocks.{blockBytes, mostBlocks, blockRecords, partBytes, wordLimit, blockOf, blocksFrom, blocksFor, fileOf, lengthRow, usedFits, usedOf, blockAt, blockRow, joined, flatIn, within, lent}
+use Rattle.formats.specs.Blocks.{blockBytes, mostBlocks, blockRecords, partBytes, mostBytes, wordLimit, blockOf, blocksFrom, blocksFor, fileOf, lengthRow, usedFits, usedOf, blockAt, blockRow, joined, flatIn, within, lent}
 use Rattle.formats.specs.ProgramFiles.{Fewest}
 use Rattle.formats.proofs.Numbers.{bytes-append, bytes-take, bytes-drop}
 use Rattle.formats.proofs.Written.{wrote}
@@ -248,7 +248,7 @@ parts-short blocks s (suc n) j parts e =
     let others = parts-short blocks s n (suc j) (i .tail) (i .later) in
     rw (i .both, length-append) (omega arith)
 
-pub flat-short : (s r : List ℕ) → flatIn s ≡ done r → length r ≤ partBytes * mostBlocks
+pub flat-short : (s r : List ℕ) → flatIn s ≡ done r → length r ≤ mostBytes
 flat-short s r e =
     let d = read-inv s r e in
     rw (← (d .gives)) (omega (arith, parts-short (d .blocks) s (d .blocks) 0 (d .parts) (d .row), d .few-blocks))

@@ -26,6 +26,10 @@ blockRecords = 63
 abbrev pub partBytes : ℕ
 partBytes = recordBytes * blockRecords
 
+-- The bytes of flat records that the most blocks hold.
+abbrev pub mostBytes : ℕ
+mostBytes = partBytes * mostBlocks
+
 -- 01, Blocks: "504–505: block number from 0. 506–507: records used .. 508–509: number of blocks."
 abbrev pub numberPlace : ℕ
 numberPlace = 504
@@ -152,9 +156,6 @@ writeFile r = onValue (λ program. fileOf r) (readProgram r)
 -- buffer has room for them.
 unfoldable pub within : ℕ → List ℕ → Result (List ℕ)
 within room bytes = check (leb (length bytes) room) spaceTooShort 0 bytes
-
-unfoldable pub flatInto : ℕ → List ℕ → Result (List ℕ)
-flatInto room s = andThen (flatIn s) (within room)
 
 unfoldable pub programInto : ℕ → List ℕ → Result (List ℕ)
 programInto room r = andThen (programRecords r) (within room)

@@ -1,10 +1,10 @@
 -- A law for each way out of `check_file`: the blocks refuse, or both passes say.
-use Prim.Native.Nat.{ℕ, _≤_}
+use Prim.Native.Nat.{ℕ}
 use mathlib.Core.List.{List}
 use mathlib.Core.Path.{_≡_, sym, ap, _∙_}
 use lib.ListN.{length, take}
 use Rattle.formats.specs.Results.{refusal}
-use Rattle.formats.specs.Blocks.{flatInto}
+use Rattle.formats.specs.Blocks.{mostBytes, flatIn}
 use Rattle.formats.proofs.Results.{then-done, then-refused}
 use Rattle.refusal.specs.Number.{number}
 use Rattle.refusal.specs.Put.{Put}
@@ -13,19 +13,16 @@ use Rattle.refusal.specs.declared.Refusal.{Refusal}
 use Rattle.refusal.specs.declared.Filled.{Filled}
 use Rattle.refusal.specs.declared.Filled.the-variants.{Written, Refused}
 use Rattle.refusal.specs.declared.Verdict.{Verdict}
-use Rattle.block_reader.proofs.Taken.{mostBytes, not-taken, taken-out}
+use Rattle.block_reader.proofs.Taken.{not-taken, taken-out, taken-inside}
 use Rattle.rules.specs.PassTwo.{checkRecords, checkFile}
 
-module _ (s space : List ℕ) (size : length space ≡ mostBytes) (after : List ℕ) (taken : Filled) (put : Put (flatInto (length space) s) space after taken) where
+module _ (s space : List ℕ) (size : length space ≡ mostBytes) (after : List ℕ) (taken : Filled) (put : Put (flatIn s) space after taken) where
   pub blocks-refuse : (why : Refusal) (place : ℕ) → taken ≡ Refused why place → refusal (number why) place ≡ checkFile s
   unfolding checkFile
   blocks-refuse why place is = sym (then-refused checkRecords (not-taken s space size after taken put why place is))
-
-  pub bytes-inside : (bytes : ℕ) → taken ≡ Written bytes → bytes ≤ length after
-  bytes-inside bytes is = taken-out s space size after taken put bytes is .inside
 
   pub passes-say : (bytes : ℕ) (r : Verdict) → taken ≡ Written bytes → said r ≡ checkRecords (take bytes after) → said r ≡ checkFile s
   unfolding checkFile
   passes-say bytes r is says = let f = taken-out s space size after taken put bytes is in says ∙ ap checkRecords (f .there) ∙ sym (then-done checkRecords (f .is))
 
-pub ruleset check-ways = (blocks-refuse, bytes-inside, passes-say)
+pub ruleset check-ways = (blocks-refuse, taken-inside, passes-say)

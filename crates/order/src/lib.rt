@@ -1,12 +1,10 @@
 // The order checker over program files.
+use block_reader::MOST_BYTES;
 use refusal::Filled;
 use refusal::Verdict;
 ghost use mathlib.Core.Path.{_≡_};
 ghost use Rattle.refusal.specs.Said.{said};
 ghost use Rattle.rules.specs.PassTwo.{checkFile};
-
-// The bytes of flat records that the most blocks hold: 17 times 63 records of 8 bytes.
-const MOST_BYTES: usize = 8568;
 
 // A program file: the rows blocks to prefix form, pass one, then pass two, each finished for the whole file before the next begins.
 pub fn check_file(file: &[u8]) -> Verdict

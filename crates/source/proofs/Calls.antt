@@ -15,7 +15,7 @@ use Rattle.formats.specs.Records.{recordAt}
 use Rattle.formats.specs.Tokens.{Tree, firstTree, firstEnd}
 use Rattle.formats.specs.Programs.{Program, mostRecords}
 use Rattle.formats.specs.Rows.{headerIn, readProgram}
-use Rattle.formats.specs.Blocks.{flatIn, flatInto, programIn}
+use Rattle.formats.specs.Blocks.{mostBytes, flatIn, programIn}
 use Rattle.formats.proofs.Results.{then-done, then-refused, then-inv, check-inv, passed-is, refused-is}
 use Rattle.formats.proofs.Endings.{ended-by, stopped-by}
 use Rattle.formats.proofs.ProgramFiles.{program-files}
@@ -30,7 +30,7 @@ use Rattle.refusal.specs.declared.Verdict.{Verdict}
 use Rattle.refusal.specs.declared.Verdict.the-variants as verdict-is
 use Rattle.refusal.specs.declared.Filled.{Filled}
 use Rattle.refusal.specs.declared.Filled.the-variants.{Written, Refused}
-use Rattle.block_reader.proofs.Taken.{mostBytes, not-taken, taken-out}
+use Rattle.block_reader.proofs.Taken.{not-taken, taken-out, taken-inside}
 use Rattle.tree.specs.declared.TreeAnswer.{TreeAnswer}
 use Rattle.tree.specs.declared.TreeAnswer.the-variants as tree-is
 use Rattle.tree.specs.Answer.{answered as treeAnswered}
@@ -266,7 +266,7 @@ pub ruleset records-ways = (records-refused, records-few-values, records-few-pla
 
 -- ---- `run`
 
-module _ (file space : List ℕ) (size : length space ≡ mostBytes) (after : List ℕ) (taken : Filled) (put : Put (flatInto (length space) file) space after taken)
+module _ (file space : List ℕ) (size : length space ≡ mostBytes) (after : List ℕ) (taken : Filled) (put : Put (flatIn file) space after taken)
     (input output values places : List ℕ) (fuel : ℕ)
   where
     pub file-refused : (why : Refusal) (place : ℕ) (r : SourceAnswer) → taken ≡ Refused why place
@@ -279,9 +279,6 @@ module _ (file space : List ℕ) (size : length space ≡ mostBytes) (after : Li
         (then-refused readProgram (not-taken file space size after taken put why place is)))
         told
 
-    pub file-inside : (bytes : ℕ) → taken ≡ Written bytes → bytes ≤ length after
-    file-inside bytes is = taken-out file space size after taken put bytes is .inside
-
     pub file-run : (bytes : ℕ) (output′ values′ places′ : List ℕ) (r : SourceAnswer) → taken ≡ Written bytes
         → OfFile (take bytes after) input output output′ values values′ places places′ fuel r
         → Sourced (due file input output values places fuel) output′ values values′ places places′ r
@@ -289,4 +286,4 @@ module _ (file space : List ℕ) (size : length space ≡ mostBytes) (after : Li
         let f = taken-out file space size after taken put bytes is in
         o .is file (f .is ∙ ap done (sym (f .there)))
 
-pub ruleset file-ways = (file-refused, file-inside, file-run)
+pub ruleset file-ways = (file-refused, taken-inside, file-run)

@@ -1,5 +1,6 @@
 // 01, The source run: the source evaluation of a program on a tree, within limits: the checks in
 // order, then a walk that counts the result's bytes and one that writes them.
+use block_reader::MOST_BYTES;
 use refusal::Filled;
 use refusal::Refusal;
 use refusal::Verdict;
@@ -19,9 +20,6 @@ const FUEL_USED_UP: u32 = 14;
 
 // Words of a program's table: a row for each of 1,057 records.
 const TABLE_WORDS: usize = 8456;
-
-// The bytes of flat records that the most blocks hold: 17 times 63 records of 8 bytes.
-const MOST_BYTES: usize = 8568;
 
 // The work words of a run.
 const VALUE_WORDS: usize = 16384;

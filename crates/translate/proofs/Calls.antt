@@ -6,7 +6,7 @@ use native.Mathlib.Omega.{arith}
 use lib.ListN.{length, take}
 use Rattle.formats.specs.Records.{recordBytes}
 use Rattle.formats.specs.Results.{done, verdict}
-use Rattle.formats.specs.Blocks.{flatInto, within}
+use Rattle.formats.specs.Blocks.{mostBytes, flatIn, within}
 use Rattle.formats.proofs.Results.{Value, passed-is, refused-is, then-done, then-refused}
 use Rattle.formats.proofs.Files.{within-room, within-short}
 use Rattle.refusal.specs.Number.{number}
@@ -20,7 +20,7 @@ use Rattle.refusal.specs.declared.Filled.{Filled}
 use Rattle.refusal.specs.declared.Filled.the-variants.{Written, Refused}
 use Rattle.refusal.proofs.Put.{put-refused, put-done}
 use Rattle.rules.specs.PassTwo.{checkRecords}
-use Rattle.block_reader.proofs.Taken.{mostBytes, not-taken, taken-out}
+use Rattle.block_reader.proofs.Taken.{not-taken, taken-out, taken-inside}
 use Rattle.translation.specs.Templates.{operationsOf, codeOf}
 use Rattle.translation.specs.Calls.{checkedRecords, translateRecords, translateFile}
 use Rattle.translation.proofs.Calls.{as-checked}
@@ -71,13 +71,10 @@ pub ruleset records-ways = (records-refused, records-asked, records-short, recor
 
 -- ---- `translate_file`
 
-module _ (s space : List ℕ) (size : length space ≡ mostBytes) (after : List ℕ) (taken : Filled) (put : Put (flatInto (length space) s) space after taken) where
+module _ (s space : List ℕ) (size : length space ≡ mostBytes) (after : List ℕ) (taken : Filled) (put : Put (flatIn s) space after taken) where
   pub file-refused : (before : List ℕ) (why : Refusal) (place : ℕ) → taken ≡ Refused why place → Put (translateFile (length before) s) before before (Refused why place)
   unfolding translateFile
   file-refused before why place is = put-refused _ before why place (then-refused (translateRecords (length before)) (not-taken s space size after taken put why place is))
-
-  pub file-inside : (bytes : ℕ) → taken ≡ Written bytes → bytes ≤ length after
-  file-inside bytes is = taken-out s space size after taken put bytes is .inside
 
   pub file-put : (before last : List ℕ) (bytes : ℕ) (filled : Filled) → taken ≡ Written bytes → Put (translateRecords (length before) (take bytes after)) before last filled
       → Put (translateFile (length before) s) before last filled
@@ -86,4 +83,4 @@ module _ (s space : List ℕ) (size : length space ≡ mostBytes) (after : List 
       let f = taken-out s space size after taken put bytes is in
       rw (then-done (translateRecords (length before)) (f .is) ∙ ap (translateRecords (length before)) (sym (f .there))) p
 
-pub ruleset file-ways = (file-refused, file-inside, file-put)
+pub ruleset file-ways = (file-refused, taken-inside, file-put)

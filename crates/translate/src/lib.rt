@@ -1,4 +1,5 @@
 // The translator: from a program's records to its code, by 01, Templates.
+use block_reader::MOST_BYTES;
 use code_scope::Scope;
 use lay_items::Labels;
 use records::Parts;
@@ -17,9 +18,6 @@ ghost use Rattle.code_scope.specs.Around.{sortOf};
 ghost use Rattle.translate.specs.Walk.{Small, SmallParts, Lays, LaysParts, Starts, LaysFunction, Tabled, Ready, LaysAll};
 
 const INSTRUCTION_BYTES: usize = 8;
-
-// The bytes of flat records that the most blocks hold: 17 times 63 records of 8 bytes.
-const MOST_BYTES: usize = 8568;
 
 const MOST_FUNCTIONS: usize = 32;
 

@@ -9,7 +9,6 @@ pub read-file-spec : {M : Type 1} → statement M
 read-file-spec =
     tie.close
     (tie.spec
-    (λ c. search needs)
     (λ c κs. search needs)
     (λ c. search needs) (λ c. search needs)
     (λ c. search read-ways)

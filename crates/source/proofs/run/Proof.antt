@@ -9,7 +9,7 @@ pub run-spec : {M : Type 1} → statement M
 run-spec =
     tie.close
     (tie.spec
-    (λ c. search needs) (λ c κs. search needs) (λ c. search needs) (λ c κs. search needs) (λ c. search needs) (λ c. search file-ways)
+    (λ c κs. search needs) (λ c. search needs) (λ c κs. search needs) (λ c. search needs) (λ c. search file-ways)
     (λ c. search (needs, length-take-le, file-ways)) (λ c κs. search needs)
     (λ c. search file-ways)
     (λ c. search needs) (λ c. search needs) (λ c. search needs)

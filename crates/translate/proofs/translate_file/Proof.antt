@@ -9,7 +9,6 @@ pub translate-file-spec : {M : Type 1} → statement M
 translate-file-spec =
     tie.close
     (tie.spec
-    (λ c. search needs)
     (λ c κs. search needs)
     (λ c. search needs) (λ c. search needs)
     (λ c. search file-ways)

@@ -1,12 +1,10 @@
 -- What a call answers, a law for each way out of the functions that tell it.
-use Prim.Native.Nat.{ℕ, _≤_, _<_}
+use Prim.Native.Nat.{ℕ, _<_}
 use mathlib.Core.List.{List, [], _∷_}
 use mathlib.Core.Path.{_≡_, refl, sym, ap, subst, _∙_}
-use borrow.Author.Tests.{lt-ltb, le-ltb}
-use lib.ListN.{length, set}
+use lib.ListN.{length}
 use Rattle.formats.specs.Refusals.{spaceTooShort}
-use Rattle.formats.specs.Results.{Result, done, refusal, onValue}
-use Rattle.formats.proofs.Written.{written-sets, written-short}
+use Rattle.formats.specs.Results.{Result, done, refusal, onValue, verdict as outcomeOf}
 use Rattle.refusal.specs.declared.Refusal.{Refusal}
 use Rattle.refusal.specs.Number.{number}
 use Rattle.refusal.specs.Said.{said}
@@ -15,39 +13,21 @@ use Rattle.refusal.specs.declared.Verdict.the-variants.{Passed, Refused as Verd
 use Rattle.refusal.specs.Put.{answered}
 use Rattle.refusal.specs.declared.Filled.{Filled}
 use Rattle.refusal.specs.declared.Filled.the-variants.{Written, Refused}
-use Rattle.answers.specs.Answer.{answerPlaces, refusalOf, placesOf, Stores, Answers}
+use Rattle.answers.specs.Told.{refusalOf, placeOf}
+use Rattle.answers.specs.Answer.{answerPlaces, bytesOf, Stores, Answers}
+use Rattle.answers.proofs.Told.{told-short}
 
--- ---- `store`
-
-module _ (n place bytes : ℕ) (before : List ℕ) where
-  pub store-short : (r : ℕ) → length before < answerPlaces → r ≡ spaceTooShort → Stores n place bytes before before r
-  store-short r h e = record { given = rw (lt-ltb _ _ h) e; places = sym (written-short before 0 (place ∷ bytes ∷ []) h) }
-
-  -- two stores from the first place on are the two numbers written there
-  pub store-done : answerPlaces ≤ length before → Stores n place bytes before (set (set before 0 place) 1 bytes) n
-  store-done h = record { given = rw (le-ltb _ _ h) refl; places = written-sets before 0 (place ∷ bytes ∷ []) h }
-
-pub ruleset store-ways = (store-short, store-done)
-
--- ---- the answers
-
--- an answer takes as many places as it says
-length-places : (due : Result ℕ) → length (placesOf due) ≡ answerPlaces
-unfolding placesOf
-length-places (done bytes) = refl
-length-places (refusal n q) = refl
-
--- too few places
+-- too few slots
 pub too-few : (due : Result ℕ) (before : List ℕ) (r : ℕ) → length before < answerPlaces → r ≡ spaceTooShort → Answers due before before r
-too-few due before r h e = record { number = rw (lt-ltb _ _ h) e; places = sym (written-short before 0 (placesOf due) (rw length-places h)) }
+too-few due before r h e = told-short answerPlaces (λ place. place ∷ bytesOf due ∷ []) (outcomeOf due) before r refl h e
 
 module _ (before after : List ℕ) (r : ℕ) where
   pub all-done : (due : Result ℕ) (bytes : ℕ) → due ≡ done bytes → Stores 0 0 bytes before after r → Answers due before after r
-  unfolding refusalOf placesOf
+  unfolding refusalOf placeOf bytesOf
   all-done due bytes e s = subst (λ (d : Result ℕ). Answers d before after r) (sym e) (record { number = s .given; places = s .places })
 
   pub a-refusal : (due : Result ℕ) (n place : ℕ) → due ≡ refusal n place → Stores n place 0 before after r → Answers due before after r
-  unfolding refusalOf placesOf
+  unfolding refusalOf placeOf bytesOf
   a-refusal due n place e s = subst (λ (d : Result ℕ). Answers d before after r) (sym e) (record { number = s .given; places = s .places })
 
   pub filled-done : (filled : Filled) (bytes : ℕ) → filled ≡ Written bytes → Stores 0 0 bytes before after r → Answers (answered filled) before after r

@@ -1,3 +1,4 @@
 -- The laws that the functions' proofs cite.
+pub mod Told
 pub mod Laws
 pub mod Calls

@@ -1,4 +1,4 @@
--- What a run answers, stream or source: a number, and so many places of a lent answer, in a row.
+-- What every call answers: a number, and a row of numbers in the first slots of a lent answer array.
 use Prim.Native.Nat.{ℕ}
 use mathlib.Core.Bool.{true, false}
 use mathlib.Core.List.{List}
@@ -9,7 +9,7 @@ use Rattle.formats.specs.Refusals.{spaceTooShort}
 use Rattle.formats.specs.Results.{Result, done, refusal}
 use Rattle.formats.specs.Written.{written}
 
--- 0 where the run ended, else the refusal's number; and its place.
+-- 0 where all is done, else the refusal's number; and its position.
 unfoldable pub refusalOf : Result (Unit {0}) → ℕ
 refusalOf (done u) = 0
 refusalOf (refusal number place) = number
@@ -18,12 +18,12 @@ unfoldable pub placeOf : Result (Unit {0}) → ℕ
 placeOf (done u) = 0
 placeOf (refusal number place) = place
 
--- A number given and the places stored: 13 where there are too few, which are then untouched.
-pub record Stored (count : ℕ) (row : List ℕ) (number : ℕ) (before after : List ℕ) (r : ℕ) : Type 0 where
-  pub given : r ≡ elim (ltb (length before) count) [ true ↦ spaceTooShort | false ↦ number ]
+-- A number given and a row stored: 13 where there are too few slots, which are then untouched.
+pub record Stored (row : List ℕ) (number : ℕ) (before after : List ℕ) (r : ℕ) : Type 0 where
+  pub given : r ≡ elim (ltb (length before) (length row)) [ true ↦ spaceTooShort | false ↦ number ]
   pub places : after ≡ written before 0 row
 
--- An answer, with the row that it has for a refusal's place, and what the places then hold.
+-- An answer of so many slots, with the row that it has for a refusal's position, and what the slots then hold.
 pub record Told (count : ℕ) (row : ℕ → List ℕ) (outcome : Result (Unit {0})) (before after : List ℕ) (r : ℕ) : Type 0 where
   pub number : r ≡ elim (ltb (length before) count) [ true ↦ spaceTooShort | false ↦ refusalOf outcome ]
   pub places : after ≡ written before 0 (row (placeOf outcome))

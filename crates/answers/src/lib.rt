@@ -8,6 +8,7 @@ ghost use lib.ListN.{length};
 ghost use Rattle.refusal.specs.Put.{answered};
 ghost use Rattle.formats.specs.Results.{onValue};
 ghost use Rattle.refusal.specs.Said.{said};
+ghost use Rattle.answers.specs.Told.{Stored};
 ghost use Rattle.answers.specs.Answer.{answerPlaces, Stores, Answers};
 
 // How many places an answer takes. Later ones will stand after these.
@@ -20,17 +21,29 @@ pub fn has_room(answer: &[u64]) -> bool
     ANSWER_PLACES <= answer.len()
 }
 
-// Stores a refusal's place and a number of bytes as the answer's first two places, and gives the refusal's number. With fewer places: 13, and
-// the answer is untouched.
+// Stores a row of numbers in the answer's first slots, and gives `number`. With fewer slots: 13, and the
+// answer is untouched.
+pub fn store_row(answer: &mut [u64], row: &[u64], number: u32) -> u32
+    ensures { λ r. ⌜ Stored (now (row .entry)) number (now (answer .entry)) (now (answer .exit)) r ⌝ }
+{
+    let n = row.len();
+    if answer.len() < n {
+        return refusal::number_of(Refusal::SpaceTooShort);
+    }
+    let mut k = 0;
+    while k < n {
+        answer[k] = row[k];
+        k = k + 1;
+    }
+    number
+}
+
+// The row of a refusal's position and a number of bytes.
 pub fn store(answer: &mut [u64], number: u32, place: usize, bytes: usize) -> u32
     ensures { λ r. ⌜ Stores number place bytes (now (answer .entry)) (now (answer .exit)) r ⌝ }
 {
-    if answer.len() < ANSWER_PLACES {
-        return refusal::number_of(Refusal::SpaceTooShort);
-    }
-    answer[0] = place as u64;
-    answer[1] = bytes as u64;
-    number
+    let row = [place as u64, bytes as u64];
+    store_row(answer, &row, number)
 }
 
 // The answer of a call that has filled a lent buffer, or refused to.

@@ -1,5 +1,4 @@
 -- The laws that the functions' proofs cite.
 pub mod Extended
-pub mod Told
 pub mod Laws
 pub mod RunCall

@@ -11,9 +11,9 @@ use Rattle.formats.specs.Refusals.{spaceTooShort}
 use Rattle.formats.specs.Results.{Result}
 use Rattle.meaning.specs.WorkWords.{WorkWords}
 use Rattle.meaning.proofs.WorkWords.{untouched}
-use Rattle.run_answers.specs.Told.{Told, placeOf}
+use Rattle.answers.specs.Told.{Told, placeOf}
+use Rattle.answers.proofs.Told.{told-short}
 use Rattle.run_answers.specs.RunCall.{RunCall}
-use Rattle.run_answers.proofs.Told.{told-short}
 
 -- the test for the places
 module _ (count : ℕ) (before : List ℕ) (room : Bool) (test : room ≡ leb count (length before)) where

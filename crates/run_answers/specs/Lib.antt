@@ -1,4 +1,3 @@
 -- What a stream run answers.
-pub mod Told
 pub mod RunAnswer
 pub mod RunCall

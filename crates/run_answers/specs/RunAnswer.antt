@@ -7,7 +7,7 @@ use lib.Dec.{ltb}
 use lib.IntN.{ℤ, pos, negsuc}
 use Rattle.formats.specs.Numbers.{signed32}
 use Rattle.meaning.specs.Running.{Answer}
-use Rattle.run_answers.specs.Told.{Stored, Told}
+use Rattle.answers.specs.Told.{Stored, Told}
 
 -- How many places the answer takes.
 abbrev pub runPlaces : ℕ
@@ -34,7 +34,7 @@ abbrev pub placesWith : ℕ → Answer → List ℕ
 placesWith place a = place ∷ a .units ∷ a .bytesRead ∷ a .bytesWritten ∷ signExtended (a .number) ∷ []
 
 abbrev pub Stores : Answer → ℕ → ℕ → List ℕ → List ℕ → ℕ → Type 0
-Stores a number place before after r = Stored runPlaces (placesWith place a) number before after r
+Stores a number place before after r = Stored (placesWith place a) number before after r
 
 abbrev pub Answers : Answer → List ℕ → List ℕ → ℕ → Type 0
 Answers a before after r = Told runPlaces (λ place. placesWith place a) (a .outcome) before after r

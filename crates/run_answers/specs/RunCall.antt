@@ -8,7 +8,7 @@ use lib.ListN.{length}
 use Rattle.formats.specs.Results.{Result}
 use Rattle.meaning.specs.Running.{Ran}
 use Rattle.meaning.specs.WorkWords.{WorkWords, beforeStream}
-use Rattle.run_answers.specs.Told.{Told}
+use Rattle.answers.specs.Told.{Told}
 use Rattle.run_answers.specs.RunAnswer.{runPlaces, placesWith}
 
 -- A run with this outcome and this output due. Its answer is `row`, stored in the first `count` places of the answer array, which is `before` at entry and

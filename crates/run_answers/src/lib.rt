@@ -1,6 +1,5 @@
 // The answer of a stream run from C or Rust: a number, and the first places of an array that the caller lends.
 use machine::Answer;
-use refusal::Refusal;
 use refusal::Verdict;
 ghost use mathlib.Core.Path.{_≡_};
 ghost use lib.Dec.{leb};
@@ -32,20 +31,18 @@ pub fn sign_extended(word: u32) -> u64
     }
 }
 
-// Stores a refusal's place, units, bytes read, bytes written and the number, sign-extended to 64 bits, as the answer's first places, and gives the
-// refusal's number. With fewer places: 13, and the answer is untouched.
+// The row of a refusal's position, units, bytes read, bytes written and the number, sign-extended to 64 bits.
 fn store(ran: Answer, number: u32, place: usize, answer: &mut [u64]) -> u32
     ensures { λ r. ⌜ Stores (answered ran) number place (now (answer .entry)) (now (answer .exit)) r ⌝ }
 {
-    if answer.len() < RUN_PLACES {
-        return refusal::number_of(Refusal::SpaceTooShort);
-    }
-    answer[0] = place as u64;
-    answer[1] = ran.units;
-    answer[2] = ran.read as u64;
-    answer[3] = ran.written as u64;
-    answer[4] = sign_extended(ran.number);
-    number
+    let row = [
+        place as u64,
+        ran.units,
+        ran.read as u64,
+        ran.written as u64,
+        sign_extended(ran.number),
+    ];
+    answers::store_row(answer, &row, number)
 }
 
 // The answer of a stream run.

@@ -2,7 +2,7 @@
 use Prim.Native.Nat.{ℕ}
 use mathlib.Core.List.{List, [], _∷_}
 use Rattle.meaning.specs.SourceRun.{SourceAnswer}
-use Rattle.run_answers.specs.Told.{Stored, Told}
+use Rattle.answers.specs.Told.{Stored, Told}
 use Rattle.run_answers.specs.RunAnswer.{signExtended}
 
 -- How many places the answer takes.
@@ -15,7 +15,7 @@ placesWith place a = place ∷ a .begun ∷ a .bytesWritten ∷ signExtended (a 
 
 -- What is stored, and what is told: as of a stream run, with these places.
 abbrev pub Stores : SourceAnswer → ℕ → ℕ → List ℕ → List ℕ → ℕ → Type 0
-Stores a number place before after r = Stored sourcePlaces (placesWith place a) number before after r
+Stores a number place before after r = Stored (placesWith place a) number before after r
 
 abbrev pub Answers : SourceAnswer → List ℕ → List ℕ → ℕ → Type 0
 Answers a before after r = Told sourcePlaces (λ place. placesWith place a) (a .outcome) before after r

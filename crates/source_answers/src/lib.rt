@@ -1,5 +1,4 @@
 // The answer of a source run from C or Rust: a number, and the first places of an array that the caller lends.
-use refusal::Refusal;
 use refusal::Verdict;
 use source::SourceAnswer;
 ghost use mathlib.Core.Path.{_≡_};
@@ -18,19 +17,17 @@ pub fn has_room(answer: &[u64]) -> bool
     SOURCE_PLACES <= answer.len()
 }
 
-// Stores a refusal's place, expressions begun, bytes written and the number, sign-extended to 64 bits, as the answer's first places, and gives the
-// refusal's number. With fewer places: 13, and the answer is untouched.
+// The row of a refusal's position, expressions begun, bytes written and the number, sign-extended to 64 bits.
 fn store(ran: SourceAnswer, number: u32, place: usize, answer: &mut [u64]) -> u32
     ensures { λ r. ⌜ Stores (answered ran) number place (now (answer .entry)) (now (answer .exit)) r ⌝ }
 {
-    if answer.len() < SOURCE_PLACES {
-        return refusal::number_of(Refusal::SpaceTooShort);
-    }
-    answer[0] = place as u64;
-    answer[1] = ran.begun;
-    answer[2] = ran.written as u64;
-    answer[3] = run_answers::sign_extended(ran.number);
-    number
+    let row = [
+        place as u64,
+        ran.begun,
+        ran.written as u64,
+        run_answers::sign_extended(ran.number),
+    ];
+    answers::store_row(answer, &row, number)
 }
 
 // The answer of a source run.

@@ -19,7 +19,7 @@ use Rattle.records.specs.Read.{meant, partOf}
 use Rattle.records.specs.declared.Part.{Part as RecordPart}
 use Rattle.records.specs.declared.Record.{Record}
 use Rattle.walks.specs.Limits.{mostCount}
-use Rattle.stepwise.specs.Rows.{roleOf, slotOf, namesIn, keepsIn, casesIn, partPlace}
+use Rattle.stepwise.specs.Rows.{kept, lastArgument, lastWord, roleOf, slotOf, namesIn, keepsIn, casesIn, partPlace}
 use Rattle.part_places.specs.declared.Place.{Place}
 use Rattle.part_places.specs.Parts.{placeWith, capped, namesInside, keepsInside, depthInside, partIn, noted}
 use Rattle.part_places.proofs.Parts.{cap-low, placed}
@@ -81,9 +81,9 @@ started s j m p em e = record {
 
 -- counts grow by one at most, or by the parts before it
 record Near (r i : ℕ) (p q : Place) : Type 0 where
-  role : q .role ≤ 7
+  role : q .role ≤ lastArgument
   parent : q .parent ≡ r
-  slot : q .slot ≤ p .names + 15
+  slot : q .slot ≤ p .names + lastWord
   names : q .names ≤ p .names + 1
   keeps : q .keeps ≤ p .keeps + i
   depth : q .depth ≤ p .depth + 1
@@ -107,13 +107,13 @@ depth-near underNumber n = omega arith
 depth-near underTrees n = omega arith
 
 -- a place that is so, by its counts
-near-to : (part : Part) (r i : ℕ) (p : Place) (role slot keeps : ℕ) → role ≤ 7 → slot ≤ p .names + 15 → keeps ≤ p .keeps + i
+near-to : (part : Part) (r i : ℕ) (p : Place) (role slot keeps : ℕ) → role ≤ lastArgument → slot ≤ p .names + lastWord → keeps ≤ p .keeps + i
     → Near r i p (placed role r slot (namesUnder part (p .names)) keeps (deeper part (p .depth)))
 near-to part r i p role slot keeps hr hs hk =
     record { role = hr; parent = refl; slot = hs; names = names-near part (p .names); keeps = hk; depth = depth-near part (p .depth) }
 
 -- an argument's role
-last-role : (b : Bool) → elim b [ true ↦ 7 | false ↦ 1 ] ≤ 7
+last-role : (b : Bool) → elim b [ true ↦ lastArgument | false ↦ kept ] ≤ lastArgument
 last-role true = omega arith
 last-role false = omega arith
 

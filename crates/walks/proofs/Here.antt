@@ -1,5 +1,5 @@
--- Where the parts of an expression stand that stands here, and the first of parts that do. Signatures
--- are those of the whole: so each is an `abbrev`, and shows it.
+-- Where the parts of an expression stand that stands here, and the first of parts that do. The
+-- signatures are those of the whole: each is an `abbrev`, so that this is seen.
 use Prim.Native.Nat.{ℕ, suc, _+_}
 use mathlib.Core.List.{List, _∷_}
 use mathlib.Core.Path.{_≡_}

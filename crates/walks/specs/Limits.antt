@@ -1,5 +1,5 @@
--- How large the counts of a walk may get. Nothing is refused at these bounds: they follow from the number
--- of records, and say that no sum leaves its width.
+-- How large the counts of a walk may get. Nothing is refused at these bounds: they follow from the
+-- number of records, and say that no sum leaves its width.
 use Prim.Native.Nat.{ℕ, _+_, _*_}
 use Rattle.formats.specs.Programs.{mostFunctions, mostRecords}
 
@@ -8,8 +8,8 @@ use Rattle.formats.specs.Programs.{mostFunctions, mostRecords}
 abbrev pub parametersOfAny : ℕ
 parametersOfAny = 4
 
--- A count that begins with a function's parameters, or with none, and grows by one at most at each record:
--- number names, words above the frame's base, numbers kept, Cases around.
+-- A count that begins with a function's parameters, or with none, and grows by one at most at each
+-- record: number names, words above the frame's base, numbers kept, Cases around.
 abbrev pub mostCount : ℕ
 mostCount = parametersOfAny + mostRecords
 
@@ -17,11 +17,12 @@ mostCount = parametersOfAny + mostRecords
 abbrev pub mostTreeNames : ℕ
 mostTreeNames = 1 + 2 * mostRecords
 
--- Instructions of a record: at most two before each of its first three parts, and two after the last one.
+-- Instructions of a record: at most two before each of its first three parts, and two after the
+-- last one.
 abbrev pub recordInstructions : ℕ
 recordInstructions = 8
 
--- Instructions of all records, and a return for each function. (A program has at most 4,128: this bound
--- goes by the number of records alone.)
+-- Instructions of all records, and a return for each function. (A program's code has at most 4,128:
+-- this bound goes by the number of records alone.)
 abbrev pub mostLaid : ℕ
 mostLaid = recordInstructions * mostRecords + mostFunctions

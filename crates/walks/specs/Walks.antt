@@ -1,4 +1,4 @@
--- What a function asks and answers that walks over records of s from record k on, up to record `end`.
+-- What a function asks and answers that walks over records of s, from record k up to record `end`.
 use Prim.Native.Nat.{ℕ, _+_, _≤_}
 use mathlib.Core.List.{List}
 use mathlib.Core.Path.{_≡_}
@@ -34,13 +34,14 @@ pub record HereRow (s : List ℕ) (end k : ℕ) (ps : List Placed) (m : ℕ) : T
   pub row : Row s signed k ps m
   pub fits : m ≤ end
 
--- They are the parts from number i on of a record of this kind, which has `count` parts, described by `parts`.
+-- They are the parts from number i on of a record of this kind, which has `count` parts, described
+-- by `parts`.
 pub record PartsFrom (s : List ℕ) (parts : Parts) (kind : Kind) (i count : ℕ) (ps : List Placed) : Type 0 where
   pub own : parts ≡ partsOf kind
   pub many : count ≡ partCount (arityIn s) (partsOf kind)
   pub left : i + length ps ≡ count
 
--- A walk over the body of function j begins with `found`: it is what `wanted` says of every function of a
--- program that has this record.
+-- A walk over the body of function j begins with `found`: it is what `wanted` says of every
+-- function of a program that has this record.
 pub record Begins (A : Type 0) (s : List ℕ) (j : ℕ) (wanted : Function → A) (found : A) : Type 0 where
   pub is : (f : Function) → functionIn s j ≡ done (signatureOf f) → f .parameters ≤ parametersOfAny → found ≡ wanted f

@@ -23,14 +23,16 @@ decode-all-spec =
     (λ c κs. search needs) (λ c. search needs) (λ c κs. search needs) (λ c. search needs) (λ c. search needs) (λ c. search needs)
     (λ c. search needs) (λ c. search needs) (λ c. search needs)
     (λ c.
-    let bytes : Bytes (now (c .before .before .before .before .before .args .flat)) = λ i. omega (arith, c .before .before .before .before .shared-slice-known .given i) in
+    let known = c .before .before .before .before in
+    let bytes : Bytes (now (known .before .args .flat)) = λ i. omega (arith, known .shared-slice-known .given i) in
     search filling)
     (λ c κs. search needs)
     (λ c κs. search filling)
     (λ c. search needs) (λ c. search needs)
     (λ c.
-    let entered = c .before .before .before .before .before .before .before in
-    fill-more _ _ _ _ _ _ _ _ _ (entered .before .before .loop .inv) _ (entered .start .ensures) (entered .before .loop-test .taken) _ _ _ (c .before .before .before .before .decode-at .ensures))
+    let filled = c .before .before .before .before in
+    let started = filled .before .before .before in
+    fill-more _ _ _ _ _ _ _ _ _ (started .before .before .loop .inv) _ (started .start .ensures) (started .before .loop-test .taken) _ _ _ (filled .decode-at .ensures))
     (λ c. search filling)
     (λ c. search filling)
     (λ c. search filling))

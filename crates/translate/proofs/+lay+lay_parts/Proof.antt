@@ -40,6 +40,51 @@ abbrev lay-parts-below : ℕ → In 3 lay-parts-kinds.ps
 lay-parts-below t =
     and 3 lay-parts-kinds.ps (falls 3 lay-parts-kinds.ps _<_ μ-lay-parts t) lay-parts.Pre
 
+-- ---- where the needs of `lay_parts` look back to: places on its way, by name
+
+module _ (t : ℕ) where
+  abbrev claims : lay-parts-lts.Claims
+  claims = (
+    length-of-reads.Asked,
+    length-of-reads.Learnt,
+    lay-items-reads.Asked,
+    lay-items-reads.Learnt,
+    items-before-reads.Asked,
+    items-before-reads.Learnt,
+    nth-part-reads.Asked,
+    nth-part-reads.Learnt,
+    inside-reads.Asked,
+    inside-reads.Learnt,
+    lay-below t,
+    lay.Post,
+    lay-parts-below t,
+    lay-parts.Post,
+  )
+
+  -- before the rest is asked for, the part was laid down
+  abbrev part-laid :
+      lay-parts-lts.After-lay-parts-arg claims (lay-parts-at t) lay-parts.Post
+      → lay-parts-lts.After-lay claims (lay-parts-at t) lay-parts.Post
+  part-laid c = c .before .before .before .before .before
+
+  -- .. and before that, the length of what stands in front of it was found
+  abbrev at-length :
+      lay-parts-lts.After-lay claims (lay-parts-at t) lay-parts.Post
+      → lay-parts-lts.After-length-of2 claims (lay-parts-at t) lay-parts.Post
+  at-length c = c .before .before .before .before
+
+  -- .. and lay_parts was entered
+  abbrev at-entry :
+      lay-parts-lts.After-lay claims (lay-parts-at t) lay-parts.Post
+      → lay-parts-lts.Start claims (lay-parts-at t) lay-parts.Post
+  at-entry c = at-length c .before .before .before .before .before .before .before .before
+
+  -- before the labels are made, the rest was laid down
+  abbrev rest-laid :
+      lay-parts-lts.After-struct-known3 claims (lay-parts-at t) lay-parts.Post
+      → lay-parts-lts.After-lay-parts claims (lay-parts-at t) lay-parts.Post
+  rest-laid c = c .before .before .before
+
 pub +lay+lay-parts-spec : {M : Type 1} → statement M
 +lay+lay-parts-spec = close μ-lay μ-lay-parts
     (λ t. lay-lts.spec (
@@ -58,63 +103,47 @@ pub +lay+lay-parts-spec : {M : Type 1} → statement M
     (λ c. search expressions)
     (λ c. search needs)
     (λ c. search expressions))
-    λ t. lay-parts-lts.spec (
-      length-of-reads.Asked,
-      length-of-reads.Learnt,
-      lay-items-reads.Asked,
-      lay-items-reads.Learnt,
-      items-before-reads.Asked,
-      items-before-reads.Learnt,
-      nth-part-reads.Asked,
-      nth-part-reads.Learnt,
-      inside-reads.Asked,
-      inside-reads.Learnt,
-      lay-below t,
-      lay.Post,
-      lay-parts-below t,
-      lay-parts.Post,
-    )
-    (lay-parts-at t)
-    lay-parts.Post
+    λ t. lay-parts-lts.spec (claims t) (lay-parts-at t) lay-parts.Post
     (λ c κs. search needs) (λ c. search asked) (λ c. search asked) (λ c. search asked) (λ c κs. search needs) (λ c. search needs)
     (λ c. search parts)
     (λ c κs. search needs) (λ c κs. search needs) (λ c. search asked) (λ c κs. search needs) (λ c κs. search needs) (λ c κs. search asked) (λ c. search needs)
     (λ c. search parts)
     (λ c. search asked)
     (λ c κs.
-    let entered = c .before .before .before .before .before in
-    let start = entered .before .before .before .before .before .before .before .before .before .before .before .before .pre in
-    let length = entered .before .before .before .before .length-of2 in
-    let items = entered .before .before .before .before .before .items-before in
-    let laid = entered .lay in
+    let part = part-laid t c in
+    let start = at-entry t part .pre in
+    let length = at-length t part .length-of2 in
+    let items = at-length t part .before .items-before in
+    let laid = part .lay in
     let on = c .before .if2 in
     search asked)
     (λ c.
-    let entered = c .before .before .before .before .before .before .before .before .before in
-    let start = entered .before .before .before .before .before .before .before .before .before .before .before .before .pre in
-    let length = entered .before .before .before .before .length-of2 in
-    let items = entered .before .before .before .before .before .items-before in
-    let laid = entered .lay in
-    let rest = c .before .before .before .lay-parts in
+    let part = part-laid t (rest-laid t c .before) in
+    let start = at-entry t part .pre in
+    let length = at-length t part .length-of2 in
+    let items = at-length t part .before .items-before in
+    let laid = part .lay in
+    let rest = rest-laid t c .lay-parts in
     search asked)
     (λ c.
-    let entered = c .before .before .before .before .before .before .before .before .before .before in
-    let start = entered .before .before .before .before .before .before .before .before .before .before .before .before .pre in
-    let length = entered .before .before .before .before .length-of2 in
-    let items = entered .before .before .before .before .before .items-before in
-    let laid = entered .lay in
-    let rest = c .before .before .before .before .lay-parts in
+    let part = part-laid t (rest-laid t (c .before) .before) in
+    let start = at-entry t part .pre in
+    let length = at-length t part .length-of2 in
+    let items = at-length t part .before .items-before in
+    let laid = part .lay in
+    let rest = rest-laid t (c .before) .lay-parts in
     search asked)
     (λ c κs. search needs) (λ c. search needs)
     (λ c.
-    let entered = c .before .before .before .before .before .before .before .before .before .before .before .before .before .before in
-    let start = entered .before .before .before .before .before .before .before .before .before .before .before .before .pre in
-    let length = entered .before .before .before .before .length-of2 in
-    let items = entered .before .before .before .before .before .items-before in
-    let laid = entered .lay in
-    let inner = entered .before .before .inside in
-    let part = entered .before .before .before .nth-part in
-    let more = entered .before .before .before .before .before .before .if1 in
-    let rest = c .before .before .before .before .before .before .before .before .lay-parts in
+    let after = rest-laid t (c .before .before .before .before .before) in
+    let part = part-laid t (after .before) in
+    let start = at-entry t part .pre in
+    let length = at-length t part .length-of2 in
+    let items = at-length t part .before .items-before in
+    let laid = part .lay in
+    let inner = part .before .before .inside in
+    let own = part .before .before .before .nth-part in
+    let more = at-length t part .before .before .if1 in
+    let rest = after .lay-parts in
     let wrote = c .before .before .lay-items2 in
     search parts)

@@ -24,7 +24,8 @@ lay-all-spec =
     (λ c κs. search needs) (λ c. search needs) (λ c κs. search needs) (λ c. search needs) (λ c. search needs) (λ c. search needs)
     (λ c. search needs) (λ c. search needs) (λ c. search needs)
     (λ c.
-    let bytes : Bytes (now (c .before .before .before .before .before .args .flat)) = λ i. omega (arith, c .before .before .before .before .shared-slice-known .given i) in
+    let known = c .before .before .before .before in
+    let bytes : Bytes (now (known .before .args .flat)) = λ i. omega (arith, known .shared-slice-known .given i) in
     search laying-all)
     (λ c κs. search needs) (λ c. search needs) (λ c. search needs) (λ c. search laying-all) (λ c. search laying-all) (λ c. search laying-all)
     (λ c κs. search laying-all)

@@ -5,8 +5,8 @@ use mathlib.Core.Path.{_≡_, refl, sym, ap, ap₂, subst, _∙_}
 use native.Mathlib.Numerals.{add-one}
 use native.Mathlib.Omega.{arith}
 use borrow.Author.Needs.{needs}
-use lib.ListN.{length, getD, take, length-append}
-use Rattle.formats.specs.Numbers.{Bytes, numberAt}
+use lib.ListN.{length, take, length-append}
+use Rattle.formats.specs.Numbers.{Bytes}
 use Rattle.formats.specs.Results.{done, each}
 use Rattle.formats.specs.Records.{recordAt}
 use Rattle.formats.specs.Programs.{size, Signature, arityOf, total, Function, signatureOf, Program, signatures, mostRecords}
@@ -86,7 +86,7 @@ pub record Filling (s : List ℕ) (functions end : ℕ) (table₀ cases₀ table
   pub left : (program : Program) → readProgram s ≡ done program → Left s functions end table₀ table k j program
 
 -- at first all of them
-pub fill-first : (s table cases : List ℕ) (functions nodes end : ℕ) → Bytes s → Ready s table cases → functions ≡ getD s 1 0 → nodes ≡ numberAt 2 s 2 → end ≡ 1 + functions + nodes
+pub fill-first : (s table cases : List ℕ) (functions nodes end : ℕ) → Bytes s → Ready s table cases → functions ≡ headerIn s .functions → nodes ≡ headerIn s .nodes → end ≡ 1 + functions + nodes
     → Filling s functions end table cases table cases (1 + functions) 0
 unfolding headerIn recordAt tabled
 fill-first s table cases functions nodes end bytes ready ef en el =

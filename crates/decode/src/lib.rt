@@ -145,8 +145,8 @@ fn decode_all(flat: &[u8], table: &mut [u16], cases: &mut [u16])
     requires { ⌜ Ready (now flat) (now table) (now cases) ⌝ }
     ensures { λ _. ⌜ FillsAll (now (flat .entry)) (now (table .entry)) (now (table .exit)) ⌝ }
 {
-    let functions = words::read8(flat, 1) as u16;
-    let nodes = words::read16(flat, 2) as usize;
+    let functions = signatures::functions_in(flat) as u16;
+    let nodes = signatures::nodes_in(flat) as usize;
     let end = 1 + (functions as usize) + nodes;
     let mut k = 1 + (functions as usize);
     let mut j: u16 = 0;

@@ -10,7 +10,6 @@ use native.Mathlib.Numerals.{add-one}
 use native.Mathlib.Omega.{arith}
 use borrow.Author.Tests.{not-true, not-false, le-leb, lt-leb, eq-eqb, ne-eqb}
 use lib.Dec.{leb, eqb}
-use lib.ListN.{getD}
 use Rattle.formats.specs.Numbers.{numberAt}
 use Rattle.formats.specs.Refusals.{functionField}
 use Rattle.formats.specs.Results.{andThen, check, done, refusal, verdict, each}
@@ -182,7 +181,7 @@ total-is s (suc n) j gs e =
     let i = each-inv (functionIn s) n j gs e in
     ap total (i .both) ∙ ap₂ _+_ (function-read s j (i .head) (i .here) .count) (total-is s n (suc j) (i .tail) (i .later))
 
-module _ (s : List ℕ) (functions nodes : ℕ) (ef : functions ≡ getD s 1 0) (en : nodes ≡ numberAt 2 s 2) where
+module _ (s : List ℕ) (functions nodes : ℕ) (ef : functions ≡ headerIn s .functions) (en : nodes ≡ headerIn s .nodes) where
   -- the row, by the numbers that were read
   row-is :
       functionRow (headerIn s) s

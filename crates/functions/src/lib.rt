@@ -74,8 +74,8 @@ fn count_sum(flat: &[u8], functions: u16) -> usize
 pub fn function_row(flat: &[u8]) -> Verdict
     ensures { λ r. ⌜ said r ≡ verdict (functionRow (headerIn (now (flat .entry))) (now (flat .entry))) ⌝ }
 {
-    let functions = words::read8(flat, 1) as u16;
-    let nodes = words::read16(flat, 2) as usize;
+    let functions = signatures::functions_in(flat) as u16;
+    let nodes = signatures::nodes_in(flat) as usize;
     let fields = function_fields(flat, functions);
     match fields {
         Verdict::Refused(why, place) => Verdict::Refused(why, place),

@@ -13,7 +13,7 @@ use Rattle.formats.specs.Refusals.{headerField}
 use Rattle.formats.specs.Results.{check, done, refusal, verdict}
 use Rattle.formats.specs.Records.{fields, recordAt, recordBytes}
 use Rattle.formats.specs.Programs.{Header, firstEdition, mostFunctions, mostNodes}
-use Rattle.formats.specs.Rows.{headerFrom, headerRow}
+use Rattle.formats.specs.Rows.{headerIn, headerFrom, headerRow}
 use Rattle.formats.proofs.Results.{check-said, test-holds, test-fails}
 
 -- ---- `header_fits`
@@ -68,11 +68,11 @@ pub ruleset header-fields = (wrong-edition, no-functions, many-functions, no-nod
 -- ---- `header_row`
 
 module _ (s : List ℕ) (edition f n i : ℕ) (fits : Bool)
-    (e : edition ≡ getD s 0 0) (ef : f ≡ getD s 1 0) (en : n ≡ numberAt 2 s 2) (ei : i ≡ numberAt 4 s 4)
+    (e : edition ≡ getD s 0 0) (ef : f ≡ headerIn s .functions) (en : n ≡ headerIn s .nodes) (ei : i ≡ numberAt 4 s 4)
     (told : check fits headerField 0 tt ≡ verdict (headerFrom (length s) (fields edition f n i)))
   where
     header-told : check fits headerField 0 tt ≡ verdict (headerRow s)
-    unfolding headerRow recordAt
+    unfolding headerRow headerIn recordAt
     header-told = told ∙ cc
 
     pub header-passed : fits ≡ true → done tt ≡ verdict (headerRow s)

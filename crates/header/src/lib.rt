@@ -46,8 +46,8 @@ pub fn header_row(flat: &[u8]) -> Verdict
     ensures { λ r. ⌜ said r ≡ verdict (headerRow (now (flat .entry))) ⌝ }
 {
     let edition = words::read8(flat, 0);
-    let functions = words::read8(flat, 1) as usize;
-    let nodes = words::read16(flat, 2) as usize;
+    let functions = signatures::functions_in(flat) as usize;
+    let nodes = signatures::nodes_in(flat) as usize;
     let rest = words32::read32(flat, 4);
     if header_fits(edition, functions, nodes, rest, flat.len()) {
         return Verdict::Passed;

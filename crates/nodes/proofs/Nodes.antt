@@ -31,8 +31,8 @@ value-said f (refusal number place) = refl
 module _ (s : List ℕ) where
   pub nodes-first :
       (functions nodes : ℕ)
-      → functions ≡ getD s 1 0
-      → nodes ≡ numberAt 2 s 2
+      → functions ≡ headerIn s .functions
+      → nodes ≡ headerIn s .nodes
       → Passing (nodeIn s) (verdict (nodeRow (headerIn s) s)) (1 + functions + nodes) (1 + functions)
   unfolding nodeRow headerIn recordAt nodeIn
   nodes-first functions nodes ef en =

@@ -14,8 +14,8 @@ ghost use Rattle.nodes.specs.Parts.{partsIn};
 pub fn node_row(flat: &[u8]) -> Verdict
     ensures { λ r. ⌜ said r ≡ verdict (nodeRow (headerIn (now (flat .entry))) (now (flat .entry))) ⌝ }
 {
-    let functions = words::read8(flat, 1) as usize;
-    let nodes = words::read16(flat, 2) as usize;
+    let functions = signatures::functions_in(flat) as usize;
+    let nodes = signatures::nodes_in(flat) as usize;
     let end = 1 + functions + nodes;
     let mut k = 1 + functions;
     while k < end {

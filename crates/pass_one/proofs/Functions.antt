@@ -4,11 +4,9 @@ use mathlib.Core.List.{List}
 use mathlib.Core.Path.{_≡_, refl, sym, ap, ap₂, subst, _∙_}
 use native.Mathlib.Omega.{arith}
 use lib.Dec.{eqb}
-use lib.ListN.{getD}
-use Rattle.formats.specs.Numbers.{Bytes, numberAt}
+use Rattle.formats.specs.Numbers.{Bytes}
 use Rattle.formats.specs.Results.{Result, done, refusal, andThen, onValue, verdict}
 use Rattle.formats.specs.Programs.{size, Sort, numberValued, treeValued, sortNumber, Function, signatureOf, Program, signatures}
-use Rattle.formats.specs.Records.{recordAt}
 use Rattle.formats.specs.Rows.{headerIn, sortIn, arityIn, readProgram}
 use Rattle.formats.proofs.Results.{Value, then-done, then-refused, value-inv, passed-is, refused-is, value-refused}
 use Rattle.formats.proofs.Rows.{function-read, flattens}
@@ -58,9 +56,9 @@ pub record Walking (s : List ℕ) (functions end k j : ℕ) : Type 0 where
   pub inside : Inside k end
   pub rest : (program : Program) → readProgram s ≡ done program → Left s functions end passOne rowOne program k j
 
-pub walk-none : (s : List ℕ) (functions nodes : ℕ) → Bytes s → verdict (readProgram s) ≡ done tt → functions ≡ getD s 1 0 → nodes ≡ numberAt 2 s 2
+pub walk-none : (s : List ℕ) (functions nodes : ℕ) → Bytes s → verdict (readProgram s) ≡ done tt → functions ≡ headerIn s .functions → nodes ≡ headerIn s .nodes
     → Walking s functions (1 + functions + nodes) (1 + functions) 0
-unfolding headerIn recordAt passOne
+unfolding passOne
 walk-none s functions nodes bytes read ef en =
     let v = passed-is (readProgram s) read in
     let h = program-held s (v .value) bytes (v .is) in

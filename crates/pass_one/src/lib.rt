@@ -213,8 +213,8 @@ fn pass(flat: &[u8]) -> Verdict
     requires { ⌜ verdict (readProgram (now flat)) ≡ done tt ⌝ }
     ensures { λ r. ⌜ PassSays (now (flat .entry)) r ⌝ }
 {
-    let functions = words::read8(flat, 1) as u16;
-    let nodes = words::read16(flat, 2) as usize;
+    let functions = signatures::functions_in(flat) as u16;
+    let nodes = signatures::nodes_in(flat) as usize;
     let end = 1 + (functions as usize) + nodes;
     let mut k = 1 + (functions as usize);
     let mut j = 0;

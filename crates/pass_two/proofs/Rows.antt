@@ -3,8 +3,7 @@ use Prim.Native.Nat.{ℕ, _+_, _≤_, _<_}
 use mathlib.Core.List.{List, [], _∷_}
 use mathlib.Core.Path.{_≡_, refl, sym, ap, _∙_}
 use native.Mathlib.Omega.{arith}
-use lib.ListN.{getD}
-use Rattle.formats.specs.Numbers.{Bytes, numberAt}
+use Rattle.formats.specs.Numbers.{Bytes}
 use Rattle.formats.specs.Results.{Result, done, refusal, andThen, verdict}
 use Rattle.formats.specs.Records.{recordAt}
 use Rattle.formats.specs.Programs.{size, Function, Program, signatures}
@@ -37,7 +36,7 @@ module _ (s : List ℕ) (functions last : ℕ) where
     pub inside : Inside k last
     pub rest : (program : Program) → readProgram s ≡ done program → Left s functions last passTwo rowTwo program k j
 
-  pub walk-first : (nodes : ℕ) → Bytes s → verdict (readProgram s) ≡ done tt → functions ≡ getD s 1 0 → nodes ≡ numberAt 2 s 2
+  pub walk-first : (nodes : ℕ) → Bytes s → verdict (readProgram s) ≡ done tt → functions ≡ headerIn s .functions → nodes ≡ headerIn s .nodes
       → last ≡ 1 + functions + nodes → Walking (1 + functions) 0
   unfolding headerIn recordAt passTwo
   walk-first nodes bs read ef en el =

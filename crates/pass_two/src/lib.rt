@@ -211,8 +211,8 @@ fn pass(flat: &[u8]) -> Verdict
     requires { ⌜ verdict (readProgram (now flat)) ≡ done tt ⌝ }
     ensures { λ r. ⌜ PassSays (now (flat .entry)) r ⌝ }
 {
-    let functions = words::read8(flat, 1) as usize;
-    let nodes = words::read16(flat, 2) as usize;
+    let functions = signatures::functions_in(flat) as usize;
+    let nodes = signatures::nodes_in(flat) as usize;
     let end = 1 + functions + nodes;
     let mut k = 1 + functions;
     let mut j = 0;

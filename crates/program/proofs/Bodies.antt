@@ -7,7 +7,7 @@ use native.Mathlib.Nat.{sub-zero}
 use native.Mathlib.Numerals.{add-one}
 use native.Mathlib.Omega.{arith}
 use borrow.Author.Tests.{not-true, not-false}
-use lib.ListN.{getD, take, drop}
+use lib.ListN.{take, drop}
 use Rattle.formats.specs.Refusals.{prefixForm}
 use Rattle.formats.specs.Results.{Result, done, refusal, andThen, check, verdict, each}
 use Rattle.formats.specs.Records.{Kind, recordAt}
@@ -53,7 +53,7 @@ module _ (s : List ℕ) (functions : ℕ) where
     pub near : first ≤ 1 + functions + 65535 * j
     pub rest : (gs : List Signature) (ks : List Kind) → functionRow (headerIn s) s ≡ done gs → nodeRow (headerIn s) s ≡ done ks → Left gs ks first j
 
-  pub bodies-none : functions ≡ getD s 1 0 → Bodied (1 + functions) 0
+  pub bodies-none : functions ≡ headerIn s .functions → Bodied (1 + functions) 0
   unfolding headerIn recordAt nodeRow nodeIn prefixRow
   bodies-none ef = record {
     near = omega arith;

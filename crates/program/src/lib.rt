@@ -31,7 +31,7 @@ fn one_expression(flat: &[u8], first: usize, end: usize) -> bool
 fn prefix_row(flat: &[u8]) -> Verdict
     ensures { λ r. ⌜ PrefixSays (now (flat .entry)) (said r) ⌝ }
 {
-    let functions = words::read8(flat, 1) as u16;
+    let functions = signatures::functions_in(flat) as u16;
     let mut first = 1 + (functions as usize);
     let mut j: u16 = 0;
     while j < functions {

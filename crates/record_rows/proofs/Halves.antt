@@ -37,7 +37,7 @@ module _ (s : List ℕ) (b : ℕ) where
     pub count-more : (n : ℕ) → j < b → n ≡ countIn s j → n < 65536 → Counting s b (sum + n) (j + 1)
     count-more n more e small = record { summed = sum-more s b sum j n more (c .summed) e small; upto = omega arith }
 
-    pub first-is : (functions : ℕ) → functions ≡ getD s 1 0 → b ≤ j → 1 + functions + sum ≡ firstIn s b
+    pub first-is : (functions : ℕ) → functions ≡ headerIn s .functions → b ≤ j → 1 + functions + sum ≡ firstIn s b
     unfolding firstIn headerIn recordAt
     first-is functions ef all = ap₂ (λ f n. 1 + f + n) ef (sum-all s b sum j all (c .summed))
 

@@ -33,7 +33,7 @@ pub struct Own {
 fn first_record(flat: &[u8], b: u16) -> usize
     ensures { λ r. ⌜ r ≡ firstIn (now (flat .entry)) b ⌝ }
 {
-    let functions = words::read8(flat, 1) as usize;
+    let functions = signatures::functions_in(flat) as usize;
     let mut sum = 0;
     let mut j: u16 = 0;
     while j < b {

@@ -268,7 +268,7 @@ pub read-there :
     → a ≡ getD s (p + 1) 0
     → b ≡ numberAt 2 s (p + 2)
     → i ≡ numberAt 4 s (p + 4)
-    → f ≡ getD s 1 0
+    → f ≡ headerIn s .functions
     → OfKind f k x a b i r
     → described r ≡ onValue shapeOf (nodeIn s k)
 unfolding nodeIn nodeAt headerIn recordAt

@@ -264,6 +264,6 @@ pub fn record_at(flat: &[u8], k: usize) -> RecordRead
     let a = words::read8(flat, p + 1);
     let b = words::read16(flat, p + 2);
     let i = words32::read32(flat, p + 4);
-    let functions = words::read8(flat, 1);
+    let functions = signatures::functions_in(flat);
     record_of(kind, a, b, i, functions, k)
 }

@@ -1,4 +1,4 @@
--- The fields of function b's record stand at its place, which is behind the header and the records of the functions before it.
+-- The fields of the header stand at the start; those of function b's record after the header and the records of the functions before it.
 use Prim.Native.Nat.{ℕ, suc, _+_, _*_}
 use mathlib.Core.List.{List}
 use mathlib.Core.Path.{_≡_, ap, _∙_}
@@ -6,7 +6,22 @@ use native.Mathlib.Omega.{arith}
 use lib.ListN.{getD}
 use Rattle.formats.specs.Numbers.{numberAt}
 use Rattle.formats.specs.Records.{recordAt, recordBytes}
-use Rattle.formats.specs.Rows.{sortIn, arityIn, countIn}
+use Rattle.formats.specs.Rows.{headerIn, sortIn, arityIn, countIn}
+
+-- ---- the header
+
+module _ (s : List ℕ) (n : ℕ) where
+  pub functions-are : n ≡ getD s 1 0 → n ≡ headerIn s .functions
+  unfolding headerIn recordAt
+  functions-are e = e
+
+  pub nodes-are : n ≡ numberAt 2 s 2 → n ≡ headerIn s .nodes
+  unfolding headerIn recordAt
+  nodes-are e = e
+
+pub ruleset header-read = (functions-are, nodes-are)
+
+-- ---- a function's record
 
 module _ (s : List ℕ) (b n : ℕ) where
   -- the record's place, as the code has it

@@ -1,8 +1,22 @@
-// The fields of function records, right or not, read from flat records, 8 bytes each. What is not there reads as 0.
+// The fields of the header and of function records, right or not, read from flat records, 8 bytes each. What is not there reads as 0.
 ghost use mathlib.Core.Path.{_≡_};
-ghost use Rattle.formats.specs.Rows.{sortIn, arityIn, countIn};
+ghost use Rattle.formats.specs.Rows.{headerIn, sortIn, arityIn, countIn};
 
 const RECORD_BYTES: usize = 8;
+
+// How many functions the header says there are.
+pub fn functions_in(flat: &[u8]) -> u8
+    ensures { λ r. ⌜ r ≡ headerIn (now (flat .entry)) .functions ⌝ }
+{
+    words::read8(flat, 1)
+}
+
+// How many nodes the header says there are.
+pub fn nodes_in(flat: &[u8]) -> u16
+    ensures { λ r. ⌜ r ≡ headerIn (now (flat .entry)) .nodes ⌝ }
+{
+    words::read16(flat, 2)
+}
 
 // The number of function b's sort.
 pub fn sort_number(flat: &[u8], b: u16) -> u8

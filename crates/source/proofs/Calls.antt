@@ -7,7 +7,7 @@ use mathlib.Core.Path.{_≡_, refl, sym, ap, _∙_}
 use native.Mathlib.Omega.{arith}
 use borrow.Author.Tests.{le-leb}
 use lib.Dec.{leb}
-use lib.ListN.{length, getD, take}
+use lib.ListN.{length, take}
 use Rattle.formats.specs.Numbers.{Bytes}
 use Rattle.formats.specs.Refusals.{spaceTooShort}
 use Rattle.formats.specs.Results.{Result, done, refusal, andThen, check}
@@ -221,7 +221,7 @@ module _ (s table after input output values places : List ℕ) (fuel : ℕ) (siz
           }
 
     -- all is ready for the evaluation
-    pub records-ready : (first : ℕ) → Bytes s → Bytes input → valueWords ≤ length values → returnWords ≤ length places → first ≡ getD s 1 0 + 1
+    pub records-ready : (first : ℕ) → Bytes s → Bytes input → valueWords ≤ length values → returnWords ≤ length places → first ≡ headerIn s .functions + 1
         → Ready s after input values places first
     unfolding headerIn recordAt
     records-ready first bytes input-bytes vs ps place =

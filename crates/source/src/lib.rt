@@ -7,8 +7,9 @@ use refusal::Verdict;
 use tree::TreeAnswer;
 ghost use Prim.Native.Nat.{_+_};
 ghost use mathlib.Core.Path.{_≡_};
-ghost use lib.ListN.{length, getD};
+ghost use lib.ListN.{length};
 ghost use Rattle.formats.specs.Results.{refusal};
+ghost use Rattle.formats.specs.Rows.{headerIn};
 ghost use Rattle.refusal.specs.Number.{number};
 ghost use Rattle.meaning.specs.SourceRun.{sourceRun};
 ghost use Rattle.source.specs.Answers.{answered, Named, Room, Evaluates, OfFile, Sourced};
@@ -122,9 +123,9 @@ fn evaluate(
 
 // The first node's record.
 fn first_node(flat: &[u8]) -> u16
-    ensures { λ r. ⌜ r ≡ getD (now (flat .entry)) 1 0 + 1 ⌝ }
+    ensures { λ r. ⌜ r ≡ headerIn (now (flat .entry)) .functions + 1 ⌝ }
 {
-    (words::read8(flat, 1) as u16) + 1
+    (signatures::functions_in(flat) as u16) + 1
 }
 
 // The source run of the flat records that a file has.

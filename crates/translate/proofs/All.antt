@@ -5,8 +5,8 @@ use mathlib.Core.Path.{_≡_, refl, sym, ap, ap₂, subst, _∙_}
 use native.Mathlib.Nat.{add-zero}
 use native.Mathlib.Numerals.{add-one}
 use native.Mathlib.Omega.{arith}
-use lib.ListN.{length, getD, length-append, length-map}
-use Rattle.formats.specs.Numbers.{Bytes, numberAt}
+use lib.ListN.{length, length-append, length-map}
+use Rattle.formats.specs.Numbers.{Bytes}
 use Rattle.formats.specs.Results.{done}
 use Rattle.formats.specs.Records.{recordAt}
 use Rattle.formats.specs.Programs.{Expr, const, var, add, ifZero, letIn, leafOf, nodeOf, caseOf, call, Args, noArgs, arg, prefix, prefixes, size, total, countArgs, Every, InRange, Sort, numberValued, treeValued, Function, signatureOf, Program, signatures, LawfulFunctions, Signature}
@@ -139,7 +139,7 @@ module _ (s : List ℕ) (end : ℕ) (program : Program) where
       }
 
   -- at first all of them
-  pub all-left : (functions nodes : ℕ) → Bytes s → WasChecked s program → functions ≡ getD s 1 0 → nodes ≡ numberAt 2 s 2 → end ≡ 1 + functions + nodes
+  pub all-left : (functions nodes : ℕ) → Bytes s → WasChecked s program → functions ≡ headerIn s .functions → nodes ≡ headerIn s .nodes → end ≡ 1 + functions + nodes
       → FunctionsLeft [] (1 + functions) 0
   unfolding headerIn recordAt passOne
   all-left functions nodes bytes w ef en el =

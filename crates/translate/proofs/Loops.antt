@@ -10,7 +10,7 @@ use mir.Syntax.{w64}
 use mir.Val.{Fits}
 use lib.ListN.{length, getD, set, take, drop, length-drop, length-set, drop-of-length-le}
 use lib.Seq.{getD-set-same, getD-set-other, take-all, drop-drop}
-use Rattle.formats.specs.Numbers.{Bytes, numberAt}
+use Rattle.formats.specs.Numbers.{Bytes}
 use Rattle.formats.specs.Results.{done, verdict}
 use Rattle.formats.specs.Records.{recordBytes, recordAt, flat}
 use Rattle.formats.specs.Programs.{size, Function, Program, mostFunctions, mostRecords}
@@ -40,7 +40,7 @@ pub record Counts (s : List ℕ) (functions end : ℕ) : Type 0 where
   short : end ≤ mostRecords
   functions-are : (program : Program) → checkedRecords s ≡ done program → length (program .functions) ≡ functions
 
-counted : (s : List ℕ) (functions nodes end : ℕ) → Bytes s → verdict (checkedRecords s) ≡ done tt → functions ≡ getD s 1 0 → nodes ≡ numberAt 2 s 2
+counted : (s : List ℕ) (functions nodes end : ℕ) → Bytes s → verdict (checkedRecords s) ≡ done tt → functions ≡ headerIn s .functions → nodes ≡ headerIn s .nodes
     → end ≡ 1 + functions + nodes
     → Counts s functions end
 unfolding headerIn recordAt
@@ -83,7 +83,7 @@ following s entries code′ after end program k j entry st r more l =
     }
 
 -- at first all functions are left, and address 0 is the first one's
-begun : (s : List ℕ) (functions nodes end : ℕ) (program : Program) → Bytes s → functions ≡ getD s 1 0 → nodes ≡ numberAt 2 s 2 → end ≡ 1 + functions + nodes
+begun : (s : List ℕ) (functions nodes end : ℕ) (program : Program) → Bytes s → functions ≡ headerIn s .functions → nodes ≡ headerIn s .nodes → end ≡ 1 + functions + nodes
     → checkedRecords s ≡ done program
     → Standing s end program (1 + functions) 0 0
 unfolding behindAll
@@ -101,7 +101,7 @@ pub record Measuring (s : List ℕ) (functions end : ℕ) (entries : List ℕ) (
   pub standing : (program : Program) → checkedRecords s ≡ done program → Standing s end program k j entry
   pub entered : (program : Program) → checkedRecords s ≡ done program → (b : ℕ) → b < j → getD entries b 0 ≡ entryOf program b
 
-pub measure-first : (s : List ℕ) (functions nodes end : ℕ) (entries : List ℕ) → Bytes s → verdict (checkedRecords s) ≡ done tt → functions ≡ getD s 1 0 → nodes ≡ numberAt 2 s 2
+pub measure-first : (s : List ℕ) (functions nodes end : ℕ) (entries : List ℕ) → Bytes s → verdict (checkedRecords s) ≡ done tt → functions ≡ headerIn s .functions → nodes ≡ headerIn s .nodes
     → end ≡ 1 + functions + nodes → length entries ≡ mostFunctions
     → Measuring s functions end entries (1 + functions) 0 0
 measure-first s functions nodes end entries bytes checked ef en el long =
@@ -203,7 +203,7 @@ pub record LayingAll (s entries : List ℕ) (functions end : ℕ) (code₀ code 
   pub inside : Inside k end
   pub up-to : (program : Program) → checkedRecords s ≡ done program → UpTo s functions end code₀ code k j program
 
-pub all-first : (s entries : List ℕ) (functions nodes end : ℕ) (code : List ℕ) → Bytes s → Ready s entries code → functions ≡ getD s 1 0 → nodes ≡ numberAt 2 s 2
+pub all-first : (s entries : List ℕ) (functions nodes end : ℕ) (code : List ℕ) → Bytes s → Ready s entries code → functions ≡ headerIn s .functions → nodes ≡ headerIn s .nodes
     → end ≡ 1 + functions + nodes
     → LayingAll s entries functions end code code (1 + functions) 0
 unfolding functionsCode behindAll

@@ -216,8 +216,8 @@ fn measure(flat: &[u8]) -> Table
     requires { ⌜ verdict (checkedRecords (now flat)) ≡ done tt ⌝ }
     ensures { λ r. ⌜ Tabled (now (flat .entry)) r ⌝ }
 {
-    let functions = words::read8(flat, 1) as u16;
-    let nodes = words::read16(flat, 2) as usize;
+    let functions = signatures::functions_in(flat) as u16;
+    let nodes = signatures::nodes_in(flat) as usize;
     let end = 1 + (functions as usize) + nodes;
     let mut entries = [0u16; MOST_FUNCTIONS];
     let mut k = 1 + (functions as usize);
@@ -242,8 +242,8 @@ fn lay_all(flat: &[u8], entries: &[u16], code: &mut [u8])
     requires { ⌜ Ready (now flat) (now entries) (now code) ⌝ }
     ensures { λ _. ⌜ LaysAll (now (flat .entry)) (now (code .entry)) (now (code .exit)) ⌝ }
 {
-    let functions = words::read8(flat, 1) as u16;
-    let nodes = words::read16(flat, 2) as usize;
+    let functions = signatures::functions_in(flat) as u16;
+    let nodes = signatures::nodes_in(flat) as usize;
     let end = 1 + (functions as usize) + nodes;
     let mut k = 1 + (functions as usize);
     let mut j: u16 = 0;

@@ -5,8 +5,8 @@ use mathlib.Core.List.{List, [], _∷_, map}
 use mathlib.Core.Path.{_≡_, ap, _∙_}
 use native.Mathlib.Numerals.{add-one}
 use native.Mathlib.Omega.{arith}
-use lib.ListN.{length, getD}
-use Rattle.formats.specs.Numbers.{Bytes, numberAt}
+use lib.ListN.{length}
+use Rattle.formats.specs.Numbers.{Bytes}
 use Rattle.formats.specs.Results.{Result, done}
 use Rattle.formats.specs.Records.{recordAt}
 use Rattle.formats.specs.Programs.{size, total, Function, signatureOf, Program, signatures}
@@ -27,7 +27,7 @@ module _ (s : List ℕ) (functions last : ℕ) (whole : Program → Result (Unit
     pub left : whole program ≡ row program k others
 
   -- at first all of them
-  pub all-left : (nodes : ℕ) → Bytes s → functions ≡ getD s 1 0 → nodes ≡ numberAt 2 s 2 → last ≡ 1 + functions + nodes
+  pub all-left : (nodes : ℕ) → Bytes s → functions ≡ headerIn s .functions → nodes ≡ headerIn s .nodes → last ≡ 1 + functions + nodes
       → ((program : Program) → whole program ≡ row program (firstNode program) (program .functions))
       → (program : Program) → readProgram s ≡ done program → Left program (1 + functions) 0
   unfolding headerIn recordAt

@@ -4,14 +4,14 @@ use Rattle.functions.proofs.Functions.{function-said}
 use Rattle.functions.proofs.function_row.Statement.{statement}
 use Rattle.functions.proofs.function_row.Tie as tie
 
-read8-requires : tie.Need-read8-requires
-read8-requires c κs = search needs
+functions-in-requires : tie.Need-functions-in-requires
+functions-in-requires c κs = search needs
 
 cast-functions : tie.Need-cast-functions
 cast-functions c = search needs
 
-read16-requires : tie.Need-read16-requires
-read16-requires c κs = search needs
+nodes-in-requires : tie.Need-nodes-in-requires
+nodes-in-requires c κs = search needs
 
 cast-nodes : tie.Need-cast-nodes
 cast-nodes c = search needs
@@ -44,9 +44,9 @@ pub function-row-spec : {M : Type 1} → statement M
 function-row-spec =
     tie.close
     (tie.spec
-    read8-requires
+    functions-in-requires
     cast-functions
-    read16-requires
+    nodes-in-requires
     cast-nodes
     function-fields-requires
     enum-known-fields

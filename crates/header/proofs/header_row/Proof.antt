@@ -7,14 +7,14 @@ use Rattle.header.proofs.header_row.Tie as tie
 read8-requires : tie.Need-read8-requires
 read8-requires c κs = search needs
 
-read8-requires-2 : tie.Need-read8-requires-2
-read8-requires-2 c κs = search needs
+functions-in-requires : tie.Need-functions-in-requires
+functions-in-requires c κs = search needs
 
 cast-functions : tie.Need-cast-functions
 cast-functions c = search needs
 
-read16-requires : tie.Need-read16-requires
-read16-requires c κs = search needs
+nodes-in-requires : tie.Need-nodes-in-requires
+nodes-in-requires c κs = search needs
 
 cast-nodes : tie.Need-cast-nodes
 cast-nodes c = search needs
@@ -36,9 +36,9 @@ header-row-spec =
     tie.close
     (tie.spec
     read8-requires
-    read8-requires-2
+    functions-in-requires
     cast-functions
-    read16-requires
+    nodes-in-requires
     cast-nodes
     read32-requires
     header-fits-requires

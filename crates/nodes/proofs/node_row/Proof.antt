@@ -14,14 +14,14 @@ Inv-loop flat functions nodes end k₀ k = Passing (nodeIn flat) (verdict (nodeR
 abbrev μ-loop : tie.MeasureT-loop
 μ-loop flat functions nodes end k₀ k = end - k
 
-read8-requires : tie.Need-read8-requires Inv-loop μ-loop
-read8-requires c κs = search needs
+functions-in-requires : tie.Need-functions-in-requires Inv-loop μ-loop
+functions-in-requires c κs = search needs
 
 cast-functions : tie.Need-cast-functions Inv-loop μ-loop
 cast-functions c = search needs
 
-read16-requires : tie.Need-read16-requires Inv-loop μ-loop
-read16-requires c κs = search needs
+nodes-in-requires : tie.Need-nodes-in-requires Inv-loop μ-loop
+nodes-in-requires c κs = search needs
 
 cast-nodes : tie.Need-cast-nodes Inv-loop μ-loop
 cast-nodes c = search needs
@@ -68,9 +68,9 @@ node-row-spec =
     (tie.spec
     Inv-loop
     μ-loop
-    read8-requires
+    functions-in-requires
     cast-functions
-    read16-requires
+    nodes-in-requires
     cast-nodes
     add-end
     add-end-2

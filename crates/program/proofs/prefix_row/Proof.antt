@@ -12,8 +12,8 @@ Inv-loop flat functions first₀ j₀ first j = Bodied flat functions first j
 abbrev μ-loop : tie.MeasureT-loop
 μ-loop flat functions first₀ j₀ first j = functions - j
 
-read8-requires : tie.Need-read8-requires Inv-loop μ-loop
-read8-requires c κs = search needs
+functions-in-requires : tie.Need-functions-in-requires Inv-loop μ-loop
+functions-in-requires c κs = search needs
 
 cast-functions : tie.Need-cast-functions Inv-loop μ-loop
 cast-functions c = search needs
@@ -60,7 +60,7 @@ prefix-row-spec =
     (tie.spec
     Inv-loop
     μ-loop
-    read8-requires
+    functions-in-requires
     cast-functions
     cast-first
     add-first

@@ -14,7 +14,7 @@ use lib.ListN.{length, getD, List·getD-eq-default}
 use Rattle.formats.specs.Numbers.{numberAt}
 use Rattle.formats.specs.Refusals.{nodeField}
 use Rattle.formats.specs.Results.{done, refusal, check, onValue}
-use Rattle.formats.specs.Records.{Kind, fields, recordBytes, recordAt, kinds, kindOf, nth, same, below, fieldsOf, nodeRecord, partsOf}
+use Rattle.formats.specs.Records.{Kind, Parts, fields, recordBytes, recordAt, kinds, kindOf, nth, same, below, fieldsOf, nodeRecord, partsOf}
 use Rattle.formats.specs.Records.{aNumber, aTree, asWhole, underNumber, underTrees, these, argumentsOf, Const, Var, Add, IfZero, Let, Leaf, Node, Case, Call}
 use Rattle.formats.specs.CodeColumn.{templateOf}
 use Rattle.formats.specs.Rows.{headerIn, nodeAt, nodeIn}
@@ -22,12 +22,24 @@ use Rattle.formats.proofs.Numbers.{numberAt-cut}
 use Rattle.formats.proofs.Results.{both-held}
 use Rattle.formats.proofs.Records.{none-past, but}
 use Rattle.refusal.specs.declared.Refusal.the-variants.{NodeField}
+use Rattle.records.specs.declared.Item.{Item}
 use Rattle.records.specs.declared.Item.the-variants.{Push, Get, Ifnot, Jump, End, LeafTag, NodeTag, WriteNumber, ReadTag, ReadNumber, Add as AddItem, Call as CallItem}
+use Rattle.records.specs.declared.Items.{Items}
 use Rattle.records.specs.declared.Items.the-variants.{None, One, Two}
 use Rattle.records.specs.declared.Template.{Template}
 use Rattle.records.specs.declared.RecordRead.{RecordRead}
 use Rattle.records.specs.declared.RecordRead.the-variants.{Refused}
 use Rattle.records.specs.Read.{OfKind, StandsAt, Shape, columnOf, described, shapeOf}
+
+-- ---- templates
+
+-- an item after all parts
+abbrev pub lastly : Item → Template
+lastly item = record { first = None; second = None; third = None; last = One item }
+
+-- items before the first, second and third part
+abbrev pub parted : Items → Items → Items → Template
+parted first second third = record { first = first; second = second; third = third; last = None }
 
 -- ---- fields that should be zero
 
@@ -56,160 +68,77 @@ sum-test x y a c b d i j u all back = same-test _ _
 
 -- ---- the match
 
--- the kind of these fields, where the test of their unused ones is the sum's
-of-kind :
-    (functions place x a b i u : ℕ) (k : Kind) (t : Template) (r : RecordRead)
-    → ((edition : ℕ) → kindOf edition (fields x a b i) ≡ some k)
-    → (same (fieldsOf k) (fields x a b i) && below functions k) ≡ eqb u 0
-    → columnOf t ≡ templateOf k
-    → described r ≡ check (eqb u 0) nodeField place (record { kind = k; parts = partsOf k; template = columnOf t })
+-- the three sums of unused fields: of a kind with no operand, with a tree's or a number's name, and with a number
+no-operand : (x a b i u : ℕ) → u ≡ a + b + i → same (fields x 0 0 0) (fields x a b i) ≡ eqb u 0
+no-operand x a b i u e = sum-test _ _ _ _ _ _ _ _ u (λ z. (refl, omega arith, omega arith, omega arith)) (λ p q s t. omega arith)
+
+named : (x a b i u : ℕ) → u ≡ 0 + b + i → same (fields x a 0 0) (fields x a b i) ≡ eqb u 0
+named x a b i u e = sum-test _ _ _ _ _ _ _ _ u (λ z. (refl, refl, omega arith, omega arith)) (λ p q s t. omega arith)
+
+numbered : (x a b i u : ℕ) → u ≡ a + b + 0 → same (fields x 0 0 i) (fields x a b i) ≡ eqb u 0
+numbered x a b i u e = sum-test _ _ _ _ _ _ _ _ u (λ z. (refl, omega arith, omega arith, refl)) (λ p q s t. omega arith)
+
+-- The arms: for each kind number the kind with its operands, its parts, its template, and what is known of the sum u of the fields that it does not use.
+pub data Arm (functions a b i u : ℕ) : ℕ → Kind → Parts → Template → Type 0 where
+  const-arm : u ≡ a + b + 0 → Arm functions a b i u 0 (Const i) (these []) (lastly (Push i))
+  var-arm : u ≡ 0 + b + i → Arm functions a b i u 1 (Var a) (these []) (lastly (Get a))
+  add-arm : u ≡ a + b + i → Arm functions a b i u 2 Add (these (aNumber ∷ aNumber ∷ [])) (lastly AddItem)
+  if-zero-arm : u ≡ a + b + i → Arm functions a b i u 3 IfZero (these (aNumber ∷ asWhole ∷ asWhole ∷ [])) (parted None (One Ifnot) (One Jump))
+  let-arm : u ≡ a + b + i → Arm functions a b i u 4 Let (these (aNumber ∷ underNumber ∷ [])) (lastly End)
+  leaf-arm : u ≡ a + b + i → Arm functions a b i u 5 Leaf (these (aNumber ∷ [])) (record { first = One LeafTag; second = None; third = None; last = One WriteNumber })
+  node-arm : u ≡ a + b + i → Arm functions a b i u 6 Node (these (aTree ∷ aTree ∷ [])) (parted (One NodeTag) None None)
+  case-arm : u ≡ 0 + b + i → Arm functions a b i u 7 (Case a) (these (underNumber ∷ underTrees ∷ [])) (parted (Two ReadTag ReadNumber) (Two End Jump) None)
+  call-arm : eqb u 0 ≡ (ltb b functions && eqb i 0) → Arm functions a b i u 8 (Call a b) (argumentsOf b) (lastly (CallItem b))
+
+-- What an arm says: the kind of that number, whether its unused fields are zero, its parts and its template.
+record Says (functions a b i u x : ℕ) (k : Kind) (parts : Parts) (t : Template) : Type 0 where
+  kind : (edition : ℕ) → kindOf edition (fields x a b i) ≡ some k
+  unused : (same (fieldsOf k) (fields x a b i) && below functions k) ≡ eqb u 0
+  its-parts : parts ≡ partsOf k
+  column : columnOf t ≡ templateOf k
+
+says : {functions a b i u x : ℕ} {k : Kind} {parts : Parts} {t : Template} → Arm functions a b i u x k parts t → Says functions a b i u x k parts t
+unfolding kindOf kinds nth fieldsOf below partsOf templateOf
+says (const-arm e) = record { kind = λ edition. refl; unused = and-true _ ∙ numbered _ _ _ _ _ e; its-parts = refl; column = refl }
+says (var-arm e) = record { kind = λ edition. refl; unused = and-true _ ∙ named _ _ _ _ _ e; its-parts = refl; column = refl }
+says (add-arm e) = record { kind = λ edition. refl; unused = and-true _ ∙ no-operand _ _ _ _ _ e; its-parts = refl; column = refl }
+says (if-zero-arm e) = record { kind = λ edition. refl; unused = and-true _ ∙ no-operand _ _ _ _ _ e; its-parts = refl; column = refl }
+says (let-arm e) = record { kind = λ edition. refl; unused = and-true _ ∙ no-operand _ _ _ _ _ e; its-parts = refl; column = refl }
+says (leaf-arm e) = record { kind = λ edition. refl; unused = and-true _ ∙ no-operand _ _ _ _ _ e; its-parts = refl; column = refl }
+says (node-arm e) = record { kind = λ edition. refl; unused = and-true _ ∙ no-operand _ _ _ _ _ e; its-parts = refl; column = refl }
+says (case-arm e) = record { kind = λ edition. refl; unused = and-true _ ∙ named _ _ _ _ _ e; its-parts = refl; column = refl }
+says {functions = functions} {b = b} {i = i} (call-arm e) = record {
+  kind = λ edition. refl;
+  unused = ap (λ t. t && ltb b functions) (sum-test _ _ _ _ _ _ _ _ i (λ z. (refl, refl, refl, sym z)) (λ p q s t. sym t)) ∙ and-comm (eqb i 0) (ltb b functions) ∙ sym e;
+  its-parts = refl;
+  column = refl;
+}
+
+-- the one law of all arms
+pub of-arm :
+    (functions place x n a b i u : ℕ) (k : Kind) (parts : Parts) (t own : Template) (r : RecordRead)
+    → x ≡ n
+    → t ≡ own
+    → Arm functions a b i u n k parts own
+    → described r ≡ check (eqb u 0) nodeField place (record { kind = k; parts = parts; template = columnOf t })
     → OfKind functions place x a b i r
 unfolding nodeRecord
-of-kind functions place x a b i u k t r kind test column told = record {
-  is = λ edition. told ∙ ap (λ c. check (eqb u 0) nodeField place (record { kind = k; parts = partsOf k; template = c })) column ∙ checked (eqb u 0) ∙ ap (onValue shapeOf) (sym (reads edition));
-}
+of-arm functions place x n a b i u k parts t own r number is arm told =
+    let s = says arm in
+    record {
+      is = λ edition.
+          told
+          ∙ ap₂ (λ p c. check (eqb u 0) nodeField place (record { kind = k; parts = p; template = c })) (s .its-parts) (ap columnOf is ∙ s .column)
+          ∙ checked (eqb u 0)
+          ∙ ap (onValue shapeOf) (sym (ap (λ m. nodeRecord edition functions place (fields m a b i)) number ∙ reads s edition));
+    }
   where
-    reads : (edition : ℕ) → nodeRecord edition functions place (fields x a b i) ≡ check (eqb u 0) nodeField place k
-    reads edition = rw (nodeRecord, kind edition, test)
+    reads : Says functions a b i u n k parts own → (edition : ℕ) → nodeRecord edition functions place (fields n a b i) ≡ check (eqb u 0) nodeField place k
+    reads s edition = rw (nodeRecord, s .kind edition, s .unused)
 
     checked : (t : Bool) → check t nodeField place (shapeOf k) ≡ onValue shapeOf (check t nodeField place k)
     checked true = refl
     checked false = refl
-
-pub of-const :
-    (functions place x a b i u : ℕ) (t : Template) (r : RecordRead)
-    → x ≡ 0
-    → u ≡ a + b + 0
-    → t ≡ record { first = None; second = None; third = None; last = One (Push i) }
-    → described r ≡ check (eqb u 0) nodeField place (record { kind = Const i; parts = these []; template = columnOf t })
-    → OfKind functions place x a b i r
-unfolding kindOf kinds nth fieldsOf below partsOf templateOf
-of-const functions place x a b i u t r number sum is told =
-    of-kind functions place x a b i u (Const i) t r
-    (λ edition. ap (λ n. nth (kinds edition a b i) n) number)
-    (and-true _ ∙ sum-test _ _ _ _ _ _ _ _ u (λ z. (sym number, omega arith, omega arith, omega arith)) (λ p q s t. omega arith))
-    (ap columnOf is)
-    told
-
-pub of-var :
-    (functions place x a b i u : ℕ) (t : Template) (r : RecordRead)
-    → x ≡ 1
-    → u ≡ 0 + b + i
-    → t ≡ record { first = None; second = None; third = None; last = One (Get a) }
-    → described r ≡ check (eqb u 0) nodeField place (record { kind = Var a; parts = these []; template = columnOf t })
-    → OfKind functions place x a b i r
-unfolding kindOf kinds nth fieldsOf below partsOf templateOf
-of-var functions place x a b i u t r number sum is told =
-    of-kind functions place x a b i u (Var a) t r
-    (λ edition. ap (λ n. nth (kinds edition a b i) n) number)
-    (and-true _ ∙ sum-test _ _ _ _ _ _ _ _ u (λ z. (sym number, omega arith, omega arith, omega arith)) (λ p q s t. omega arith))
-    (ap columnOf is)
-    told
-
-pub of-add :
-    (functions place x a b i u : ℕ) (t : Template) (r : RecordRead)
-    → x ≡ 2
-    → u ≡ a + b + i
-    → t ≡ record { first = None; second = None; third = None; last = One AddItem }
-    → described r ≡ check (eqb u 0) nodeField place (record { kind = Add; parts = these (aNumber ∷ aNumber ∷ []); template = columnOf t })
-    → OfKind functions place x a b i r
-unfolding kindOf kinds nth fieldsOf below partsOf templateOf
-of-add functions place x a b i u t r number sum is told =
-    of-kind functions place x a b i u (Add) t r
-    (λ edition. ap (λ n. nth (kinds edition a b i) n) number)
-    (and-true _ ∙ sum-test _ _ _ _ _ _ _ _ u (λ z. (sym number, omega arith, omega arith, omega arith)) (λ p q s t. omega arith))
-    (ap columnOf is)
-    told
-
-pub of-if-zero :
-    (functions place x a b i u : ℕ) (t : Template) (r : RecordRead)
-    → x ≡ 3
-    → u ≡ a + b + i
-    → t ≡ record { first = None; second = One Ifnot; third = One Jump; last = None }
-    → described r ≡ check (eqb u 0) nodeField place (record { kind = IfZero; parts = these (aNumber ∷ asWhole ∷ asWhole ∷ []); template = columnOf t })
-    → OfKind functions place x a b i r
-unfolding kindOf kinds nth fieldsOf below partsOf templateOf
-of-if-zero functions place x a b i u t r number sum is told =
-    of-kind functions place x a b i u (IfZero) t r
-    (λ edition. ap (λ n. nth (kinds edition a b i) n) number)
-    (and-true _ ∙ sum-test _ _ _ _ _ _ _ _ u (λ z. (sym number, omega arith, omega arith, omega arith)) (λ p q s t. omega arith))
-    (ap columnOf is)
-    told
-
-pub of-let :
-    (functions place x a b i u : ℕ) (t : Template) (r : RecordRead)
-    → x ≡ 4
-    → u ≡ a + b + i
-    → t ≡ record { first = None; second = None; third = None; last = One End }
-    → described r ≡ check (eqb u 0) nodeField place (record { kind = Let; parts = these (aNumber ∷ underNumber ∷ []); template = columnOf t })
-    → OfKind functions place x a b i r
-unfolding kindOf kinds nth fieldsOf below partsOf templateOf
-of-let functions place x a b i u t r number sum is told =
-    of-kind functions place x a b i u (Let) t r
-    (λ edition. ap (λ n. nth (kinds edition a b i) n) number)
-    (and-true _ ∙ sum-test _ _ _ _ _ _ _ _ u (λ z. (sym number, omega arith, omega arith, omega arith)) (λ p q s t. omega arith))
-    (ap columnOf is)
-    told
-
-pub of-leaf :
-    (functions place x a b i u : ℕ) (t : Template) (r : RecordRead)
-    → x ≡ 5
-    → u ≡ a + b + i
-    → t ≡ record { first = One LeafTag; second = None; third = None; last = One WriteNumber }
-    → described r ≡ check (eqb u 0) nodeField place (record { kind = Leaf; parts = these (aNumber ∷ []); template = columnOf t })
-    → OfKind functions place x a b i r
-unfolding kindOf kinds nth fieldsOf below partsOf templateOf
-of-leaf functions place x a b i u t r number sum is told =
-    of-kind functions place x a b i u (Leaf) t r
-    (λ edition. ap (λ n. nth (kinds edition a b i) n) number)
-    (and-true _ ∙ sum-test _ _ _ _ _ _ _ _ u (λ z. (sym number, omega arith, omega arith, omega arith)) (λ p q s t. omega arith))
-    (ap columnOf is)
-    told
-
-pub of-node :
-    (functions place x a b i u : ℕ) (t : Template) (r : RecordRead)
-    → x ≡ 6
-    → u ≡ a + b + i
-    → t ≡ record { first = One NodeTag; second = None; third = None; last = None }
-    → described r ≡ check (eqb u 0) nodeField place (record { kind = Node; parts = these (aTree ∷ aTree ∷ []); template = columnOf t })
-    → OfKind functions place x a b i r
-unfolding kindOf kinds nth fieldsOf below partsOf templateOf
-of-node functions place x a b i u t r number sum is told =
-    of-kind functions place x a b i u (Node) t r
-    (λ edition. ap (λ n. nth (kinds edition a b i) n) number)
-    (and-true _ ∙ sum-test _ _ _ _ _ _ _ _ u (λ z. (sym number, omega arith, omega arith, omega arith)) (λ p q s t. omega arith))
-    (ap columnOf is)
-    told
-
-pub of-case :
-    (functions place x a b i u : ℕ) (t : Template) (r : RecordRead)
-    → x ≡ 7
-    → u ≡ 0 + b + i
-    → t ≡ record { first = Two ReadTag ReadNumber; second = Two End Jump; third = None; last = None }
-    → described r ≡ check (eqb u 0) nodeField place (record { kind = Case a; parts = these (underNumber ∷ underTrees ∷ []); template = columnOf t })
-    → OfKind functions place x a b i r
-unfolding kindOf kinds nth fieldsOf below partsOf templateOf
-of-case functions place x a b i u t r number sum is told =
-    of-kind functions place x a b i u (Case a) t r
-    (λ edition. ap (λ n. nth (kinds edition a b i) n) number)
-    (and-true _ ∙ sum-test _ _ _ _ _ _ _ _ u (λ z. (sym number, omega arith, omega arith, omega arith)) (λ p q s t. omega arith))
-    (ap columnOf is)
-    told
-
-pub of-call :
-    (functions place x a b i u : ℕ) (t : Template) (r : RecordRead)
-    → x ≡ 8
-    → eqb u 0 ≡ (ltb b functions && eqb i 0)
-    → t ≡ record { first = None; second = None; third = None; last = One (CallItem b) }
-    → described r ≡ check (eqb u 0) nodeField place (record { kind = Call a b; parts = argumentsOf b; template = columnOf t })
-    → OfKind functions place x a b i r
-unfolding kindOf kinds nth fieldsOf below partsOf templateOf
-of-call functions place x a b i u t r number sum is told =
-    of-kind functions place x a b i u (Call a b) t r
-    (λ edition. ap (λ n. nth (kinds edition a b i) n) number)
-    (ap (λ t. t && ltb b functions) (sum-test 8 x a a b b 0 i i (λ z. (sym number, refl, refl, sym z)) (λ p q s t. sym t)) ∙ and-comm (eqb i 0) (ltb b functions) ∙ sym sum)
-    (ap columnOf is)
-    told
 
 -- a kind number above the last
 pub of-none :
@@ -229,7 +158,8 @@ of-none functions place x a b i n0 n1 n2 n3 n4 n5 n6 n7 n8 =
     let above : 9 ≤ x = but 8 x (but 7 x (but 6 x (but 5 x (but 4 x (but 3 x (but 2 x (but 1 x (but 0 x (omega arith) n0) n1) n2) n3) n4) n5) n6) n7) n8 in
     record { is = λ edition. simp (nodeRecord, kindOf, none-past (kinds edition a b i) x above) }
 
-pub ruleset arms = (of-const, of-var, of-add, of-if-zero, of-let, of-leaf, of-node, of-case, of-call, of-none)
+pub ruleset arms =
+    (of-arm, const-arm, var-arm, add-arm, if-zero-arm, let-arm, leaf-arm, node-arm, case-arm, call-arm, of-none)
 
 -- ---- the other functions
 

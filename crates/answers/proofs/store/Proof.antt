@@ -1,0 +1,7 @@
+-- `answers::store` meets its contract: what `store_row` says of this row.
+use borrow.Author.Needs.{needs}
+use Rattle.answers.proofs.store.Statement.{statement}
+use Rattle.answers.proofs.store.Tie as tie
+
+pub store-spec : {M : Type 1} → statement M
+store-spec = tie.close (tie.spec (λ c. search needs) (λ c κs. search needs) (λ c. search needs) (λ c. search needs))

@@ -1,4 +1,4 @@
 -- The laws that the functions' proofs cite.
-pub mod Told
+pub mod Slots
 pub mod Laws
 pub mod Calls

@@ -1,4 +1,4 @@
 -- What a call answers.
-pub mod Told
+pub mod Slots
 pub mod Answer
 pub mod Fills

@@ -1,24 +1,24 @@
-// The answer of a call from C or Rust: a number, and the first places of an array that the caller lends.
+// The answer of a call from C or Rust: a number, and the first slots of an array that the caller lends.
 use refusal::Filled;
 use refusal::Refusal;
 use refusal::Verdict;
 ghost use mathlib.Core.Path.{_≡_};
 ghost use lib.Dec.{leb};
 ghost use lib.ListN.{length};
-ghost use Rattle.refusal.specs.Put.{answered};
+ghost use Rattle.refusal.specs.Inner.FilledBuffer.{filledResult};
 ghost use Rattle.formats.specs.Results.{onValue};
-ghost use Rattle.refusal.specs.Said.{said};
-ghost use Rattle.answers.specs.Told.{Stored};
-ghost use Rattle.answers.specs.Answer.{answerPlaces, Stores, Answers};
+ghost use Rattle.refusal.specs.Inner.Verdicts.{verdictResult};
+ghost use Rattle.answers.specs.Slots.{Stored};
+ghost use Rattle.answers.specs.Answer.{answerSlots, Stores, Answers};
 
-// How many places an answer takes. Later ones will stand after these.
-const ANSWER_PLACES: usize = 2;
+// How many slots an answer takes. Later ones will stand after these.
+const ANSWER_SLOTS: usize = 2;
 
-// Whether all places of the answer are lent.
+// Whether all slots of the answer are lent.
 pub fn has_room(answer: &[u64]) -> bool
-    ensures { λ r. ⌜ r ≡ leb answerPlaces (length (now (answer .entry))) ⌝ }
+    ensures { λ r. ⌜ r ≡ leb answerSlots (length (now (answer .entry))) ⌝ }
 {
-    ANSWER_PLACES <= answer.len()
+    ANSWER_SLOTS <= answer.len()
 }
 
 // Stores a row of numbers in the answer's first slots, and gives `number`. With fewer slots: 13, and the
@@ -39,29 +39,29 @@ pub fn store_row(answer: &mut [u64], row: &[u64], number: u32) -> u32
 }
 
 // The row of a refusal's position and a number of bytes.
-pub fn store(answer: &mut [u64], number: u32, place: usize, bytes: usize) -> u32
-    ensures { λ r. ⌜ Stores number place bytes (now (answer .entry)) (now (answer .exit)) r ⌝ }
+pub fn store(answer: &mut [u64], number: u32, position: usize, bytes: usize) -> u32
+    ensures { λ r. ⌜ Stores number position bytes (now (answer .entry)) (now (answer .exit)) r ⌝ }
 {
-    let row = [place as u64, bytes as u64];
+    let row = [position as u64, bytes as u64];
     store_row(answer, &row, number)
 }
 
 // The answer of a call that has filled a lent buffer, or refused to.
-pub fn tell(filled: Filled, answer: &mut [u64]) -> u32
-    ensures { λ r. ⌜ Answers (answered filled) (now (answer .entry)) (now (answer .exit)) r ⌝ }
+pub fn report(filled: Filled, answer: &mut [u64]) -> u32
+    ensures { λ r. ⌜ Answers (filledResult filled) (now (answer .entry)) (now (answer .exit)) r ⌝ }
 {
     match filled {
         Filled::Written(bytes) => store(answer, 0, 0, bytes),
-        Filled::Refused(why, place) => store(answer, refusal::number_of(why), place, 0),
+        Filled::Refused(why, position) => store(answer, refusal::number_of(why), position, 0),
     }
 }
 
-// The answer of a check: it has no bytes to tell of.
-pub fn tell_verdict(verdict: Verdict, answer: &mut [u64]) -> u32
-    ensures { λ r. ⌜ Answers (onValue (λ u. 0) (said verdict)) (now (answer .entry)) (now (answer .exit)) r ⌝ }
+// The answer of a check: it has no bytes to report of.
+pub fn report_verdict(verdict: Verdict, answer: &mut [u64]) -> u32
+    ensures { λ r. ⌜ Answers (onValue (λ u. 0) (verdictResult verdict)) (now (answer .entry)) (now (answer .exit)) r ⌝ }
 {
     match verdict {
         Verdict::Passed => store(answer, 0, 0, 0),
-        Verdict::Refused(why, place) => store(answer, refusal::number_of(why), place, 0),
+        Verdict::Refused(why, position) => store(answer, refusal::number_of(why), position, 0),
     }
 }

@@ -1,2 +1,2 @@
 -- The next stage after a record begins.
-pub mod Begins
+pub mod Inner

@@ -1,6 +1,6 @@
 // A record of a program begins, in the source run: the next stage.
 use frames::ACTION;
-use frames::BEHIND;
+use frames::AFTER;
 use frames::CALLS_FUNCTION;
 use frames::GIVES_CONSTANT;
 use frames::GIVES_NAMED;
@@ -8,16 +8,16 @@ use frames::LOOKS_AT_TREE;
 use frames::MORE;
 use frames::OPERAND;
 use stages::BEGIN;
+use stages::FINISHED;
 use stages::OPEN;
 use stages::STUCK;
 use stages::Stage;
-use stages::THROUGH;
 ghost use Prim.Native.Nat.{_+_, _*_, _<_};
 ghost use mathlib.Core.Path.{_≡_};
 ghost use lib.ListN.{getD, set};
 ghost use Rattle.formats.specs.Numbers.{numberAt};
-ghost use Rattle.stepwise.specs.Steps.{operandAt, moreAt, frameWords, recordLimit};
-ghost use Rattle.begin_record.specs.Begins.{Looks, Begins};
+ghost use Rattle.stepwise.specs.Inner.Steps.{operandAt, moreAt, frameWords, recordLimit};
+ghost use Rattle.begin_record.specs.Inner.Begins.{Looks, Begins};
 
 // Records are numbered below.
 const RECORD_LIMIT: u16 = 2048;
@@ -33,7 +33,7 @@ fn constant(table: &[u16], r: u16) -> u32
     (frames::field(table, r, OPERAND) as u32) + 65536 * (frames::field(table, r, MORE) as u32)
 }
 
-// Puts the label that begins at a place on the word that the stage's Case names it by.
+// Puts the label that begins at an offset on the word that the stage's Case names it by.
 fn put_label(table: &[u16], input: &[u8], at: usize, values: &mut [u32], s: Stage)
     ensures { λ _. ⌜ now (values .exit) ≡ set (now (values .entry)) (frameWords * s .calls + operandAt (now (table .entry)) (s .node)) (numberAt 4 (now (input .entry)) at) ⌝ }
 {
@@ -52,7 +52,7 @@ fn look(table: &[u16], input: &[u8], values: &mut [u32], s: Stage) -> Stage
     ensures { λ r. ⌜ Looks (now (table .entry)) (now (input .entry)) (now (values .entry)) (now (values .exit)) s r ⌝ }
 {
     let r = s.node;
-    let p = named_trees::named_place(table, input, s);
+    let p = named_trees::named_offset(table, input, s);
     if input.len() <= p {
         return stages::staged_at(s, STUCK, r, 0);
     }
@@ -69,7 +69,7 @@ fn look(table: &[u16], input: &[u8], values: &mut [u32], s: Stage) -> Stage
             written: s.written,
         };
     }
-    stages::staged_at(s, BEGIN, frames::field(table, r + 1, BEHIND), 0)
+    stages::staged_at(s, BEGIN, frames::field(table, r + 1, AFTER), 0)
 }
 
 // The number that a Var names.
@@ -89,8 +89,8 @@ pub fn begin(table: &[u16], input: &[u8], values: &mut [u32], s: Stage) -> Stage
         return stages::staged_at(s, STUCK, r, 0);
     }
     match frames::field(table, r, ACTION) {
-        GIVES_CONSTANT => stages::staged_at(s, THROUGH, r, constant(table, r)),
-        GIVES_NAMED => stages::staged_at(s, THROUGH, r, named_number(table, values, s)),
+        GIVES_CONSTANT => stages::staged_at(s, FINISHED, r, constant(table, r)),
+        GIVES_NAMED => stages::staged_at(s, FINISHED, r, named_number(table, values, s)),
         LOOKS_AT_TREE => look(table, input, values, s),
         CALLS_FUNCTION => {
             if frames::field(table, r, MORE) == 0 {

@@ -15,7 +15,7 @@ use Rattle.formats.specs.Numbers.{numberAt}
 use Rattle.formats.specs.Refusals.{blockCheck, blockField}
 use Rattle.formats.specs.Results.{done, refusal, verdict}
 use Rattle.formats.specs.Records.{recordBytes}
-use Rattle.formats.specs.Blocks.{blockRecords, partBytes, numberPlace, usedPlace, blocksPlace, wordSum, checkSum, wordLimit, zeros, usedFits, fieldsFit, usedOf}
+use Rattle.formats.specs.Blocks.{blockRecords, partBytes, numberOffset, usedOffset, blocksOffset, wordSum, checkSum, wordLimit, zeros, usedFits, fieldsFit, usedOf}
 use Rattle.formats.proofs.Words.{wordSum-step}
 
 -- ---- the sum of 16-bit words
@@ -39,8 +39,8 @@ pub sum-more : (s : List ℕ) (sum k word next : ℕ) → k < length s / 2 → S
     → Summed s next (k + 1)
 sum-more s sum k word next more c read added =
     let step : wordSum (drop (2 * k) s) ≡ numberAt 2 s (2 * k) + wordSum (drop (2 * k + 2) s) = wordSum-step s k (omega arith) in
-    let place : 2 * (k + 1) ≡ 2 * k + 2 = omega arith in
-    record { small = omega arith; others = rw place (omega (arith, step, c .others)) }
+    let position : 2 * (k + 1) ≡ 2 * k + 2 = omega arith in
+    record { small = omega arith; others = rw position (omega (arith, step, c .others)) }
 
 pub sum-all : (s : List ℕ) (sum k : ℕ) → length s / 2 ≤ k → Summed s sum k → sum ≡ wordSum s % wordLimit
 sum-all s sum k all c = omega (arith, short-sum (drop (2 * k) s) (omega (arith, length-drop (2 * k) s)), c .small, c .others)
@@ -102,34 +102,34 @@ pub fits-few : (blocks j used : ℕ) → blocks ≤ j + 1 → 1 ≤ used → leb
 unfolding usedFits
 fits-few blocks j used last some = let h : blocks ≤ suc j = omega arith in simp (usedFits, le-ltb _ _ h, le-leb _ _ some)
 
-pub ruleset used-told = (fits-full, fits-none, fits-few)
+pub ruleset used-reported = (fits-full, fits-none, fits-few)
 
 -- ---- the fields and the unused records
 
 module _ (blocks j : ℕ) (block : List ℕ) where
-  pub field-number : (n : ℕ) → n ≡ numberAt 2 block numberPlace → n ≢ j → false ≡ fieldsFit blocks j block
+  pub field-number : (n : ℕ) → n ≡ numberAt 2 block numberOffset → n ≢ j → false ≡ fieldsFit blocks j block
   unfolding fieldsFit
   field-number n read wrong = simp (fieldsFit, ← read, ne-eqb _ _ wrong)
 
-  pub field-used : (n used : ℕ) (fits : Bool) → n ≡ numberAt 2 block numberPlace → n ≡ j → used ≡ numberAt 2 block usedPlace
+  pub field-used : (n used : ℕ) (fits : Bool) → n ≡ numberAt 2 block numberOffset → n ≡ j → used ≡ numberAt 2 block usedOffset
       → fits ≡ usedFits blocks j used → not fits ≡ true → false ≡ fieldsFit blocks j block
   unfolding fieldsFit
-  field-used n used fits read is read-used told unfit = simp (fieldsFit, ← read, ← read-used, eq-eqb _ _ is, ← told, not-true fits unfit)
+  field-used n used fits read is read-used reported unfit = simp (fieldsFit, ← read, ← read-used, eq-eqb _ _ is, ← reported, not-true fits unfit)
 
-  pub field-count : (n used count : ℕ) (fits : Bool) → n ≡ numberAt 2 block numberPlace → n ≡ j → used ≡ numberAt 2 block usedPlace
-      → fits ≡ usedFits blocks j used → not fits ≡ false → count ≡ numberAt 2 block blocksPlace → count ≢ blocks → false ≡ fieldsFit blocks j block
+  pub field-count : (n used count : ℕ) (fits : Bool) → n ≡ numberAt 2 block numberOffset → n ≡ j → used ≡ numberAt 2 block usedOffset
+      → fits ≡ usedFits blocks j used → not fits ≡ false → count ≡ numberAt 2 block blocksOffset → count ≢ blocks → false ≡ fieldsFit blocks j block
   unfolding fieldsFit
-  field-count n used count fits read is read-used told fit read-count wrong =
-      simp (fieldsFit, ← read, ← read-used, ← read-count, eq-eqb _ _ is, ← told, not-false fits fit, ne-eqb _ _ wrong)
+  field-count n used count fits read is read-used reported fit read-count wrong =
+      simp (fieldsFit, ← read, ← read-used, ← read-count, eq-eqb _ _ is, ← reported, not-false fits fit, ne-eqb _ _ wrong)
 
-  pub field-unused : (n used count : ℕ) (fits unused : Bool) → n ≡ numberAt 2 block numberPlace → n ≡ j
-      → used ≡ numberAt 2 block usedPlace → fits ≡ usedFits blocks j used → not fits ≡ false → count ≡ numberAt 2 block blocksPlace → count ≡ blocks
+  pub field-unused : (n used count : ℕ) (fits unused : Bool) → n ≡ numberAt 2 block numberOffset → n ≡ j
+      → used ≡ numberAt 2 block usedOffset → fits ≡ usedFits blocks j used → not fits ≡ false → count ≡ numberAt 2 block blocksOffset → count ≡ blocks
       → unused ≡ zeros (drop (recordBytes * used) (take partBytes block)) → unused ≡ fieldsFit blocks j block
   unfolding fieldsFit
-  field-unused n used count fits unused read is read-used told fit read-count right looked =
-      simp (fieldsFit, ← read, ← read-used, ← read-count, eq-eqb _ _ is, ← told, not-false fits fit, eq-eqb _ _ right) looked
+  field-unused n used count fits unused read is read-used reported fit read-count right looked =
+      simp (fieldsFit, ← read, ← read-used, ← read-count, eq-eqb _ _ is, ← reported, not-false fits fit, eq-eqb _ _ right) looked
 
-pub ruleset fields-told = (field-number, field-used, field-count, field-unused)
+pub ruleset fields-reported = (field-number, field-used, field-count, field-unused)
 
 -- ---- the row of one block
 
@@ -140,10 +140,10 @@ module _ (blocks j : ℕ) (block : List ℕ) (sum : ℕ) (added : sum ≡ wordSu
 
   pub row-passed : (fits : Bool) → sum ≡ checkSum → fits ≡ fieldsFit blocks j block → fits ≡ true → done tt ≡ verdict (usedOf blocks j block)
   unfolding usedOf
-  row-passed fits right told fit = simp (usedOf, ← added, eq-eqb _ _ right, ← told, fit)
+  row-passed fits right reported fit = simp (usedOf, ← added, eq-eqb _ _ right, ← reported, fit)
 
   pub row-field : (fits : Bool) → sum ≡ checkSum → fits ≡ fieldsFit blocks j block → fits ≡ false → refusal blockField j ≡ verdict (usedOf blocks j block)
   unfolding usedOf
-  row-field fits right told unfit = simp (usedOf, ← added, eq-eqb _ _ right, ← told, unfit)
+  row-field fits right reported unfit = simp (usedOf, ← added, eq-eqb _ _ right, ← reported, unfit)
 
-pub ruleset row-told = (row-check, row-passed, row-field)
+pub ruleset row-reported = (row-check, row-passed, row-field)

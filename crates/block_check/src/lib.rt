@@ -6,7 +6,7 @@ ghost use mathlib.Core.Path.{_≡_};
 ghost use lib.ListN.{take, drop};
 ghost use Rattle.formats.specs.Results.{verdict};
 ghost use Rattle.formats.specs.Blocks.{wordLimit, wordSum, zeros, usedFits, fieldsFit, usedOf};
-ghost use Rattle.refusal.specs.Said.{said};
+ghost use Rattle.refusal.specs.Inner.Verdicts.{verdictResult};
 
 const RECORD_BYTES: usize = 8;
 
@@ -15,11 +15,11 @@ const BLOCK_RECORDS: u16 = 63;
 // The bytes of a block's records.
 const PART_BYTES: usize = 504;
 
-const NUMBER_PLACE: usize = 504;
+const NUMBER_POSITION: usize = 504;
 
-const USED_PLACE: usize = 506;
+const USED_POSITION: usize = 506;
 
-const BLOCKS_PLACE: usize = 508;
+const BLOCKS_POSITION: usize = 508;
 
 // What a block's words sum to, modulo 65,536.
 const CHECK_SUM: u16 = 65535;
@@ -69,9 +69,9 @@ fn used_fits(blocks: u16, j: u16, used: u16) -> bool
 fn fields_fit(block: &[u8], blocks: u16, j: u16) -> bool
     ensures { λ r. ⌜ r ≡ fieldsFit blocks j (now (block .entry)) ⌝ }
 {
-    let number = words::read16(block, NUMBER_PLACE);
-    let used = words::read16(block, USED_PLACE);
-    let count = words::read16(block, BLOCKS_PLACE);
+    let number = words::read16(block, NUMBER_POSITION);
+    let used = words::read16(block, USED_POSITION);
+    let count = words::read16(block, BLOCKS_POSITION);
     if number != j {
         return false;
     }
@@ -86,7 +86,7 @@ fn fields_fit(block: &[u8], blocks: u16, j: u16) -> bool
 
 // The row "each block" for the block with number j of so many: the check, then the other fields and the unused records.
 pub fn block_row(block: &[u8], blocks: u16, j: u16) -> Verdict
-    ensures { λ r. ⌜ said r ≡ verdict (usedOf blocks j (now (block .entry))) ⌝ }
+    ensures { λ r. ⌜ verdictResult r ≡ verdict (usedOf blocks j (now (block .entry))) ⌝ }
 {
     if word_sum(block) != CHECK_SUM {
         return Verdict::Refused(Refusal::BlockCheck, j as usize);

@@ -8,14 +8,14 @@ use borrow.Author.Tests.{eq-eqb, ne-eqb, le-leb, lt-leb}
 use lib.ListN.{length, take, drop}
 use Rattle.formats.specs.Refusals.{fileLength}
 use Rattle.formats.specs.Results.{Result, done, refusal, onValue, verdict, each}
-use Rattle.formats.specs.Blocks.{blockBytes, mostBlocks, lengthRow, usedOf, blockAt, blockRow, joined, flatIn}
+use Rattle.formats.specs.Blocks.{blockBytes, mostBlocks, lengthRow, usedOf, blockAt, blockRow, concatenated, flatIn}
 use Rattle.formats.proofs.Results.{then-done, Passing, pass-more, pass-refused, pass-all}
 use Rattle.formats.proofs.Files.{length-done}
 use Rattle.refusal.specs.declared.Refusal.{Refusal}
 use Rattle.refusal.specs.declared.Verdict.{Verdict}
 use Rattle.refusal.specs.declared.Verdict.the-variants.{Passed, Refused}
-use Rattle.refusal.specs.Number.{number}
-use Rattle.refusal.specs.Said.{said}
+use Rattle.refusal.specs.Inner.Numbers.{number}
+use Rattle.refusal.specs.Inner.Verdicts.{verdictResult}
 
 -- ---- the rows of a file
 
@@ -28,22 +28,22 @@ unfolding blockRow
 rows-none s blocks = record { left = ap (λ (n : ℕ). verdict (each (blockAt blocks s) n 0)) (sym (sub-zero blocks)) }
 
 module _ (s : List ℕ) (blocks j : ℕ) (block : List ℕ) (row : Verdict) (more : j < blocks) (c : RowsLeft s blocks j)
-    (there : block ≡ take blockBytes (drop (blockBytes * j) s)) (told : said row ≡ verdict (usedOf blocks j block)) where
+    (there : block ≡ take blockBytes (drop (blockBytes * j) s)) (reported : verdictResult row ≡ verdict (usedOf blocks j block)) where
   -- what a block says is the next of the rows
-  next : said row ≡ verdict (blockAt blocks s j)
+  next : verdictResult row ≡ verdict (blockAt blocks s j)
   unfolding blockAt
-  next = told ∙ ap (λ (b : List ℕ). verdict (usedOf blocks j b)) there
+  next = reported ∙ ap (λ (b : List ℕ). verdict (usedOf blocks j b)) there
 
   pub rows-more : row ≡ Passed → RowsLeft s blocks (j + 1)
-  rows-more is = pass-more _ _ blocks j more c (sym next ∙ ap said is)
+  rows-more is = pass-more _ _ blocks j more c (sym next ∙ ap verdictResult is)
 
-  pub rows-refused : (why : Refusal) (place : ℕ) → row ≡ Refused why place → refusal (number why) place ≡ verdict (blockRow blocks s)
-  rows-refused why place is = pass-refused _ _ blocks j (number why) place more c (sym next ∙ ap said is)
+  pub rows-refused : (why : Refusal) (position : ℕ) → row ≡ Refused why position → refusal (number why) position ≡ verdict (blockRow blocks s)
+  rows-refused why position is = pass-refused _ _ blocks j (number why) position more c (sym next ∙ ap verdictResult is)
 
 pub rows-all : (s : List ℕ) (blocks j : ℕ) → blocks ≤ j → RowsLeft s blocks j → done tt ≡ verdict (blockRow blocks s)
 rows-all s blocks j all c = pass-all _ _ blocks j all c
 
-pub ruleset rows-told = (rows-none, rows-more, rows-refused, rows-all)
+pub ruleset rows-reported = (rows-none, rows-more, rows-refused, rows-all)
 
 -- ---- the row of the length, and both
 
@@ -62,15 +62,15 @@ whole-many s whole some many = simp (flatIn, lengthRow, eq-eqb _ _ whole, le-leb
 
 -- the rows of the blocks decide over a file of 1 to 17 blocks
 pub whole-rows : (s : List ℕ) (row : Verdict) → length s ≡ blockBytes * (length s / blockBytes) → 1 ≤ length s / blockBytes → length s / blockBytes ≤ mostBlocks
-    → said row ≡ verdict (blockRow (length s / blockBytes) s) → said row ≡ verdict (flatIn s)
+    → verdictResult row ≡ verdict (blockRow (length s / blockBytes) s) → verdictResult row ≡ verdict (flatIn s)
 unfolding flatIn
-whole-rows s row whole some few told =
+whole-rows s row whole some few reported =
     let n : ℕ = length s / blockBytes in
     let first : lengthRow s ≡ done n = length-done s n (record { measure = whole; some-block = some; few-blocks = few }) in
-    told ∙ same (blockRow n s) ∙ ap verdict (sym (then-done (λ m. onValue joined (blockRow m s)) first))
+    reported ∙ same (blockRow n s) ∙ ap verdict (sym (then-done (λ m. onValue concatenated (blockRow m s)) first))
   where
-    same : (r : Result (List (List ℕ))) → verdict r ≡ verdict (onValue joined r)
+    same : (r : Result (List (List ℕ))) → verdict r ≡ verdict (onValue concatenated r)
     same (done parts) = refl
-    same (refusal number place) = refl
+    same (refusal number position) = refl
 
-pub ruleset whole-told = (whole-not, whole-none, whole-many, whole-rows)
+pub ruleset whole-reported = (whole-not, whole-none, whole-many, whole-rows)

@@ -11,8 +11,8 @@ use Rattle.formats.proofs.Results.{value-inv, value-refused}
 use Rattle.formats.proofs.Written.{written-fits}
 use Rattle.formats.proofs.Files.{flat-short}
 use Rattle.refusal.specs.declared.Refusal.{Refusal}
-use Rattle.refusal.specs.Number.{number}
-use Rattle.refusal.specs.Put.{answered, Put}
+use Rattle.refusal.specs.Inner.Numbers.{number}
+use Rattle.refusal.specs.Inner.FilledBuffer.{filledResult, FilledBuffer}
 use Rattle.refusal.specs.declared.Filled.{Filled}
 use Rattle.refusal.specs.declared.Filled.the-variants.{Written, Refused}
 
@@ -23,14 +23,14 @@ pub record Taken (s after : List ℕ) (bytes : ℕ) : Type 0 where
   pub there : take bytes after ≡ flat
   pub inside : bytes ≤ length after
 
-module _ (s space : List ℕ) (size : length space ≡ mostBytes) (after : List ℕ) (taken : Filled) (put : Put (flatIn s) space after taken) where
-  pub not-taken : (why : Refusal) (place : ℕ) → taken ≡ Refused why place → flatIn s ≡ refusal (number why) place
-  not-taken why place is = value-refused length (flatIn s) (number why) place (sym (put .answer) ∙ ap answered is)
+module _ (s space : List ℕ) (size : length space ≡ mostBytes) (after : List ℕ) (taken : Filled) (put : FilledBuffer (flatIn s) space after taken) where
+  pub not-taken : (why : Refusal) (position : ℕ) → taken ≡ Refused why position → flatIn s ≡ refusal (number why) position
+  not-taken why position is = value-refused length (flatIn s) (number why) position (sym (put .answer) ∙ ap filledResult is)
 
   pub taken-out : (bytes : ℕ) → taken ≡ Written bytes → Taken s after bytes
   unfolding lent
   taken-out bytes is =
-      let v = value-inv length (flatIn s) bytes (sym (put .answer) ∙ ap answered is) in
+      let v = value-inv length (flatIn s) bytes (sym (put .answer) ∙ ap filledResult is) in
       let fits : 0 + length (v .value) ≤ length space = omega (arith, size, flat-short s (v .value) (v .first)) in
       let wrote : after ≡ v .value ++ drop (0 + length (v .value)) space =
       put .buffer ∙ ap (lent space) (v .first) ∙ written-fits space 0 (v .value) fits in

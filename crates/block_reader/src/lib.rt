@@ -7,8 +7,8 @@ ghost use mathlib.Core.Path.{_≡_};
 ghost use lib.ListN.{length, take, drop};
 ghost use Rattle.formats.specs.Results.{done, verdict, onValue};
 ghost use Rattle.formats.specs.Blocks.{blockBytes, mostBytes, blockRow, flatIn, lent};
-ghost use Rattle.refusal.specs.Put.{Put};
-ghost use Rattle.refusal.specs.Said.{said};
+ghost use Rattle.refusal.specs.Inner.FilledBuffer.{FilledBuffer};
+ghost use Rattle.refusal.specs.Inner.Verdicts.{verdictResult};
 
 const RECORD_BYTES: usize = 8;
 
@@ -19,7 +19,7 @@ const MOST_BLOCKS: usize = 17;
 // The bytes of a block's records.
 const PART_BYTES: usize = 504;
 
-const USED_PLACE: usize = 506;
+const USED_POSITION: usize = 506;
 
 // The bytes of flat records that the most blocks hold: 17 times 63 records of 8 bytes.
 pub const MOST_BYTES: usize = 8568;
@@ -36,13 +36,13 @@ fn block_at(file: &[u8], j: usize) -> &[u8]
 // The row "each block" of a file of so many blocks.
 fn each_block(file: &[u8], blocks: u16) -> Verdict
     requires { ⌜ length (now file) ≡ blockBytes * blocks ⌝ }
-    ensures { λ r. ⌜ said r ≡ verdict (blockRow blocks (now (file .entry))) ⌝ }
+    ensures { λ r. ⌜ verdictResult r ≡ verdict (blockRow blocks (now (file .entry))) ⌝ }
 {
     let mut j: u16 = 0;
     while j < blocks {
         let row = block_check::block_row(block_at(file, j as usize), blocks, j);
-        if let Verdict::Refused(why, place) = row {
-            return Verdict::Refused(why, place);
+        if let Verdict::Refused(why, position) = row {
+            return Verdict::Refused(why, position);
         }
         j = j + 1;
     }
@@ -51,7 +51,7 @@ fn each_block(file: &[u8], blocks: u16) -> Verdict
 
 // The rows "blocks" and "each block" of a file.
 fn block_rows(file: &[u8]) -> Verdict
-    ensures { λ r. ⌜ said r ≡ verdict (flatIn (now (file .entry))) ⌝ }
+    ensures { λ r. ⌜ verdictResult r ≡ verdict (flatIn (now (file .entry))) ⌝ }
 {
     let blocks = file.len() / BLOCK_BYTES;
     if file.len() != BLOCK_BYTES * blocks {
@@ -72,7 +72,7 @@ fn flat_bytes(file: &[u8]) -> usize
     ensures { λ r. ⌜ done r ≡ onValue length (flatIn (now (file .entry))) ⌝ }
 {
     let full = file.len() / BLOCK_BYTES - 1;
-    let used = words::read16(block_at(file, full), USED_PLACE) as usize;
+    let used = words::read16(block_at(file, full), USED_POSITION) as usize;
     PART_BYTES * full + RECORD_BYTES * used
 }
 
@@ -85,7 +85,7 @@ fn gather(file: &[u8], flat: &mut [u8])
     let mut j = 0;
     while j < blocks {
         let block = block_at(file, j);
-        let used = words::read16(block, USED_PLACE) as usize;
+        let used = words::read16(block, USED_POSITION) as usize;
         writing::write_bytes(flat, PART_BYTES * j, &block[..RECORD_BYTES * used]);
         j = j + 1;
     }
@@ -93,12 +93,12 @@ fn gather(file: &[u8], flat: &mut [u8])
 
 // The flat records of a file's blocks, written to the start of a lent buffer, which has room for those of every file: only the block rows
 // refuse.
-pub fn take_out(file: &[u8], flat: &mut [u8; MOST_BYTES]) -> Filled
-    ensures { λ r. ⌜ Put (flatIn (now (file .entry))) (now (flat .entry)) (now (flat .exit)) r ⌝ }
+pub fn from_blocks(file: &[u8], flat: &mut [u8; MOST_BYTES]) -> Filled
+    ensures { λ r. ⌜ FilledBuffer (flatIn (now (file .entry))) (now (flat .entry)) (now (flat .exit)) r ⌝ }
 {
     let rows = block_rows(file);
-    if let Verdict::Refused(why, place) = rows {
-        return Filled::Refused(why, place);
+    if let Verdict::Refused(why, position) = rows {
+        return Filled::Refused(why, position);
     }
     gather(file, flat);
     Filled::Written(flat_bytes(file))

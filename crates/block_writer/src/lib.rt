@@ -6,8 +6,8 @@ ghost use mathlib.Core.Path.{_≡_};
 ghost use mathlib.Core.List.{_++_};
 ghost use lib.ListN.{length, take, drop, replicate};
 ghost use Rattle.formats.specs.Written.{written};
-ghost use Rattle.formats.specs.Blocks.{blockBytes, partBytes, blockBody, blockOf, blocksFor, fileOf, within};
-ghost use Rattle.refusal.specs.Put.{Put};
+ghost use Rattle.formats.specs.Blocks.{blockBytes, partBytes, blockBody, blockOf, blocksFor, fileOf, inRoom};
+ghost use Rattle.refusal.specs.Inner.FilledBuffer.{FilledBuffer};
 
 const RECORD_BYTES: usize = 8;
 
@@ -16,13 +16,13 @@ const BLOCK_BYTES: usize = 512;
 // The bytes of a block's records.
 const PART_BYTES: usize = 504;
 
-const NUMBER_PLACE: usize = 504;
+const NUMBER_POSITION: usize = 504;
 
-const USED_PLACE: usize = 506;
+const USED_POSITION: usize = 506;
 
-const BLOCKS_PLACE: usize = 508;
+const BLOCKS_POSITION: usize = 508;
 
-const CHECK_PLACE: usize = 510;
+const CHECK_POSITION: usize = 510;
 
 // How many values a 16-bit word has.
 const WORD_LIMIT: usize = 65536;
@@ -30,7 +30,7 @@ const WORD_LIMIT: usize = 65536;
 // What a block's words sum to, modulo 65,536.
 const CHECK_SUM: u16 = 65535;
 
-// Writes the records of a block at a place, and zeros for those that it does not use.
+// Writes the records of a block at a position, and zeros for those that it does not use.
 fn write_records(file: &mut [u8], start: usize, part: &[u8])
     requires { ⌜ (start + blockBytes ≤ length (now file)) × (length (now part) ≤ partBytes) ⌝ }
     ensures { λ _. ⌜ now (file .exit) ≡ written (now (file .entry)) start (now (part .entry) ++ replicate (partBytes - length (now (part .entry))) 0) ⌝ }
@@ -41,26 +41,26 @@ fn write_records(file: &mut [u8], start: usize, part: &[u8])
     writing::write_bytes(file, start + bytes, &zeros[bytes..]);
 }
 
-// Writes a block but for its check at a place: its records, and its fields behind them.
+// Writes a block but for its check at a position: its records, and its fields after them.
 fn write_body(file: &mut [u8], start: usize, part: &[u8], blocks: usize, j: usize)
     requires { ⌜ (start + blockBytes ≤ length (now file)) × (length (now part) ≤ partBytes) ⌝ }
     ensures { λ _. ⌜ now (file .exit) ≡ written (now (file .entry)) start (blockBody (now (part .entry)) j blocks) ⌝ }
 {
     let used = part.len() / RECORD_BYTES;
     write_records(file, start, part);
-    writing::write16(file, start + NUMBER_PLACE, (j % WORD_LIMIT) as u16);
-    writing::write16(file, start + USED_PLACE, used as u16);
-    writing::write16(file, start + BLOCKS_PLACE, (blocks % WORD_LIMIT) as u16);
+    writing::write16(file, start + NUMBER_POSITION, (j % WORD_LIMIT) as u16);
+    writing::write16(file, start + USED_POSITION, used as u16);
+    writing::write16(file, start + BLOCKS_POSITION, (blocks % WORD_LIMIT) as u16);
 }
 
-// Writes one block at a place, with the check word that makes its words sum to 65,535.
+// Writes one block at a position, with the check word that makes its words sum to 65,535.
 fn write_block(file: &mut [u8], start: usize, part: &[u8], blocks: usize, j: usize)
     requires { ⌜ (start + blockBytes ≤ length (now file)) × (length (now part) ≤ partBytes) ⌝ }
     ensures { λ _. ⌜ now (file .exit) ≡ written (now (file .entry)) start (blockOf (now (part .entry)) j blocks) ⌝ }
 {
     write_body(file, start, part, blocks, j);
-    let sum = block_check::word_sum(&file[start..start + CHECK_PLACE]);
-    writing::write16(file, start + CHECK_PLACE, CHECK_SUM - sum);
+    let sum = block_check::word_sum(&file[start..start + CHECK_POSITION]);
+    writing::write16(file, start + CHECK_POSITION, CHECK_SUM - sum);
 }
 
 // The flat records that go into block j.
@@ -88,8 +88,8 @@ fn write_blocks(flat: &[u8], blocks: usize, file: &mut [u8])
 }
 
 // The file of flat records, written to the start of a lent buffer; 13 where it is too short.
-pub fn lay_out(flat: &[u8], file: &mut [u8]) -> Filled
-    ensures { λ r. ⌜ Put (within (length (now (file .entry))) (fileOf (now (flat .entry)))) (now (file .entry)) (now (file .exit)) r ⌝ }
+pub fn to_blocks(flat: &[u8], file: &mut [u8]) -> Filled
+    ensures { λ r. ⌜ FilledBuffer (inRoom (length (now (file .entry))) (fileOf (now (flat .entry)))) (now (file .entry)) (now (file .exit)) r ⌝ }
 {
     let blocks = (flat.len() + (PART_BYTES - 1)) / PART_BYTES;
     if file.len() / BLOCK_BYTES < blocks {

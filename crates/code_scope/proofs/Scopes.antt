@@ -9,19 +9,19 @@ use native.Mathlib.Decide.{decLe}
 use native.Mathlib.Omega.{arith}
 use borrow.Author.Tests.{eq-eqb, ne-eqb}
 use lib.ListN.{getD, set, length-set}
-use Rattle.formats.specs.Places.{fromLast}
+use Rattle.formats.specs.Buffers.{fromLast}
 use Rattle.formats.specs.Programs.{numberValued}
 use Rattle.formats.specs.Records.{aNumber, aTree, asWhole, underNumber, underTrees}
 use Rattle.formats.specs.Records.{Part as PartOfKind}
-use Rattle.formats.proofs.Places.{length-from, from-top}
+use Rattle.formats.proofs.Buffers.{length-from, from-top}
 use Rattle.meaning.specs.Levels.{atLevel}
 use Rattle.meaning.proofs.Levels.{level-newest, level-older}
-use Rattle.records.specs.Read.{partOf}
+use Rattle.records.specs.Inner.Read.{partOf}
 use Rattle.records.specs.declared.Part.{Part}
 use Rattle.records.specs.declared.Part.the-variants.{Number, Tree, Whole, UnderNumber, UnderTrees}
 use Rattle.translation.specs.Templates.{wordOf}
 use Rattle.code_scope.specs.declared.Scope.{Scope}
-use Rattle.code_scope.specs.Around.{around, partAround, mostNames, sortOf, wordsIn, aroundOf, Enterable, Enters, underScope, insideScope}
+use Rattle.code_scope.specs.Inner.Around.{around, partAround, mostNames, sortOf, wordsIn, aroundOf, Enterable, Enters, underScope, insideScope}
 
 -- ---- `word_of`
 

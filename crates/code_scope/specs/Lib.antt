@@ -1,2 +1,2 @@
 -- What the functions over scopes answer.
-pub mod Around
+pub mod Inner

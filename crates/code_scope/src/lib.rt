@@ -1,10 +1,10 @@
-// What is known where an expression's code is laid down, and on entering each part of a record.
+// What is known where an expression's code is emitted, and on entering each part of a record.
 use records::Part;
 ghost use mathlib.Core.Path.{_≡_};
 ghost use Prim.Native.Nat.{min};
-ghost use Rattle.records.specs.Read.{partOf};
+ghost use Rattle.records.specs.Inner.Read.{partOf};
 ghost use Rattle.translation.specs.Templates.{wordOf};
-ghost use Rattle.code_scope.specs.Around.{mostNames, wordsIn, underScope, insideScope};
+ghost use Rattle.code_scope.specs.Inner.Around.{mostNames, wordsIn, underScope, insideScope};
 
 // The most names, each on a word of its own.
 const MOST_NAMES: usize = 16;
@@ -12,7 +12,7 @@ const MOST_NAMES: usize = 16;
 // What is given as the word of a name that is not bound.
 const NO_WORD: u16 = 0;
 
-// What is known where an expression is laid down: the words that the number names stand on, how many names there are, how many words stand above the
+// What is known where an expression is emitted: the words that the number names stand on, how many names there are, how many words stand above the
 // base, and whether a tree is expected. More names than 16 count as 16: no program that passes pass one has more.
 pub struct Scope {
     pub words: [u16; MOST_NAMES],

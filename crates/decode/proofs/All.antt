@@ -15,19 +15,19 @@ use Rattle.formats.specs.Written.{written}
 use Rattle.formats.proofs.Results.{Value, passed-is, each-inv, each-none, each-front}
 use Rattle.formats.proofs.Rows.{function-read, flattens}
 use Rattle.formats.proofs.Written.{written-append, written-none, wrote}
-use Rattle.functions.specs.Counts.{countsFrom}
+use Rattle.functions.specs.Inner.Counts.{countsFrom}
 use Rattle.meaning.specs.OpenCalls.{firstRecord}
-use Rattle.walks.specs.Standing.{Known, Holds, Bodies, no-more, one-more}
-use Rattle.walks.specs.Limits.{parametersOfAny}
-use Rattle.walks.specs.Walks.{Inside}
+use Rattle.walks.specs.Inner.Standing.{Known, Holds, Bodies, no-more, one-more}
+use Rattle.walks.specs.Inner.Limits.{parametersOfAny}
+use Rattle.walks.specs.Inner.Walks.{Inside}
 use Rattle.walks.proofs.Walks.{program-held, signature-of}
-use Rattle.stepwise.specs.Rows.{rowWords, bodyPlace, rowsOf, rowsOfAll, tabled}
+use Rattle.stepwise.specs.Inner.Rows.{rowWords, bodyLocation, rowsOf, rowsOfAll, tabled}
 use Rattle.stepwise.proofs.Rows.{length-rows, length-rows-all}
-use Rattle.part_places.specs.declared.Place.{Place}
-use Rattle.part_places.specs.Parts.{placeWith}
-use Rattle.record_rows.specs.Halves.{firstIn}
-use Rattle.decode.specs.Decoding.{tableWords}
-use Rattle.decode.specs.Walk.{Agrees, Small, Entering, Filled, Fills, startPlace, Starts, Ready, FillsAll}
+use Rattle.part_locations.specs.declared.Location.{Location}
+use Rattle.part_locations.specs.Inner.Locations.{locationWith}
+use Rattle.record_rows.specs.Inner.Halves.{firstIn}
+use Rattle.decode.specs.Inner.Decoding.{tableWords}
+use Rattle.decode.specs.Inner.Walk.{Agrees, Small, Entering, Filled, Fills, startLocation, Starts, Ready, FillsAll}
 
 -- ---- the first records and the arities of a program's functions
 
@@ -102,15 +102,15 @@ fill-first s table cases functions nodes end bytes ready ef en el =
       stack = ready .stack;
       left = λ program e.
           let h = program-held s program bytes e in
-          let place : suc (length (program .functions)) ≡ 1 + functions = omega (arith, h .functions) in
+          let location : suc (length (program .functions)) ≡ 1 + functions = omega (arith, h .functions) in
           record {
             others = program .functions;
             known = h .known;
             agrees = agreeing s program bytes e;
-            held = rw place at (h .held);
+            held = rw location at (h .held);
             many = omega (arith, h .functions);
             ends = omega (arith, h .nodes);
-            due = ap (λ k. written table (rowWords * k) (rowsOfAll (firstRecord program) (arityOf (signatures program)) k (program .functions))) place;
+            due = ap (λ k. written table (rowWords * k) (rowsOfAll (firstRecord program) (arityOf (signatures program)) k (program .functions))) location;
           };
     }
 
@@ -126,7 +126,7 @@ module _ (s : List ℕ) (functions end : ℕ) (table₀ cases₀ table cases : L
       by program [] many due = sym (due ∙ written-none table (rowWords * k))
       by program (f ∷ fs) many due = absurd (omega arith)
 
-  module _ (p : Place) (starts : Starts s j p) (more : j < functions) where
+  module _ (p : Location) (starts : Starts s j p) (more : j < functions) where
     -- function j, and those after it
     record Turn (program : Program) : Type 0 where
       here : Function
@@ -134,7 +134,7 @@ module _ (s : List ℕ) (functions end : ℕ) (table₀ cases₀ table cases : L
       signed : functionIn s j ≡ done (signatureOf here)
       few : here .parameters ≤ parametersOfAny
       holds : Holds s (signatures program) k (here .body)
-      behind : Bodies s (signatures program) (suc j) (k + size (here .body)) others
+      after : Bodies s (signatures program) (suc j) (k + size (here .body)) others
       many : suc j + length others ≡ functions
       ends : k + size (here .body) + total (map signatureOf others) ≡ end
       due : tabled table₀ program ≡ written table (rowWords * k) (rowsOfAll (firstRecord program) (arityOf (signatures program)) k (here ∷ others))
@@ -148,20 +148,20 @@ module _ (s : List ℕ) (functions end : ℕ) (table₀ cases₀ table cases : L
             → tabled table₀ program ≡ written table (rowWords * k) (rowsOfAll (firstRecord program) (arityOf (signatures program)) k fs)
             → Turn program
         by [] no-more many ends due = absurd (omega arith)
-        by (f ∷ fs) (one-more signed few holds behind) many ends due = record {
+        by (f ∷ fs) (one-more signed few holds after) many ends due = record {
           here = f;
           others = fs;
           signed = signed;
           few = few;
           holds = holds;
-          behind = behind;
+          after = after;
           many = omega arith;
           ends = omega arith;
           due = due;
         }
 
     -- where it begins
-    starts-at : (program : Program) (e : readProgram s ≡ done program) → p ≡ startPlace (turn program e .here)
+    starts-at : (program : Program) (e : readProgram s ≡ done program) → p ≡ startLocation (turn program e .here)
     starts-at program e = let t = turn program e in starts .is (t .here) (t .signed) (t .few)
 
     -- its counts are small
@@ -185,7 +185,7 @@ module _ (s : List ℕ) (functions end : ℕ) (table₀ cases₀ table cases : L
         → Entering s table cases (firstRecord program) (arityOf (signatures program)) k end p (turn program e .here .body)
     body-entered program e =
         let t = turn program e in
-        let flat-depth : p .depth ≡ 0 = ap (λ (q : Place). q .depth) (starts-at program e) in
+        let flat-depth : p .depth ≡ 0 = ap (λ (q : Location). q .depth) (starts-at program e) in
         record {
           here = record { signed = signatures program; known = l .left program e .known; holds = t .holds; fits = omega (arith, t .ends) };
           agrees = l .left program e .agrees;
@@ -194,9 +194,9 @@ module _ (s : List ℕ) (functions end : ℕ) (table₀ cases₀ table cases : L
         }
 
     -- its place is the one wanted
-    body-place : (program : Program) (e : readProgram s ≡ done program)
-        → placeWith p cases ≡ bodyPlace (firstRecord program) (arityOf (signatures program)) (turn program e .here)
-    body-place program e = ap (λ q. placeWith q cases) (starts-at program e)
+    body-location : (program : Program) (e : readProgram s ≡ done program)
+        → locationWith p cases ≡ bodyLocation (firstRecord program) (arityOf (signatures program)) (turn program e .here)
+    body-location program e = ap (λ q. locationWith q cases) (starts-at program e)
 
     module _ (table′ cases′ : List ℕ) (next : ℕ) (fills : Fills s table table′ cases cases′ k end p next) where
       -- its rows are filled
@@ -219,27 +219,27 @@ module _ (s : List ℕ) (functions end : ℕ) (table₀ cases₀ table cases : L
           let entry = firstRecord program in
           let arity = arityOf (signatures program) in
           let body = t .here .body in
-          let own = rowsOf entry arity (bodyPlace entry arity (t .here)) k body in
+          let own = rowsOf entry arity (bodyLocation entry arity (t .here)) k body in
           let others = rowsOfAll entry arity (k + size body) (t .others) in
-          let place = rowWords * k in
-          let long-own : length own ≡ rowWords * size body = length-rows entry arity (bodyPlace entry arity (t .here)) k body in
-          let own-written : table′ ≡ written table place own =
-          g .rows ∙ ap (λ q. written table place (rowsOf entry arity q k body)) (body-place program e) in
-          let behind-own : place + length own ≡ rowWords * next = omega (arith, g .behind) in
-          let room : place + length (own ++ others) ≤ length table =
+          let location = rowWords * k in
+          let long-own : length own ≡ rowWords * size body = length-rows entry arity (bodyLocation entry arity (t .here)) k body in
+          let own-written : table′ ≡ written table location own =
+          g .rows ∙ ap (λ q. written table location (rowsOf entry arity q k body)) (body-location program e) in
+          let after-own : location + length own ≡ rowWords * next = omega (arith, g .after) in
+          let room : location + length (own ++ others) ≤ length table =
           omega (arith, length-append own others, length-rows-all entry arity (k + size body) (t .others), t .ends, l .inside .few, l .room, l .table-long) in
           record {
             others = t .others;
             known = l .left program e .known;
             agrees = l .left program e .agrees;
-            held = subst (λ n. Bodies s (signatures program) (j + 1) n (t .others)) (sym (g .behind)) (rw add-one (t .behind));
+            held = subst (λ n. Bodies s (signatures program) (j + 1) n (t .others)) (sym (g .after)) (rw add-one (t .after));
             many = omega (arith, t .many);
-            ends = omega (arith, t .ends, g .behind);
+            ends = omega (arith, t .ends, g .after);
             due =
                 t .due
-                ∙ sym (written-append table place own others room)
-                ∙ ap₂ (λ (x : List ℕ) n. written x n others) (sym own-written) behind-own
-                ∙ ap (λ n. written table′ (rowWords * next) (rowsOfAll entry arity n (t .others))) (sym (g .behind));
+                ∙ sym (written-append table location own others room)
+                ∙ ap₂ (λ (x : List ℕ) n. written x n others) (sym own-written) after-own
+                ∙ ap (λ n. written table′ (rowWords * next) (rowsOfAll entry arity n (t .others))) (sym (g .after));
           }
 
       pub fill-more : Filling s functions end table₀ cases₀ table′ cases′ next (j + 1)

@@ -11,40 +11,40 @@ use Rattle.formats.specs.Results.{Result, done, refusal, verdict, check, andThe
 use Rattle.formats.specs.Programs.{mostRecords}
 use Rattle.formats.specs.Rows.{readProgram}
 use Rattle.formats.proofs.Results.{Followed, byResult, then-done, then-refused, then-inv}
-use Rattle.refusal.specs.Number.{number}
-use Rattle.refusal.specs.Said.{said}
+use Rattle.refusal.specs.Inner.Numbers.{number}
+use Rattle.refusal.specs.Inner.Verdicts.{verdictResult}
 use Rattle.refusal.specs.declared.Refusal.{Refusal}
 use Rattle.refusal.specs.declared.Refusal.the-variants.{SpaceTooShort}
 use Rattle.refusal.specs.declared.Verdict.{Verdict}
 use Rattle.refusal.specs.declared.Verdict.the-variants.{Passed, Refused}
 use Rattle.rules.specs.PassOne.{passOne, checkOne}
-use Rattle.stepwise.specs.Rows.{tabled}
-use Rattle.decode.specs.Decoding.{tableWords, decoded, orElse, Decodes}
-use Rattle.decode.specs.Walk.{Ready, FillsAll}
+use Rattle.stepwise.specs.Inner.Rows.{tabled}
+use Rattle.decode.specs.Inner.Decoding.{tableWords, decoded, orElse, Decodes}
+use Rattle.decode.specs.Inner.Walk.{Ready, FillsAll}
 
 module _ (s table : List ℕ) where
   -- the refusal that is reported
-  refused : (why : Refusal) (place : ℕ) → decoded s table ≡ refusal (number why) place → Decodes s table table (Refused why place)
+  refused : (why : Refusal) (location : ℕ) → decoded s table ≡ refusal (number why) location → Decodes s table table (Refused why location)
   unfolding orElse
-  refused why place e = record { said-so = sym (ap verdict e); after-is = sym (rw (e, orElse)) }
+  refused why location e = record { said-so = sym (ap verdict e); after-is = sym (rw (e, orElse)) }
 
   -- a refusal of the checks is one of the whole
-  checks-refuse : (n place : ℕ) → checkOne s ≡ refusal n place → decoded s table ≡ refusal n place
+  checks-refuse : (n location : ℕ) → checkOne s ≡ refusal n location → decoded s table ≡ refusal n location
   unfolding checkOne decoded
-  checks-refuse n place e =
+  checks-refuse n location e =
       byResult (readProgram s)
       (λ program is. then-done _ is ∙ then-refused _ (sym (then-done passOne is) ∙ e))
-      (λ m at is. then-refused _ is ∙ ap (λ (r : Result (Unit {0})). andThen {B = List ℕ} r (λ u. refusal n place)) (sym (then-refused passOne is) ∙ e))
+      (λ m at is. then-refused _ is ∙ ap (λ (r : Result (Unit {0})). andThen {B = List ℕ} r (λ u. refusal n location)) (sym (then-refused passOne is) ∙ e))
 
-  module _ (checks : Verdict) (told : said checks ≡ checkOne s) where
-    pub decode-refused : (why : Refusal) (place : ℕ) → checks ≡ Refused why place → Decodes s table table (Refused why place)
-    decode-refused why place case = refused why place (checks-refuse (number why) place (sym told ∙ ap said case))
+  module _ (checks : Verdict) (reported : verdictResult checks ≡ checkOne s) where
+    pub decode-refused : (why : Refusal) (location : ℕ) → checks ≡ Refused why location → Decodes s table table (Refused why location)
+    decode-refused why location case = refused why location (checks-refuse (number why) location (sym reported ∙ ap verdictResult case))
 
     module _ (passes : checks ≡ Passed) where
       -- the program that passes, and its rows
       the-program : Followed (readProgram s) passOne tt
       unfolding checkOne
-      the-program = then-inv (readProgram s) passOne tt (sym told ∙ ap said passes)
+      the-program = then-inv (readProgram s) passOne tt (sym reported ∙ ap verdictResult passes)
 
       into : decoded s table ≡ check (leb tableWords (length table)) spaceTooShort 0 (tabled table (the-program .value))
       unfolding decoded

@@ -11,13 +11,13 @@ use lib.Seq.{getD-take}
 use Rattle.formats.specs.Records.{Kind, Const, Var, Add, IfZero, Let, Leaf, Node, Case, Call, below}
 use Rattle.formats.specs.Programs.{mostRecords}
 use Rattle.formats.specs.Rows.{headerIn}
-use Rattle.walks.specs.Limits.{mostCount}
-use Rattle.stepwise.specs.Rows.{actionOf, codeOf, operandOf, treeOf, moreOf}
-use Rattle.part_places.specs.declared.Place.{Place}
-use Rattle.part_places.specs.Parts.{placeWith}
-use Rattle.record_rows.specs.Halves.{firstIn, operandIn, treeIn, ownIn}
+use Rattle.walks.specs.Inner.Limits.{mostCount}
+use Rattle.stepwise.specs.Inner.Rows.{actionOf, codeOf, operandOf, treeOf, moreOf}
+use Rattle.part_locations.specs.declared.Location.{Location}
+use Rattle.part_locations.specs.Inner.Locations.{locationWith}
+use Rattle.record_rows.specs.Inner.Halves.{firstIn, operandIn, treeIn, ownIn}
 use Rattle.record_rows.proofs.Halves.{case-above}
-use Rattle.decode.specs.Walk.{Agrees, Stacked, Told}
+use Rattle.decode.specs.Inner.Walk.{Agrees, Stacked, Reported}
 
 -- codes are small where a stack has records
 module _ {cases : List ℕ} {depth more : ℕ} (h : Stacked cases depth more) where
@@ -36,18 +36,18 @@ module _ {cases : List ℕ} {depth more : ℕ} (h : Stacked cases depth more) wh
 low-word : (n most : ℕ) → n ≤ most → most < 65536 → n % 65536 ≡ n
 low-word n most h g = omega arith
 
-module _ (s cases : List ℕ) (p : Place) (entry arity : ℕ → ℕ) (more : ℕ) (agrees : Agrees s entry arity) (few : p .names ≤ mostCount) (stacked : Stacked cases (p .depth) more) where
-  pub told : (kind : Kind) → below (headerIn s .functions) kind ≡ true → Told entry arity (placeWith p cases) kind (ownIn s cases (p .names) (p .depth) kind)
+module _ (s cases : List ℕ) (p : Location) (entry arity : ℕ → ℕ) (more : ℕ) (agrees : Agrees s entry arity) (few : p .names ≤ mostCount) (stacked : Stacked cases (p .depth) more) where
+  pub reported : (kind : Kind) → below (headerIn s .functions) kind ≡ true → Reported entry arity (locationWith p cases) kind (ownIn s cases (p .names) (p .depth) kind)
   unfolding ownIn actionOf operandIn treeIn operandOf treeOf moreOf below
-  told (Const i) low = record { action = refl; operand = refl; tree = refl; more = refl }
-  told (Var a) low = record { action = refl; operand = refl; tree = refl; more = refl }
-  told Add low = record { action = refl; operand = refl; tree = refl; more = refl }
-  told IfZero low = record { action = refl; operand = refl; tree = refl; more = refl }
-  told Let low = record { action = refl; operand = refl; tree = refl; more = refl }
-  told Leaf low = record { action = refl; operand = refl; tree = refl; more = refl }
-  told Node low = record { action = refl; operand = refl; tree = refl; more = refl }
-  told (Case a) low = record { action = refl; operand = low-word (p .names) mostCount few (omega arith); tree = code-low stacked a; more = refl }
-  told (Call a b) low =
+  reported (Const i) low = record { action = refl; operand = refl; tree = refl; more = refl }
+  reported (Var a) low = record { action = refl; operand = refl; tree = refl; more = refl }
+  reported Add low = record { action = refl; operand = refl; tree = refl; more = refl }
+  reported IfZero low = record { action = refl; operand = refl; tree = refl; more = refl }
+  reported Let low = record { action = refl; operand = refl; tree = refl; more = refl }
+  reported Leaf low = record { action = refl; operand = refl; tree = refl; more = refl }
+  reported Node low = record { action = refl; operand = refl; tree = refl; more = refl }
+  reported (Case a) low = record { action = refl; operand = low-word (p .names) mostCount few (omega arith); tree = code-low stacked a; more = refl }
+  reported (Call a b) low =
       let there : b < headerIn s .functions = ltb-true b (headerIn s .functions) low in
       let same : firstIn s b ≡ entry b = sym (agrees .entries b there) in
       record {

@@ -1,6 +1,6 @@
 -- The laws that the functions' proofs cite.
 pub mod Leaves
-pub mod Places
+pub mod Locations
 pub mod Rows
 pub mod Walk
 pub mod All

@@ -12,7 +12,7 @@ use lib.ListN.{length, length-append}
 use Rattle.formats.specs.Results.{onValue}
 use Rattle.formats.specs.Records.{Kind, below, partsOf, partCount, nthPart}
 use Rattle.formats.specs.Records.{Const as aConst, Var as aVar, Add as anAdd, IfZero as anIfZero, Let as aLet, Leaf as aLeaf, Node as aNode, Case as aCase, Call as aCall}
-use Rattle.formats.specs.Programs.{Expr, size, Placed, behind, partsAt}
+use Rattle.formats.specs.Programs.{Expr, size, Placed, placedAt, partsAt}
 use Rattle.formats.specs.Rows.{headerIn, arityIn, nodeIn}
 use Rattle.formats.specs.Written.{written}
 use Rattle.formats.proofs.Results.{done-injective, done-not}
@@ -20,33 +20,33 @@ use Rattle.formats.proofs.Records.{node-below}
 use Rattle.formats.proofs.Programs.{some-record}
 use Rattle.formats.proofs.Written.{written-append, written-front, written-none, wrote}
 use Rattle.refusal.specs.declared.Refusal.{Refusal}
-use Rattle.records.specs.Read.{Shape, meant, partOf, listed, described, shapeOf, shaped}
+use Rattle.records.specs.Inner.Read.{Shape, meant, partOf, listed, described, shapeOf, shaped}
 use Rattle.records.specs.declared.Record.{Record}
 use Rattle.records.specs.declared.Part.{Part}
 use Rattle.records.specs.declared.Parts.{Parts}
 use Rattle.records.specs.declared.Template.{Template}
 use Rattle.records.specs.declared.RecordRead.{RecordRead}
 use Rattle.records.specs.declared.RecordRead.the-variants.{Read, Refused}
-use Rattle.walks.specs.Standing.{headOf}
-use Rattle.walks.specs.Walks.{Went}
+use Rattle.walks.specs.Inner.Standing.{headOf}
+use Rattle.walks.specs.Inner.Walks.{Went}
 use Rattle.walks.proofs.Walks.{node-held, parts-counted, FirstOf, row-first, row-none}
 use Rattle.walks.proofs.Here.{parts-after, first-of, others-of}
-use Rattle.stepwise.specs.Rows.{rowWords, partPlace, rowOf, rowsOf}
+use Rattle.stepwise.specs.Inner.Rows.{rowWords, partLocation, rowOf, rowsOf}
 use Rattle.stepwise.proofs.Rows.{length-rows}
-use Rattle.part_places.specs.declared.Place.{Place}
-use Rattle.part_places.specs.Parts.{placeWith, partIn, noted}
+use Rattle.part_locations.specs.declared.Location.{Location}
+use Rattle.part_locations.specs.Inner.Locations.{locationWith, partIn, noted}
 use Rattle.record_rows.specs.declared.Own.{Own}
-use Rattle.record_rows.specs.Halves.{ownIn}
-use Rattle.decode.specs.Walk.{insidePlace, Agrees, Told, rowIn, Small, Entering, Same, Filled, Fills, rowsOfParts, SmallParts, Counted, EnteringParts, FillsParts}
-use Rattle.decode.proofs.Leaves.{told}
-use Rattle.decode.proofs.Places.{inside-plain, grows, place-inside, few-part, stacked-less, stacked-same, same-more, stacked-inside, same-inside}
+use Rattle.record_rows.specs.Inner.Halves.{ownIn}
+use Rattle.decode.specs.Inner.Walk.{insideLocation, Agrees, Reported, rowIn, Small, Entering, Same, Filled, Fills, rowsOfParts, SmallParts, Counted, EnteringParts, FillsParts}
+use Rattle.decode.proofs.Leaves.{reported}
+use Rattle.decode.proofs.Locations.{inside-plain, grows, place-inside, few-part, stacked-less, stacked-same, same-more, stacked-inside, same-inside}
 use Rattle.decode.proofs.Rows.{rows-split, length-parts}
 
 -- ---- `decode_at`
 
 -- a row's words, where they are small
-row-is : (entry arity : ℕ → ℕ) (cases : List ℕ) (k end : ℕ) (p : Place) (kind : Kind) (own : Own) (next : ℕ) → Told entry arity (placeWith p cases) kind own → Small k end p → next ≤ end
-    → rowIn own p next ≡ rowOf entry arity (placeWith p cases) next kind
+row-is : (entry arity : ℕ → ℕ) (cases : List ℕ) (k end : ℕ) (p : Location) (kind : Kind) (own : Own) (next : ℕ) → Reported entry arity (locationWith p cases) kind own → Small k end p → next ≤ end
+    → rowIn own p next ≡ rowOf entry arity (locationWith p cases) next kind
 row-is entry arity cases k end p kind own next half small inside =
     let role : p .role % 65536 ≡ p .role = omega (arith, small .role) in
     let parent : p .parent % 65536 ≡ p .parent = omega (arith, small .parent) in
@@ -69,7 +69,7 @@ same-count s entry arity agrees aNode there = refl
 same-count s entry arity agrees (aCase a) there = refl
 same-count s entry arity agrees (aCall a b) there = agrees .arities b (ltb-true b (headerIn s .functions) there)
 
-module _ (s table cases : List ℕ) (k end : ℕ) (p : Place) where
+module _ (s table cases : List ℕ) (k end : ℕ) (p : Location) where
   -- nothing is filled
   stayed : Small k end p → Went k end k
   stayed small = record { on = le-refl k; inside = small .inside .before-end }
@@ -80,8 +80,8 @@ module _ (s table cases : List ℕ) (k end : ℕ) (p : Place) where
 
   module _ (read : RecordRead) (says : described read ≡ onValue shapeOf (nodeIn s k)) where
     -- no expression begins with a record that is refused
-    pub fill-unread : (why : Refusal) (place : ℕ) → Small k end p → read ≡ Refused why place → Fills s table table cases cases k end p k
-    fill-unread why place small is = record {
+    pub fill-unread : (why : Refusal) (location : ℕ) → Small k end p → read ≡ Refused why location → Fills s table table cases cases k end p k
+    fill-unread why location small is = record {
       went = stayed small;
       is = λ entry arity e h. done-not (says ∙ ap (onValue shapeOf) (node-held s (h .here .signed) k e (h .here .holds))) (ap described is);
     }
@@ -136,18 +136,18 @@ module _ (s table cases : List ℕ) (k end : ℕ) (p : Place) where
         went = record { on = omega (arith, l .went .on); inside = l .went .inside };
         is = λ entry arity e h.
             let f = l .is entry arity (partsAt k e) (k + size e) (parts-entered h more) in
-            let P = placeWith p cases in
+            let P = locationWith p cases in
             let row = rowOf entry arity P (k + size e) (headOf e) in
             let rows = rowsOfParts entry arity P (headOf e) k 0 (partsAt k e) in
             let own-row : rowIn own p next ≡ row =
             row-is entry arity cases k end p (meant node) own next
-            (rw owns (told s cases p entry arity (end - k) (h .agrees) (omega (arith, small .names)) (h .stacked) (meant node) (own-below h))) small (l .went .inside)
-            ∙ ap₂ (λ n kind. rowOf entry arity P n kind) (f .behind) (own-kind h) in
+            (rw owns (reported s cases p entry arity (end - k) (h .agrees) (omega (arith, small .names)) (h .stacked) (meant node) (own-below h))) small (l .went .inside)
+            ∙ ap₂ (λ n kind. rowOf entry arity P n kind) (f .after) (own-kind h) in
             let others : there ≡ written table (rowWords * k + length row) rows =
             f .rows ∙ ap₂ (λ n (kind : Kind). written table n (rowsOfParts entry arity P kind k 0 (partsAt k e))) (omega arith) (own-kind h) in
             let whole = rows-split entry arity P k e in
             record {
-              behind = f .behind;
+              after = f .after;
               rows =
                   wrote-it
                   ∙ ap₂ (λ (l m : List ℕ). written l (rowWords * k) m) others own-row
@@ -161,7 +161,7 @@ pub ruleset expressions = (fill-past, fill-unread, fill-read)
 
 -- ---- `decode_parts`
 
-module _ (s table cases : List ℕ) (node : Record) (parts : Parts) (r i count k end : ℕ) (p : Place) (small : SmallParts r i k end p) where
+module _ (s table cases : List ℕ) (node : Record) (parts : Parts) (r i count k end : ℕ) (p : Location) (small : SmallParts r i k end p) where
   -- the parts are finished
   pub parts-done : count ≤ i → FillsParts s table table cases cases node parts r i count k end p k
   unfolding rowsOfParts
@@ -170,18 +170,18 @@ module _ (s table cases : List ℕ) (node : Record) (parts : Parts) (r i count k
     is = λ entry arity ps m h.
         let none = row-none (h .here .row) (omega (arith, h .from .left)) in
         record {
-          behind = sym (none .1);
+          after = sym (none .1);
           rows =
               sym
-              (ap (λ qs. written table (rowWords * k) (rowsOfParts entry arity (placeWith p cases) (meant node) r i qs)) (none .0) ∙ written-none table (rowWords * k));
+              (ap (λ qs. written table (rowWords * k) (rowsOfParts entry arity (locationWith p cases) (meant node) r i qs)) (none .0) ∙ written-none table (rowWords * k));
           stack = record { long = refl; below-depth = refl };
         };
   }
 
-  module _ (part : Part) (here : partOf part ≡ nthPart (listed parts) i) (inner : Place) (noted-cases between cases₁ : List ℕ) (next : ℕ)
+  module _ (part : Part) (here : partOf part ≡ nthPart (listed parts) i) (inner : Location) (noted-cases between cases₁ : List ℕ) (next : ℕ)
       (is-part : inner ≡ partIn (partOf part) (meant node) r i count p) (is-noted : noted-cases ≡ noted (partOf part) r (p .depth) cases) (f : Fills s table between noted-cases cases₁ k end inner next) (more : i < count) where
     -- no count is cut
-    is-inner : inner ≡ insidePlace (partOf part) (meant node) r i count p
+    is-inner : inner ≡ insideLocation (partOf part) (meant node) r i count p
     is-inner = is-part ∙ inside-plain (partOf part) r count (meant node) i p (grows r i k end p small)
 
     module _ {entry arity : ℕ → ℕ} {ps : List Placed} {m : ℕ} (h : EnteringParts s table cases entry arity node parts i count k end p ps m) where
@@ -191,7 +191,7 @@ module _ (s table cases : List ℕ) (node : Record) (parts : Parts) (r i count k
 
       -- it is entered ..
       first-entered : Entering s table noted-cases entry arity k end inner (first .expr)
-      unfolding insidePlace
+      unfolding insideLocation
       first-entered = record {
         here = first-of (h .here) first;
         agrees = h .agrees;
@@ -205,16 +205,16 @@ module _ (s table cases : List ℕ) (node : Record) (parts : Parts) (r i count k
 
       -- it leaves the stack as it was, up to the depth
       kept : Same cases cases₁ (p .depth)
-      unfolding insidePlace
+      unfolding insideLocation
       kept = same-inside (partOf part) r (p .depth) cases cases₁ (rw (← is-noted) (rw is-inner at (filled .stack)))
 
       -- the others see the same place
-      same-place : placeWith p cases₁ ≡ placeWith p cases
-      same-place = ap (λ (c : List ℕ). record { role = p .role; parent = p .parent; slot = p .slot; names = p .names; keeps = p .keeps; cases = c }) (kept .below-depth)
+      same-location : locationWith p cases₁ ≡ locationWith p cases
+      same-location = ap (λ (c : List ℕ). record { role = p .role; parent = p .parent; slot = p .slot; names = p .names; keeps = p .keeps; cases = c }) (kept .below-depth)
 
       -- its rows are those wanted
       abbrev own-rows : List ℕ
-      own-rows = rowsOf entry arity (partPlace entry arity (placeWith p cases) (meant node) r i) k (first .expr)
+      own-rows = rowsOf entry arity (partLocation entry arity (locationWith p cases) (meant node) r i) k (first .expr)
 
       own-written : between ≡ written table (rowWords * k) own-rows
       own-written =
@@ -223,8 +223,8 @@ module _ (s table cases : List ℕ) (node : Record) (parts : Parts) (r i count k
           let own-part : partOf part ≡ nthPart (partsOf kind) i = here ∙ ap (λ ps. nthPart ps i) (h .from .own) in
           filled .rows
           ∙ ap (λ q. written table (rowWords * k) (rowsOf entry arity q k (first .expr)))
-          (ap₂ placeWith is-inner is-noted
-          ∙ ap (λ x. placeWith (insidePlace x kind r i count p) (noted x r (p .depth) cases)) own-part
+          (ap₂ locationWith is-inner is-noted
+          ∙ ap (λ x. locationWith (insideLocation x kind r i count p) (noted x r (p .depth) cases)) own-part
           ∙ place-inside entry arity kind r i count p cases (h .counted) more (small .parent) room)
 
       -- the table keeps its length
@@ -236,7 +236,7 @@ module _ (s table cases : List ℕ) (node : Record) (parts : Parts) (r i count k
       rest-entered =
           let fewer : suc (end - next) ≤ suc (end - k) = omega (arith, f .went .on) in
           record {
-            here = others-of (h .here) first next (filled .behind);
+            here = others-of (h .here) first next (filled .after);
             from = record { own = h .from .own; many = h .from .many; left = omega (arith, h .from .left, ap length (first .both)) };
             counted = h .counted;
             agrees = h .agrees;
@@ -248,7 +248,7 @@ module _ (s table cases : List ℕ) (node : Record) (parts : Parts) (r i count k
     pub parts-stuck : next ≤ k → FillsParts s table between cases cases₁ node parts r i count k end p next
     parts-stuck stuck = record {
       went = f .went;
-      is = λ entry arity ps m h. absurd (omega (arith, some-record (first h .expr), filled h .behind));
+      is = λ entry arity ps m h. absurd (omega (arith, some-record (first h .expr), filled h .after));
     }
 
     -- the part's rows, and after them those of the others
@@ -259,23 +259,23 @@ module _ (s table cases : List ℕ) (node : Record) (parts : Parts) (r i count k
       went = record { on = omega (arith, f .went .on, l .went .on); inside = l .went .inside };
       is = λ entry arity ps m h.
           let g = l .is entry arity (first h .others) m (rest-entered h) in
-          let P = placeWith p cases in
+          let P = locationWith p cases in
           let kind = meant node in
-          let place = rowWords * k in
+          let location = rowWords * k in
           let own = own-rows h in
           let others = rowsOfParts entry arity P kind r (suc i) (first h .others) in
-          let long-own : length own ≡ rowWords * size (first h .expr) = length-rows entry arity (partPlace entry arity P kind r i) k (first h .expr) in
+          let long-own : length own ≡ rowWords * size (first h .expr) = length-rows entry arity (partLocation entry arity P kind r i) k (first h .expr) in
           let long-others = length-parts entry arity P kind r (suc i) (first h .later) in
-          let behind-own : rowWords * next ≡ place + length own = omega (arith, filled h .behind) in
-          let room : place + length (own ++ others) ≤ length table = omega (arith, length-append own others, h .here .fits, h .room) in
+          let after-own : rowWords * next ≡ location + length own = omega (arith, filled h .after) in
+          let room : location + length (own ++ others) ≤ length table = omega (arith, length-append own others, h .here .fits, h .room) in
           record {
-            behind = g .behind;
+            after = g .after;
             rows =
                 g .rows
-                ∙ ap₂ (λ j q. written between (rowWords * next) (rowsOfParts entry arity q kind r j (first h .others))) (add-one i) (same-place h)
-                ∙ ap₂ (λ (l : List ℕ) j. written l j others) (own-written h) behind-own
-                ∙ written-append table place own others room
-                ∙ ap (λ qs. written table place (rowsOfParts entry arity P kind r i qs)) (sym (first h .both));
+                ∙ ap₂ (λ j q. written between (rowWords * next) (rowsOfParts entry arity q kind r j (first h .others))) (add-one i) (same-location h)
+                ∙ ap₂ (λ (l : List ℕ) j. written l j others) (own-written h) after-own
+                ∙ written-append table location own others room
+                ∙ ap (λ qs. written table location (rowsOfParts entry arity P kind r i qs)) (sym (first h .both));
             stack = same-more cases cases₁ (p .depth) (kept h) cases′ (g .stack);
           };
     }
@@ -285,7 +285,7 @@ pub ruleset parts = (parts-done, parts-stuck, parts-more)
 -- ---- what the calls ask: counts stay small, and the records left fall
 
 -- the parts of a record
-pub few-parts : (k end : ℕ) (p : Place) → Small k end p → k < end → SmallParts k 0 (k + 1) end p
+pub few-parts : (k end : ℕ) (p : Location) → Small k end p → k < end → SmallParts k 0 (k + 1) end p
 few-parts k end p small more = record {
   inside = record { before-end = omega arith; few = small .inside .few };
   parent = omega (arith, small .inside .few);
@@ -299,7 +299,7 @@ pub fall-on : (t k end next : ℕ) → 2 * (end - k) + 1 ≡ t → Went k end ne
 fall-on t k end next is went on = omega (arith, went .inside)
 
 -- the parts after it
-pub few-rest : (r i k end : ℕ) (p : Place) (next : ℕ) → SmallParts r i k end p → Went k end next → k < next → SmallParts r (i + 1) next end p
+pub few-rest : (r i k end : ℕ) (p : Location) (next : ℕ) → SmallParts r i k end p → Went k end next → k < next → SmallParts r (i + 1) next end p
 few-rest r i k end p next small went on = record {
   inside = record { before-end = went .inside; few = small .inside .few };
   parent = small .parent;

@@ -1,3 +1,2 @@
 -- What filling a table with a program's rows answers, and what the functions do that fill it.
-pub mod Decoding
-pub mod Walk
+pub mod Inner

@@ -1,5 +1,5 @@
 // The rows of a program's records, for the source run: a table of 8 words for each record, filled from flat records, 8 bytes each.
-use part_places::Place;
+use part_locations::Location;
 use record_rows::Own;
 use records::Parts;
 use records::Record;
@@ -9,9 +9,9 @@ use refusal::Verdict;
 ghost use Prim.Native.Nat.{_*_};
 ghost use mathlib.Core.Path.{_≡_};
 ghost use Rattle.formats.specs.Written.{written};
-ghost use Rattle.stepwise.specs.Rows.{rowWords};
-ghost use Rattle.decode.specs.Decoding.{Decodes};
-ghost use Rattle.decode.specs.Walk.{rowIn, Small, SmallParts, Fills, FillsParts, Starts, Ready, FillsAll};
+ghost use Rattle.stepwise.specs.Inner.Rows.{rowWords};
+ghost use Rattle.decode.specs.Inner.Decoding.{Decodes};
+ghost use Rattle.decode.specs.Inner.Walk.{rowIn, Small, SmallParts, Fills, FillsParts, Starts, Ready, FillsAll};
 
 // Words of a row.
 const ROW_WORDS: usize = 8;
@@ -26,8 +26,8 @@ const TABLE_WORDS: usize = 8456;
 const WHOLE: usize = 0;
 
 // Writes the row of record k, or nothing where the table has no row there.
-fn write_row(table: &mut [u16], k: usize, own: Own, place: Place, behind: usize)
-    ensures { λ _. ⌜ now (table .exit) ≡ written (now (table .entry)) (rowWords * k) (rowIn own place behind) ⌝ }
+fn write_row(table: &mut [u16], k: usize, own: Own, location: Location, after: usize)
+    ensures { λ _. ⌜ now (table .exit) ≡ written (now (table .entry)) (rowWords * k) (rowIn own location after) ⌝ }
 {
     if table.len() / ROW_WORDS <= k {
         return;
@@ -37,10 +37,10 @@ fn write_row(table: &mut [u16], k: usize, own: Own, place: Place, behind: usize)
     table[p + 1] = own.operand;
     table[p + 2] = own.tree;
     table[p + 3] = own.more;
-    table[p + 4] = (place.role % 65536) as u16;
-    table[p + 5] = (place.parent % 65536) as u16;
-    table[p + 6] = (place.slot % 65536) as u16;
-    table[p + 7] = (behind % 65536) as u16;
+    table[p + 4] = (location.role % 65536) as u16;
+    table[p + 5] = (location.parent % 65536) as u16;
+    table[p + 6] = (location.slot % 65536) as u16;
+    table[p + 7] = (after % 65536) as u16;
 }
 
 // Fills the rows of the expression at record k, and says which record is after it. A record's row is written once its parts are finished: then that is
@@ -51,10 +51,10 @@ fn decode_at(
     cases: &mut [u16],
     k: usize,
     end: usize,
-    place: Place,
+    location: Location,
 ) -> usize
-    requires { ⌜ Small k end place ⌝ }
-    ensures { λ r. ⌜ Fills (now (flat .entry)) (now (table .entry)) (now (table .exit)) (now (cases .entry)) (now (cases .exit)) k end place r ⌝ }
+    requires { ⌜ Small k end location ⌝ }
+    ensures { λ r. ⌜ Fills (now (flat .entry)) (now (table .entry)) (now (table .exit)) (now (cases .entry)) (now (cases .exit)) k end location r ⌝ }
 {
     if end <= k {
         return k;
@@ -63,9 +63,9 @@ fn decode_at(
     match found {
         RecordRead::Refused(why, at) => k,
         RecordRead::Read(node, parts, template) => {
-            let own = record_rows::own_of(flat, cases, node, place.names, place.depth);
+            let own = record_rows::own_of(flat, cases, node, location.names, location.depth);
             let count = nodes::part_count(flat, parts);
-            let behind = decode_parts(
+            let after = decode_parts(
                 flat,
                 table,
                 cases,
@@ -76,10 +76,10 @@ fn decode_at(
                 count,
                 k + 1,
                 end,
-                place,
+                location,
             );
-            write_row(table, k, own, place, behind);
-            behind
+            write_row(table, k, own, location, after);
+            after
         }
     }
 }
@@ -96,17 +96,17 @@ fn decode_parts(
     count: usize,
     k: usize,
     end: usize,
-    place: Place,
+    location: Location,
 ) -> usize
-    requires { ⌜ SmallParts r i k end place ⌝ }
-    ensures { λ n. ⌜ FillsParts (now (flat .entry)) (now (table .entry)) (now (table .exit)) (now (cases .entry)) (now (cases .exit)) node parts r i count k end place n ⌝ }
+    requires { ⌜ SmallParts r i k end location ⌝ }
+    ensures { λ n. ⌜ FillsParts (now (flat .entry)) (now (table .entry)) (now (table .exit)) (now (cases .entry)) (now (cases .exit)) node parts r i count k end location n ⌝ }
 {
     if count <= i {
         return k;
     }
     let part = parts::nth_part(parts, i);
-    let inner = part_places::inside(part, node, r, i, count, place);
-    part_places::note_case(cases, part, r, place.depth);
+    let inner = part_locations::inside(part, node, r, i, count, location);
+    part_locations::note_case(cases, part, r, location.depth);
     let next = decode_at(flat, table, cases, k, end, inner);
     if next <= k {
         return next;
@@ -122,15 +122,15 @@ fn decode_parts(
         count,
         next,
         end,
-        place,
+        location,
     )
 }
 
 // Where the body of function j stands: its numbers are named.
-fn start(flat: &[u8], j: u16) -> Place
+fn start(flat: &[u8], j: u16) -> Location
     ensures { λ r. ⌜ Starts (now (flat .entry)) j r ⌝ }
 {
-    Place {
+    Location {
         role: WHOLE,
         parent: 0,
         slot: 0,
@@ -151,8 +151,8 @@ fn decode_all(flat: &[u8], table: &mut [u16], cases: &mut [u16])
     let mut k = 1 + (functions as usize);
     let mut j: u16 = 0;
     while j < functions {
-        let place = start(flat, j);
-        k = decode_at(flat, table, cases, k, end, place);
+        let location = start(flat, j);
+        k = decode_at(flat, table, cases, k, end, location);
         j = j + 1;
     }
 }
@@ -163,8 +163,8 @@ pub fn decode(flat: &[u8], table: &mut [u16]) -> Verdict
     ensures { λ r. ⌜ Decodes (now (flat .entry)) (now (table .entry)) (now (table .exit)) r ⌝ }
 {
     let verdict = pass_one::check_pass_one(flat);
-    if let Verdict::Refused(why, place) = verdict {
-        return Verdict::Refused(why, place);
+    if let Verdict::Refused(why, location) = verdict {
+        return Verdict::Refused(why, location);
     }
     if table.len() < TABLE_WORDS {
         return Verdict::Refused(Refusal::SpaceTooShort, 0);

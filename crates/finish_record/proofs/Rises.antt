@@ -12,15 +12,15 @@ use lib.Dec.{eqb, ltb}
 use lib.ListN.{length, getD, set}
 use Rattle.formats.specs.Numbers.{sum32}
 use Rattle.formats.specs.Tokens.{nodeTag}
-use Rattle.stepwise.specs.Rows.{whole, kept, added, tested, passed, labelled, followed}
-use Rattle.stepwise.specs.Steps.{treeAt, roleAt, parentAt, slotAt, behindAt, frameWords, onRight, knownAfter}
+use Rattle.stepwise.specs.Inner.Rows.{whole, kept, added, tested, passed, labelled, followed}
+use Rattle.stepwise.specs.Inner.Steps.{treeAt, roleAt, parentAt, slotAt, afterAt, frameWords, onRight, knownAfter}
 use Rattle.stepwise.proofs.Steps.{closes-first, closes-waiting, rises-whole, rises-kept, rises-added, rises-zero, rises-other, rises-on}
 use Rattle.stepwise.proofs.Steps.{follows-passed, follows-labelled, follows-followed, follows-last}
 use Rattle.words.proofs.Bytes.{byte-cut}
 use Rattle.stages.specs.declared.Stage.{Stage}
-use Rattle.stages.specs.Stages.{toBegin, isThrough, toOpen, hasEnded, stateOf, staged, stageOf, wordsOf, placesOf}
-use Rattle.stages.proofs.Stages.{reach-begin, reach-through, reach-ended, put-begin, put-open}
-use Rattle.finish_record.specs.Rises.{Knows, Closes, Picks, Follows, Rises}
+use Rattle.stages.specs.Inner.Stages.{toBegin, isFinished, toOpen, hasEnded, stateOf, staged, stageOf, wordsOf, returnsOf}
+use Rattle.stages.proofs.Stages.{reach-begin, reach-finished, reach-ended, put-begin, put-open}
+use Rattle.finish_record.specs.Inner.Rises.{Knows, Closes, Picks, Follows, Rises}
 
 -- ---- `return_at`
 
@@ -84,7 +84,7 @@ module _ (T input : List ℕ) (r own : ℕ) (s : Stage) where
   unfolding knownAfter
   knows-other h =
       record {
-        is = λ values places.
+        is = λ values returns.
             let none : (eqb (s .known) (s .tree) && onRight T input r own) ≡ false = first-false _ (onRight T input r own) (ne-eqb _ _ h) in
             sym (rw (knownAfter, none));
       }
@@ -94,7 +94,7 @@ module _ (T input : List ℕ) (r own : ℕ) (s : Stage) where
     unfolding knownAfter
     knows-node e =
         record {
-          is = λ values places.
+          is = λ values returns.
               let both : (eqb (s .known) (s .tree) && onRight T input r own) ≡ true = both-true (eq-eqb _ _ same) (sym is ∙ e) in
               sym (rw (knownAfter, both));
         }
@@ -103,7 +103,7 @@ module _ (T input : List ℕ) (r own : ℕ) (s : Stage) where
     unfolding knownAfter
     knows-still e =
         record {
-          is = λ values places.
+          is = λ values returns.
               let none : (eqb (s .known) (s .tree) && onRight T input r own) ≡ false = then-false (eqb (s .known) (s .tree)) _ (sym is ∙ e) in
               sym (rw (knownAfter, none));
         }
@@ -112,21 +112,21 @@ pub ruleset knowing = (knows-other, knows-node, knows-still)
 
 -- ---- `close`
 
-module _ (T input places : List ℕ) (s : Stage) where
-  pub close-first : (r : Stage) → s .calls ≡ 0 → r ≡ staged s hasEnded 0 (s .number) → Closes T input places s r
+module _ (T input returns : List ℕ) (s : Stage) where
+  pub close-first : (r : Stage) → s .calls ≡ 0 → r ≡ staged s hasEnded 0 (s .number) → Closes T input returns s r
   close-first r none e =
       rw e
-      (record { is = λ values. rw (closes-first T input (s .number) (stateOf values places s) none) (reach-ended values places s (s .number)) })
+      (record { is = λ values. rw (closes-first T input (s .number) (stateOf values returns s) none) (reach-ended values returns s (s .number)) })
 
   pub close-waiting :
       (a b k : ℕ)
       → s .calls ≢ 0
-      → a ≡ getD places (2 * (s .calls - 1)) 0
-      → b ≡ getD places (2 * (s .calls - 1) + 1) 0
+      → a ≡ getD returns (2 * (s .calls - 1)) 0
+      → b ≡ getD returns (2 * (s .calls - 1) + 1) 0
       → Knows T input (a % 65536) b s k
-      → Closes T input places s
+      → Closes T input returns s
       (record {
-        mode = isThrough;
+        mode = isFinished;
         node = a % 65536;
         number = s .number;
         calls = s .calls - 1;
@@ -135,15 +135,15 @@ module _ (T input places : List ℕ) (s : Stage) where
         end = s .end;
         written = s .written;
       })
-  unfolding stageOf wordsOf placesOf
+  unfolding stageOf wordsOf returnsOf
   close-waiting a b k some ea eb knows =
       let n = s .calls - 1 in
       let later : s .calls ≡ suc n = omega arith in
-      let there : b ≡ getD places (suc (2 * n)) 0 = eb ∙ ap (λ i. getD places i 0) (add-one (2 * n)) in
+      let there : b ≡ getD returns (suc (2 * n)) 0 = eb ∙ ap (λ i. getD returns i 0) (add-one (2 * n)) in
       record {
         is = λ values.
-            rw (knows .is values places, there, ea, closes-waiting T input (s .number) n (stateOf values places s) later)
-            (record { stage = refl; words = refl; returns = refl; words-long = refl; returns-long = refl });
+            rw (knows .is values returns, there, ea, closes-waiting T input (s .number) n (stateOf values returns s) later)
+            (record { stage = refl; words = refl; returns-are = refl; words-long = refl; returns-long = refl });
       }
 
 pub ruleset closes = (close-first, close-waiting)
@@ -162,39 +162,39 @@ pub ruleset slots = (slot-put, slot-summed)
 -- ---- `picked`
 
 module _ (T : List ℕ) (s : Stage) where
-  pub pick-zero : (b : ℕ) → b ≡ behindAt T (s .node) → s .number ≡ 0 → Picks T s b
+  pub pick-zero : (b : ℕ) → b ≡ afterAt T (s .node) → s .number ≡ 0 → Picks T s b
   pick-zero b eb z = record { zero-part = λ z. eb; other-part = λ o. absurd (o z) }
 
-  pub pick-other : (b c : ℕ) → b ≡ behindAt T (s .node) → s .number ≢ 0 → c ≡ behindAt T b → Picks T s c
-  pick-other b c eb o ec = record { zero-part = λ z. absurd (o z); other-part = λ o. ec ∙ ap (behindAt T) eb }
+  pub pick-other : (b c : ℕ) → b ≡ afterAt T (s .node) → s .number ≢ 0 → c ≡ afterAt T b → Picks T s c
+  pick-other b c eb o ec = record { zero-part = λ z. absurd (o z); other-part = λ o. ec ∙ ap (afterAt T) eb }
 
 pub ruleset picks = (pick-zero, pick-other)
 
 -- ---- `follow`, `rise`
 
 module _ (T values : List ℕ) (s : Stage) (k : ℕ) (role : k ≡ roleAt T (s .node)) where
-  pub follow-passed : (p : ℕ) (r : Stage) → k ≡ passed → p ≡ parentAt T (s .node) → r ≡ staged s isThrough p (s .number) → Follows T values values s r
+  pub follow-passed : (p : ℕ) (r : Stage) → k ≡ passed → p ≡ parentAt T (s .node) → r ≡ staged s isFinished p (s .number) → Follows T values values s r
   follow-passed p r is ep e =
       rw (e, ep)
       (record {
-        is = λ places.
-            rw (follows-passed T (s .node) (s .number) (stateOf values places s) (sym role ∙ is)) (reach-through values places s (parentAt T (s .node)) (s .number));
+        is = λ returns.
+            rw (follows-passed T (s .node) (s .number) (stateOf values returns s) (sym role ∙ is)) (reach-finished values returns s (parentAt T (s .node)) (s .number));
       })
 
-  pub follow-labelled : (p : ℕ) (r : Stage) → k ≡ labelled → p ≡ parentAt T (s .node) → r ≡ staged s isThrough p 0 → Follows T values values s r
+  pub follow-labelled : (p : ℕ) (r : Stage) → k ≡ labelled → p ≡ parentAt T (s .node) → r ≡ staged s isFinished p 0 → Follows T values values s r
   follow-labelled p r is ep e =
       rw (e, ep)
       (record {
-        is = λ places.
-            rw (follows-labelled T (s .node) (s .number) (stateOf values places s) (sym role ∙ is)) (reach-through values places s (parentAt T (s .node)) 0);
+        is = λ returns.
+            rw (follows-labelled T (s .node) (s .number) (stateOf values returns s) (sym role ∙ is)) (reach-finished values returns s (parentAt T (s .node)) 0);
       })
 
-  pub follow-followed : (b : ℕ) (r : Stage) → k ≡ followed → b ≡ behindAt T (s .node) → r ≡ staged s toBegin b 0 → Follows T values values s r
+  pub follow-followed : (b : ℕ) (r : Stage) → k ≡ followed → b ≡ afterAt T (s .node) → r ≡ staged s toBegin b 0 → Follows T values values s r
   follow-followed b r is eb e =
       rw (e, eb)
       (record {
-        is = λ places.
-            rw (follows-followed T (s .node) (s .number) (stateOf values places s) (sym role ∙ is)) (reach-begin values places s (behindAt T (s .node)));
+        is = λ returns.
+            rw (follows-followed T (s .node) (s .number) (stateOf values returns s) (sym role ∙ is)) (reach-begin values returns s (afterAt T (s .node)));
       })
 
   pub follow-last :
@@ -209,29 +209,29 @@ module _ (T values : List ℕ) (s : Stage) (k : ℕ) (role : k ≡ roleAt T (s .
   follow-last p values′ r a b c ep put e =
       rw (e, ep, put)
       (record {
-        is = λ places.
-            rw (follows-last T (s .node) (s .number) (stateOf values places s) (rw role at a) (rw role at b) (rw role at c))
-            (put-open values places s (frameWords * s .calls + slotAt T (s .node)) (s .number) (parentAt T (s .node)));
+        is = λ returns.
+            rw (follows-last T (s .node) (s .number) (stateOf values returns s) (rw role at a) (rw role at b) (rw role at c))
+            (put-open values returns s (frameWords * s .calls + slotAt T (s .node)) (s .number) (parentAt T (s .node)));
       })
 
-  module _ (input places : List ℕ) where
-    pub rise-whole : (r : Stage) → k ≡ whole → Closes T input places s r → Rises T input values values places s r
+  module _ (input returns : List ℕ) where
+    pub rise-whole : (r : Stage) → k ≡ whole → Closes T input returns s r → Rises T input values values returns s r
     rise-whole r is closed =
-        record { is = rw (rises-whole T input (s .node) (s .number) (stateOf values places s) (sym role ∙ is)) (closed .is values) }
+        record { is = rw (rises-whole T input (s .node) (s .number) (stateOf values returns s) (sym role ∙ is)) (closed .is values) }
 
     pub rise-kept :
         (b : ℕ) (values′ : List ℕ) (r : Stage)
         → k ≡ kept
         → values′ ≡ set values (frameWords * s .calls + slotAt T (s .node)) (s .number)
-        → b ≡ behindAt T (s .node)
+        → b ≡ afterAt T (s .node)
         → r ≡ staged s toBegin b 0
-        → Rises T input values values′ places s r
+        → Rises T input values values′ returns s r
     rise-kept b values′ r is put eb e =
         rw (e, eb, put)
         (record {
           is =
-              rw (rises-kept T input (s .node) (s .number) (stateOf values places s) (sym role ∙ is))
-              (put-begin values places s (frameWords * s .calls + slotAt T (s .node)) (s .number) (behindAt T (s .node)));
+              rw (rises-kept T input (s .node) (s .number) (stateOf values returns s) (sym role ∙ is))
+              (put-begin values returns s (frameWords * s .calls + slotAt T (s .node)) (s .number) (afterAt T (s .node)));
         })
 
     pub rise-added :
@@ -239,17 +239,17 @@ module _ (T values : List ℕ) (s : Stage) (k : ℕ) (role : k ≡ roleAt T (s .
         → k ≡ added
         → x ≡ sum32 (getD values (frameWords * s .calls + slotAt T (s .node)) 0) (s .number)
         → p ≡ parentAt T (s .node)
-        → r ≡ staged s isThrough p x
-        → Rises T input values values places s r
+        → r ≡ staged s isFinished p x
+        → Rises T input values values returns s r
     rise-added p x r is ex ep e =
         rw (e, ep, ex)
         (record {
           is =
-              rw (rises-added T input (s .node) (s .number) (stateOf values places s) (sym role ∙ is))
-              (reach-through values places s (parentAt T (s .node)) (sum32 (getD values (frameWords * s .calls + slotAt T (s .node)) 0) (s .number)));
+              rw (rises-added T input (s .node) (s .number) (stateOf values returns s) (sym role ∙ is))
+              (reach-finished values returns s (parentAt T (s .node)) (sum32 (getD values (frameWords * s .calls + slotAt T (s .node)) 0) (s .number)));
         })
 
-    pub rise-tested : (b : ℕ) (r : Stage) → k ≡ tested → Picks T s b → r ≡ staged s toBegin b 0 → Rises T input values values places s r
+    pub rise-tested : (b : ℕ) (r : Stage) → k ≡ tested → Picks T s b → r ≡ staged s toBegin b 0 → Rises T input values values returns s r
     rise-tested b r is picks e =
         let at : roleAt T (s .node) ≡ tested = sym role ∙ is in
         rw e
@@ -258,12 +258,12 @@ module _ (T values : List ℕ) (s : Stage) (k : ℕ) (role : k ≡ roleAt T (s .
               elim (decLe (s .number) 0) [
                 | yes z ↦
                     let none : s .number ≡ 0 = omega arith in
-                    rw (picks .zero-part none, rises-zero T input (s .node) (s .number) (stateOf values places s) at none)
-                    (reach-begin values places s (behindAt T (s .node)))
+                    rw (picks .zero-part none, rises-zero T input (s .node) (s .number) (stateOf values returns s) at none)
+                    (reach-begin values returns s (afterAt T (s .node)))
                 | no o ↦
                     let some : s .number ≢ 0 = λ e. absurd (omega arith) in
-                    rw (picks .other-part some, rises-other T input (s .node) (s .number) (stateOf values places s) at some)
-                    (reach-begin values places s (behindAt T (behindAt T (s .node))))
+                    rw (picks .other-part some, rises-other T input (s .node) (s .number) (stateOf values returns s) at some)
+                    (reach-begin values returns s (afterAt T (afterAt T (s .node))))
               ];
         })
 
@@ -274,12 +274,12 @@ module _ (T values : List ℕ) (s : Stage) (k : ℕ) (role : k ≡ roleAt T (s .
         → k ≢ added
         → k ≢ tested
         → Follows T values values′ s r
-        → Rises T input values values′ places s r
+        → Rises T input values values′ returns s r
     rise-on values′ r a b c d follows =
         record {
           is =
-              rw (rises-on T input (s .node) (s .number) (stateOf values places s) (rw role at a) (rw role at b) (rw role at c) (rw role at d))
-              (follows .is places);
+              rw (rises-on T input (s .node) (s .number) (stateOf values returns s) (rw role at a) (rw role at b) (rw role at c) (rw role at d))
+              (follows .is returns);
         }
 
 pub ruleset followings = (follow-passed, follow-labelled, follow-followed, follow-last)

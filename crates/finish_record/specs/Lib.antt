@@ -1,2 +1,2 @@
 -- The next stage after a record that is finished.
-pub mod Rises
+pub mod Inner

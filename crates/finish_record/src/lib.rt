@@ -1,6 +1,6 @@
 // A record of a program is finished, in the source run: the next stage, by its value.
 use frames::ADDED;
-use frames::BEHIND;
+use frames::AFTER;
 use frames::FOLLOWED;
 use frames::KEPT;
 use frames::LABELLED;
@@ -13,29 +13,29 @@ use frames::TREE;
 use frames::WHOLE;
 use stages::BEGIN;
 use stages::ENDED;
+use stages::FINISHED;
 use stages::OPEN;
 use stages::Stage;
-use stages::THROUGH;
 ghost use Prim.Native.Nat.{_+_, _*_};
 ghost use mathlib.Core.Path.{_≡_};
 ghost use lib.ListN.{getD, set};
 ghost use Rattle.formats.specs.Numbers.{sum32};
-ghost use Rattle.stepwise.specs.Steps.{slotAt, frameWords, onRight};
-ghost use Rattle.finish_record.specs.Rises.{Knows, Closes, Picks, Follows, Rises};
+ghost use Rattle.stepwise.specs.Inner.Steps.{slotAt, frameWords, onRight};
+ghost use Rattle.finish_record.specs.Inner.Rises.{Knows, Closes, Picks, Follows, Rises};
 
 const NODE_TAG: u8 = 2;
 
 // A return word; 0 where there is none.
-fn return_at(places: &[u64], i: usize) -> u64
-    ensures { λ r. ⌜ r ≡ getD (now (places .entry)) i 0 ⌝ }
+fn return_at(returns: &[u64], i: usize) -> u64
+    ensures { λ r. ⌜ r ≡ getD (now (returns .entry)) i 0 ⌝ }
 {
-    if i < places.len() {
-        return places[i];
+    if i < returns.len() {
+        return returns[i];
     }
     0
 }
 
-// Whether the Call at record r is on the right tree of a node that is its frame's own tree, at place `own`.
+// Whether the Call at record r is on the right tree of a node that is its frame's own tree, at offset `own`.
 fn on_right(table: &[u16], input: &[u8], r: u16, own: usize) -> bool
     ensures { λ b. ⌜ b ≡ onRight (now (table .entry)) (now (input .entry)) r own ⌝ }
 {
@@ -70,18 +70,18 @@ fn known_after(table: &[u16], input: &[u8], r: u16, own: usize, s: Stage) -> usi
 }
 
 // The call that waits goes on, with the number of the one that closes; the first frame is the last.
-fn close(table: &[u16], input: &[u8], places: &[u64], s: Stage) -> Stage
-    ensures { λ r. ⌜ Closes (now (table .entry)) (now (input .entry)) (now (places .entry)) s r ⌝ }
+fn close(table: &[u16], input: &[u8], returns: &[u64], s: Stage) -> Stage
+    ensures { λ r. ⌜ Closes (now (table .entry)) (now (input .entry)) (now (returns .entry)) s r ⌝ }
 {
     if s.calls == 0 {
         return stages::staged_at(s, ENDED, 0, s.number);
     }
     let n = s.calls - 1;
     let i = 2 * (n as usize);
-    let r = (return_at(places, i) % 65536) as u16;
-    let own = return_at(places, i + 1) as usize;
+    let r = (return_at(returns, i) % 65536) as u16;
+    let own = return_at(returns, i + 1) as usize;
     Stage {
-        mode: THROUGH,
+        mode: FINISHED,
         node: r,
         number: s.number,
         calls: n,
@@ -116,11 +116,11 @@ fn sum_kept(table: &[u16], values: &[u32], s: Stage) -> u32
 fn picked(table: &[u16], s: Stage) -> u16
     ensures { λ r. ⌜ Picks (now (table .entry)) s r ⌝ }
 {
-    let zero_part = frames::field(table, s.node, BEHIND);
+    let zero_part = frames::field(table, s.node, AFTER);
     if s.number == 0 {
         return zero_part;
     }
-    frames::field(table, zero_part, BEHIND)
+    frames::field(table, zero_part, AFTER)
 }
 
 // The next stage after a part whose value is the whole's, a leaf's label, or Node's left tree, after which the next part begins; the last argument else, after which
@@ -130,9 +130,9 @@ fn follow(table: &[u16], values: &mut [u32], s: Stage) -> Stage
 {
     let parent = frames::field(table, s.node, PARENT);
     match frames::field(table, s.node, ROLE) {
-        PASSED => stages::staged_at(s, THROUGH, parent, s.number),
-        LABELLED => stages::staged_at(s, THROUGH, parent, 0),
-        FOLLOWED => stages::staged_at(s, BEGIN, frames::field(table, s.node, BEHIND), 0),
+        PASSED => stages::staged_at(s, FINISHED, parent, s.number),
+        LABELLED => stages::staged_at(s, FINISHED, parent, 0),
+        FOLLOWED => stages::staged_at(s, BEGIN, frames::field(table, s.node, AFTER), 0),
         _ => {
             keep(table, values, s);
             stages::staged_at(s, OPEN, parent, 0)
@@ -142,18 +142,18 @@ fn follow(table: &[u16], values: &mut [u32], s: Stage) -> Stage
 
 // The next stage after a record that is finished, by what it is to its parent: a function's body, a number that is put on a word before the next part begins, Add's
 // second part, IfZero's test, or one of those that `follow` has.
-pub fn rise(table: &[u16], input: &[u8], values: &mut [u32], places: &[u64], s: Stage) -> Stage
-    ensures { λ r. ⌜ Rises (now (table .entry)) (now (input .entry)) (now (values .entry)) (now (values .exit)) (now (places .entry)) s r ⌝ }
+pub fn rise(table: &[u16], input: &[u8], values: &mut [u32], returns: &[u64], s: Stage) -> Stage
+    ensures { λ r. ⌜ Rises (now (table .entry)) (now (input .entry)) (now (values .entry)) (now (values .exit)) (now (returns .entry)) s r ⌝ }
 {
     match frames::field(table, s.node, ROLE) {
-        WHOLE => close(table, input, places, s),
+        WHOLE => close(table, input, returns, s),
         KEPT => {
             keep(table, values, s);
-            stages::staged_at(s, BEGIN, frames::field(table, s.node, BEHIND), 0)
+            stages::staged_at(s, BEGIN, frames::field(table, s.node, AFTER), 0)
         }
         ADDED => {
             let sum = sum_kept(table, values, s);
-            stages::staged_at(s, THROUGH, frames::field(table, s.node, PARENT), sum)
+            stages::staged_at(s, FINISHED, frames::field(table, s.node, PARENT), sum)
         }
         TESTED => stages::staged_at(s, BEGIN, picked(table, s), 0),
         _ => follow(table, values, s),

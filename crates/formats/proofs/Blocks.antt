@@ -12,8 +12,8 @@ use Rattle.formats.specs.Numbers.{Bytes, bytesOf, numberAt}
 use Rattle.formats.specs.Refusals.{blockCheck, blockField}
 use Rattle.formats.specs.Results.{done, refusal, check}
 use Rattle.formats.specs.Records.{recordBytes}
-use Rattle.formats.specs.Blocks.{blockBytes, blockRecords, partBytes, numberPlace, usedPlace, blocksPlace, checkPlace, wordSum, checkSum, wordLimit, checkWord, blockBody, blockOf, zeros, usedFits, fieldsFit, usedOf}
-use Rattle.formats.proofs.Numbers.{length-bytesOf, numberAt-lt, bytesOf-numberAt, bytes-append, bytes-take, bytes-bytesOf, numberAt-behind, numberAt-there}
+use Rattle.formats.specs.Blocks.{blockBytes, blockRecords, partBytes, numberOffset, usedOffset, blocksOffset, checkOffset, wordSum, checkSum, wordLimit, checkWord, blockBody, blockOf, zeros, usedFits, fieldsFit, usedOf}
+use Rattle.formats.proofs.Numbers.{length-bytesOf, numberAt-lt, bytesOf-numberAt, bytes-append, bytes-take, bytes-bytesOf, numberAt-after, numberAt-there}
 use Rattle.formats.proofs.Results.{done-not, check-inv, both-held}
 use Rattle.formats.proofs.Words.{checkWord-right, checkWord-only}
 
@@ -39,9 +39,9 @@ replicate-zeros (b ∷ s) e =
     let h = both-held (eqb b 0) (zeros s) e in
     ap₂ _∷_ (eqb-true b 0 (h .0)) (replicate-zeros s (h .1))
 
--- a number behind a front is read from what follows the front ..
+-- a number after a front is read from what follows the front ..
 numberAt-past : (width : ℕ) (front rest : List ℕ) (p q : ℕ) → length front ≡ p → numberAt width (front ++ rest) (p + q) ≡ numberAt width rest q
-numberAt-past width front rest p q e = ap (λ (k : ℕ). numberAt width (front ++ rest) (k + q)) (sym e) ∙ numberAt-behind width front rest q
+numberAt-past width front rest p q e = ap (λ (k : ℕ). numberAt width (front ++ rest) (k + q)) (sym e) ∙ numberAt-after width front rest q
 
 -- .. and one that stands first is read as itself
 numberAt-first : (n : ℕ) (rest : List ℕ) → n < wordLimit → numberAt 2 (bytesOf 2 n ++ rest) 0 ≡ n
@@ -85,7 +85,7 @@ padded part = part ++ replicate (partBytes - length part) 0
 pub length-padded : (part : List ℕ) → length part ≤ partBytes → length (padded part) ≡ partBytes
 length-padded part h = simp (length-append, length-replicate) (omega arith)
 
-pub length-body : (part : List ℕ) (j blocks : ℕ) → length part ≤ partBytes → length (blockBody part j blocks) ≡ checkPlace
+pub length-body : (part : List ℕ) (j blocks : ℕ) → length part ≤ partBytes → length (blockBody part j blocks) ≡ checkOffset
 unfolding blockBody
 length-body part j blocks h = simp (blockBody, length-append, length-bytesOf, length-replicate) (omega arith)
 
@@ -109,8 +109,8 @@ regroup : (a b c d e f : List ℕ) → (a ++ (b ++ (c ++ (d ++ e)))) ++ f ≡ (a
 regroup a b c d e f = simp append-assoc
 
 -- a block that passes every test gives its used records
-pub used-passed : (blocks j : ℕ) (block : List ℕ) (n : ℕ) → wordSum block % wordLimit ≡ checkSum → numberAt 2 block numberPlace ≡ j → numberAt 2 block usedPlace ≡ n
-    → usedFits blocks j n ≡ true → numberAt 2 block blocksPlace ≡ blocks → zeros (drop (recordBytes * n) (take partBytes block)) ≡ true
+pub used-passed : (blocks j : ℕ) (block : List ℕ) (n : ℕ) → wordSum block % wordLimit ≡ checkSum → numberAt 2 block numberOffset ≡ j → numberAt 2 block usedOffset ≡ n
+    → usedFits blocks j n ≡ true → numberAt 2 block blocksOffset ≡ blocks → zeros (drop (recordBytes * n) (take partBytes block)) ≡ true
     → usedOf blocks j block ≡ done (take (recordBytes * n) block)
 unfolding usedOf fieldsFit
 used-passed blocks j block n sum number used fits count unused =
@@ -126,15 +126,15 @@ module _ (part : List ℕ) (j blocks n : ℕ) (e : length part ≡ recordBytes *
   words = bytesOf 2 j ++ (bytesOf 2 (length part / recordBytes) ++ (bytesOf 2 blocks ++ bytesOf 2 (checkWord (blockBody part j blocks))))
 
   -- the block is the records and the words
-  laid-out : blockOf part j blocks ≡ padded part ++ words
+  emitted-out : blockOf part j blocks ≡ padded part ++ words
   unfolding blockOf blockBody words
-  laid-out =
+  emitted-out =
       regroup part (replicate (partBytes - length part) 0) (bytesOf 2 j) (bytesOf 2 (length part / recordBytes)) (bytesOf 2 blocks)
       (bytesOf 2 (checkWord (blockBody part j blocks)))
 
   -- a word of the block is read from the words
   word-there : (q : ℕ) → numberAt 2 (blockOf part j blocks) (partBytes + q) ≡ numberAt 2 words q
-  word-there q = ap (λ (l : List ℕ). numberAt 2 l (partBytes + q)) laid-out ∙ numberAt-past 2 (padded part) words partBytes q (length-padded part short)
+  word-there q = ap (λ (l : List ℕ). numberAt 2 l (partBytes + q)) emitted-out ∙ numberAt-past 2 (padded part) words partBytes q (length-padded part short)
 
   -- the block's words sum to 65,535
   sum-right : wordSum (blockOf part j blocks) % wordLimit ≡ checkSum
@@ -142,17 +142,17 @@ module _ (part : List ℕ) (j blocks n : ℕ) (e : length part ≡ recordBytes *
   sum-right = checkWord-right (blockBody part j blocks) 255 (length-body part j blocks short)
 
   -- its fields are as they were written
-  number-there : j < wordLimit → numberAt 2 (blockOf part j blocks) numberPlace ≡ j
+  number-there : j < wordLimit → numberAt 2 (blockOf part j blocks) numberOffset ≡ j
   unfolding words
   number-there small = word-there 0 ∙ numberAt-first j _ small
 
-  used-there : numberAt 2 (blockOf part j blocks) usedPlace ≡ n
+  used-there : numberAt 2 (blockOf part j blocks) usedOffset ≡ n
   unfolding words
   used-there =
       let count : length part / recordBytes ≡ n = omega arith in
       word-there 2 ∙ numberAt-past 2 (bytesOf 2 j) _ 2 0 (length-bytesOf 2 j) ∙ numberAt-first (length part / recordBytes) _ (omega (arith, short)) ∙ count
 
-  blocks-there : blocks < wordLimit → numberAt 2 (blockOf part j blocks) blocksPlace ≡ blocks
+  blocks-there : blocks < wordLimit → numberAt 2 (blockOf part j blocks) blocksOffset ≡ blocks
   unfolding words
   blocks-there few =
       word-there 4
@@ -160,9 +160,9 @@ module _ (part : List ℕ) (j blocks n : ℕ) (e : length part ≡ recordBytes *
       ∙ numberAt-past 2 (bytesOf 2 (length part / recordBytes)) _ 2 0 (length-bytesOf 2 _)
       ∙ numberAt-first blocks _ few
 
-  -- its records are the part, and behind it zeros
+  -- its records are the part, and after it zeros
   records-there : take partBytes (blockOf part j blocks) ≡ padded part
-  records-there = ap (take partBytes) laid-out ∙ take-at (padded part) words partBytes (length-padded part short)
+  records-there = ap (take partBytes) emitted-out ∙ take-at (padded part) words partBytes (length-padded part short)
 
   unused-zero : zeros (drop (recordBytes * n) (take partBytes (blockOf part j blocks))) ≡ true
   unused-zero =
@@ -185,11 +185,11 @@ module _ (part : List ℕ) (j blocks n : ℕ) (e : length part ≡ recordBytes *
 -- what a block has passed that gives a part
 pub record Passed (blocks j : ℕ) (block part : List ℕ) : Type 0 where
   pub sum : wordSum block % wordLimit ≡ checkSum
-  pub number : numberAt 2 block numberPlace ≡ j
-  pub fits : usedFits blocks j (numberAt 2 block usedPlace) ≡ true
-  pub count : numberAt 2 block blocksPlace ≡ blocks
-  pub unused : zeros (drop (recordBytes * numberAt 2 block usedPlace) (take partBytes block)) ≡ true
-  pub gives : take (recordBytes * numberAt 2 block usedPlace) block ≡ part
+  pub number : numberAt 2 block numberOffset ≡ j
+  pub fits : usedFits blocks j (numberAt 2 block usedOffset) ≡ true
+  pub count : numberAt 2 block blocksOffset ≡ blocks
+  pub unused : zeros (drop (recordBytes * numberAt 2 block usedOffset) (take partBytes block)) ≡ true
+  pub gives : take (recordBytes * numberAt 2 block usedOffset) block ≡ part
 
 -- a block that gives a part has passed every test
 pub passed : (blocks j : ℕ) (block part : List ℕ) → usedOf blocks j block ≡ done part → Passed blocks j block part
@@ -197,7 +197,7 @@ unfolding usedOf fieldsFit
 passed blocks j block part = cases (eqb (wordSum block % wordLimit) checkSum) refl
   where
     used : ℕ
-    used = numberAt 2 block usedPlace
+    used = numberAt 2 block usedOffset
 
     cases : (test : Bool) → eqb (wordSum block % wordLimit) checkSum ≡ test
         → elim test [ false ↦ refusal blockCheck j | true ↦ check (fieldsFit blocks j block) blockField j (take (recordBytes * used) block) ] ≡ done part
@@ -205,9 +205,9 @@ passed blocks j block part = cases (eqb (wordSum block % wordLimit) checkSum) re
     cases false h e = done-not e refl
     cases true h e =
         let c = check-inv (fieldsFit blocks j block) blockField j (take (recordBytes * used) block) part e in
-        let f = both-held (eqb (numberAt 2 block numberPlace) j) _ (c .held) in
+        let f = both-held (eqb (numberAt 2 block numberOffset) j) _ (c .held) in
         let g = both-held (usedFits blocks j used) _ (f .1) in
-        let k = both-held (eqb (numberAt 2 block blocksPlace) blocks) _ (g .1) in
+        let k = both-held (eqb (numberAt 2 block blocksOffset) blocks) _ (g .1) in
         record {
           sum = eqb-true _ _ h;
           number = eqb-true _ _ (f .0);
@@ -220,7 +220,7 @@ passed blocks j block part = cases (eqb (wordSum block % wordLimit) checkSum) re
 module _ (blocks j : ℕ) (block part : List ℕ) (bs : Bytes block) (whole : length block ≡ blockBytes) (p : Passed blocks j block part) where
   -- the records that it uses
   abbrev used : ℕ
-  used = numberAt 2 block usedPlace
+  used = numberAt 2 block usedOffset
 
   within : recordBytes * used ≤ partBytes
   within = omega (arith, used-some blocks j used (p .fits) .1)
@@ -232,40 +232,40 @@ module _ (blocks j : ℕ) (block part : List ℕ) (bs : Bytes block) (whole : le
   -- the part and its unused records are what stands before the words
   padded-is : padded part ≡ take partBytes block
   padded-is =
-      let behind : List ℕ = drop (recordBytes * used) (take partBytes block) in
-      let as-long : length behind ≡ partBytes - length part =
+      let after : List ℕ = drop (recordBytes * used) (take partBytes block) in
+      let as-long : length after ≡ partBytes - length part =
       length-drop (recordBytes * used) (take partBytes block) ∙ ap₂ _-_ (length-take-le partBytes block (omega arith)) (sym length-part) in
       ap₂ _++_ (sym (p .gives) ∙ sym (take-take (recordBytes * used) partBytes block within))
-      (ap (λ (m : ℕ). replicate m 0) (sym as-long) ∙ sym (replicate-zeros behind (p .unused)))
+      (ap (λ (m : ℕ). replicate m 0) (sym as-long) ∙ sym (replicate-zeros after (p .unused)))
       ∙ take-append-drop (recordBytes * used) (take partBytes block)
 
-  -- behind what stands before a place the block goes on with the word there
+  -- after what stands before a position the block goes on with the word there
   word-next : (q : ℕ) → q + 2 ≤ blockBytes → take (q + 2) block ≡ take q block ++ bytesOf 2 (numberAt 2 block q)
   word-next q h = take-add q 2 block ∙ ap (λ (l : List ℕ). take q block ++ l) (sym (bytesOf-numberAt 2 block q bs (omega arith)))
 
-  word-behind : (q : ℕ) (l : List ℕ) (w : ℕ) → q + 2 ≤ blockBytes → take q block ≡ l → numberAt 2 block q ≡ w → take (q + 2) block ≡ l ++ bytesOf 2 w
-  word-behind q l w h e f = word-next q h ∙ ap₂ (λ (m : List ℕ) (v : ℕ). m ++ bytesOf 2 v) e f
+  word-after : (q : ℕ) (l : List ℕ) (w : ℕ) → q + 2 ≤ blockBytes → take q block ≡ l → numberAt 2 block q ≡ w → take (q + 2) block ≡ l ++ bytesOf 2 w
+  word-after q l w h e f = word-next q h ∙ ap₂ (λ (m : List ℕ) (v : ℕ). m ++ bytesOf 2 v) e f
 
   -- so all but the check is the body that is written for the part ..
-  body-is : take checkPlace block ≡ blockBody part j blocks
+  body-is : take checkOffset block ≡ blockBody part j blocks
   unfolding blockBody
   body-is =
       let count : used ≡ length part / recordBytes = omega (arith, length-part) in
-      let number-behind = word-behind numberPlace (padded part) j (omega arith) (sym padded-is) (p .number) in
-      let used-behind = word-behind usedPlace _ (length part / recordBytes) (omega arith) number-behind count in
-      word-behind blocksPlace _ blocks (omega arith) used-behind (p .count) ∙ simp append-assoc
+      let number-after = word-after numberOffset (padded part) j (omega arith) (sym padded-is) (p .number) in
+      let used-after = word-after usedOffset _ (length part / recordBytes) (omega arith) number-after count in
+      word-after blocksOffset _ blocks (omega arith) used-after (p .count) ∙ simp append-assoc
 
   -- .. and the check is the one that makes the sum right
-  check-is : numberAt 2 block checkPlace ≡ checkWord (take checkPlace block)
+  check-is : numberAt 2 block checkOffset ≡ checkWord (take checkOffset block)
   check-is =
-      let all : take checkPlace block ++ bytesOf 2 (numberAt 2 block checkPlace) ≡ block = sym (word-next checkPlace (omega arith)) ∙ take-all blockBytes block (omega arith) in
-      checkWord-only (take checkPlace block) 255 (numberAt 2 block checkPlace) (length-take-le checkPlace block (omega arith)) (numberAt-lt 2 block checkPlace bs (omega arith))
+      let all : take checkOffset block ++ bytesOf 2 (numberAt 2 block checkOffset) ≡ block = sym (word-next checkOffset (omega arith)) ∙ take-all blockBytes block (omega arith) in
+      checkWord-only (take checkOffset block) 255 (numberAt 2 block checkOffset) (length-take-le checkOffset block (omega arith)) (numberAt-lt 2 block checkOffset bs (omega arith))
       (ap (λ (l : List ℕ). wordSum l % wordLimit) all ∙ p .sum)
 
   -- the block is written again
   same-block : blockOf part j blocks ≡ block
   unfolding blockOf
-  same-block = sym (sym (take-all blockBytes block (omega arith)) ∙ word-behind checkPlace _ _ (omega arith) body-is (check-is ∙ ap checkWord body-is))
+  same-block = sym (sym (take-all blockBytes block (omega arith)) ∙ word-after checkOffset _ _ (omega arith) body-is (check-is ∙ ap checkWord body-is))
 
 -- A block that gives a part is the one that is written for it.
 pub record Used (blocks j : ℕ) (block part : List ℕ) : Type 0 where
@@ -283,8 +283,8 @@ used-inv blocks j block part bs whole e =
     let p = passed blocks j block part e in
     record {
       same = same-block blocks j block part bs whole p;
-      bytes = subst Bytes (p .gives) (bytes-take (recordBytes * numberAt 2 block usedPlace) block bs);
-      records = numberAt 2 block usedPlace;
+      bytes = subst Bytes (p .gives) (bytes-take (recordBytes * numberAt 2 block usedOffset) block bs);
+      records = numberAt 2 block usedOffset;
       measure = length-part blocks j block part bs whole p;
       some-record = used-some blocks j _ (p .fits) .0;
       few-records = used-some blocks j _ (p .fits) .1;

@@ -7,7 +7,7 @@ use lib.IntN.{pos, negsuc}
 use lib.ListN.{take, replicate}
 use Rattle.formats.specs.Numbers.{bytesOf, numberOf, numberAt, sum32, signed32}
 use Rattle.formats.specs.Written.{written}
-use Rattle.formats.specs.Tokens.{Tree, leaf, node, tips, depth, nodeTag, tokens, tagOf, tagAt, labelAt, partsAt, byTag, treeAt, firstTree, ownBytes, endFrom, firstEnd}
+use Rattle.formats.specs.Tokens.{Tree, leaf, node, tips, depth, nodeTag, tokens, tagOf, tagAt, labelAt, branchesAt, treeByTag, treeAt, firstTree, ownBytes, endFrom, firstEnd}
 use Rattle.formats.specs.Results.{done, refusal}
 
 -- tree T (01, Worked programs), and its bytes 02 01 05 00 00 00 01 07 00 00 00
@@ -32,12 +32,12 @@ sums : map (sum32 4294967295) (0 ∷ 1 ∷ 2 ∷ []) ≡ 4294967295 ∷ 0 ∷ 1 
 unfolding sum32
 sums = refl
 
--- the number at a place, 0 where a byte is missing
+-- the number at a position, 0 where a byte is missing
 numbers : map (numberAt 2 (1 ∷ 2 ∷ 3 ∷ [])) (0 ∷ 1 ∷ 2 ∷ 3 ∷ []) ≡ 513 ∷ 770 ∷ 0 ∷ 0 ∷ []
 unfolding numberAt numberOf
 numbers = refl
 
--- two bytes written at a place, and nothing where one would not fit
+-- two bytes written at a position, and nothing where one would not fit
 writes : map (λ (p : ℕ). written (9 ∷ 9 ∷ 9 ∷ []) p (bytesOf 2 258)) (0 ∷ 1 ∷ 2 ∷ []) ≡ (2 ∷ 1 ∷ 9 ∷ []) ∷ (9 ∷ 2 ∷ 1 ∷ []) ∷ (9 ∷ 9 ∷ 9 ∷ []) ∷ []
 unfolding written bytesOf
 writes = refl
@@ -54,25 +54,25 @@ cuts (suc n) = take n t-bytes ∷ cuts n
 
 cut-ends : map firstEnd ((t-bytes ++ (9 ∷ [])) ∷ cuts 12)
     ≡ done 11 ∷ done 11 ∷ refusal 15 7 ∷ refusal 15 7 ∷ refusal 15 7 ∷ refusal 15 7 ∷ refusal 15 6 ∷ refusal 15 2 ∷ refusal 15 2 ∷ refusal 15 2 ∷ refusal 15 2 ∷ refusal 15 1 ∷ refusal 15 0 ∷ []
-unfolding firstEnd endFrom firstTree treeAt byTag partsAt tagAt tagOf labelAt numberAt numberOf tokens bytesOf cuts t-bytes
+unfolding firstEnd endFrom firstTree treeAt treeByTag branchesAt tagAt tagOf labelAt numberAt numberOf tokens bytesOf cuts t-bytes
 cut-ends = refl
 
 -- a byte that is no tag, first and later; a label byte 2 that is no node; and 1,025 node tags in a row, of which the last is refused before
--- the byte behind it is looked at
+-- the byte after it is looked at
 deep : List ℕ
 deep = replicate 1025 nodeTag ++ (7 ∷ [])
 
 other-ends : map firstEnd ((3 ∷ []) ∷ (0 ∷ t-bytes) ∷ (2 ∷ 1 ∷ 2 ∷ 2 ∷ 2 ∷ 2 ∷ 3 ∷ []) ∷ (1 ∷ 2 ∷ 2 ∷ 2 ∷ 2 ∷ []) ∷ deep ∷ [])
     ≡ refusal 16 0 ∷ refusal 16 0 ∷ refusal 16 6 ∷ done 5 ∷ refusal 20 1024 ∷ []
-unfolding firstEnd endFrom firstTree treeAt byTag partsAt tagAt tagOf labelAt numberAt numberOf tokens bytesOf deep t-bytes
+unfolding firstEnd endFrom firstTree treeAt treeByTag branchesAt tagAt tagOf labelAt numberAt numberOf tokens bytesOf deep t-bytes
 other-ends = refl
 
 -- left before right; the tree's own bytes alone, and none on a refusal
 read-trees : map firstTree (t-bytes ∷ (t-bytes ++ t-bytes) ∷ (1 ∷ 2 ∷ 1 ∷ 0 ∷ 0 ∷ []) ∷ [])
     ≡ done t ∷ done t ∷ done (leaf 258) ∷ []
-unfolding firstTree treeAt byTag partsAt tagAt tagOf labelAt numberAt numberOf tokens bytesOf t t-bytes
+unfolding firstTree treeAt treeByTag branchesAt tagAt tagOf labelAt numberAt numberOf tokens bytesOf t t-bytes
 read-trees = refl
 
 own-bytes : map (λ (s : List ℕ). ownBytes (firstTree s)) ((t-bytes ++ (9 ∷ [])) ∷ take 10 t-bytes ∷ []) ≡ t-bytes ∷ [] ∷ []
-unfolding firstTree treeAt byTag partsAt tagAt tagOf labelAt numberAt numberOf ownBytes tokens bytesOf t-bytes
+unfolding firstTree treeAt treeByTag branchesAt tagAt tagOf labelAt numberAt numberOf ownBytes tokens bytesOf t-bytes
 own-bytes = refl

@@ -1,4 +1,4 @@
--- Laws of where a tree ends, one for each way in which a reader can find it. Their premises are the tests that a reader makes. An ending tells
+-- Laws of where a tree ends, one for each way in which a reader can find it. Their premises are the tests that a reader makes. An ending reports
 -- the reading: `ended-by` and `stopped-by` turn it back.
 use Prim.Native.Nat.{ℕ, zero, suc, _+_, _-_, _≤_, _<_}
 use mathlib.Core.List.{List, [], _++_}
@@ -21,11 +21,11 @@ use Rattle.formats.proofs.Results.{Outcome, gave, stopped, outcome}
 pub record EndedBy (p : ℕ) (r : Result Tree) (o : ℕ) : Type 0 where
   pub it : Tree
   pub is : r ≡ done it
-  pub place : p + length (tokens it) ≡ o
+  pub position : p + length (tokens it) ≡ o
 
 pub ended-by : (p : ℕ) (r : Result Tree) (o : ℕ) → endFrom p r ≡ done o → EndedBy p r o
 unfolding endFrom
-ended-by p (done t) o e = record { it = t; is = refl; place = cc }
+ended-by p (done t) o e = record { it = t; is = refl; position = cc }
 ended-by p (refusal n q) o e = let z : _≡_ {A = ℕ} 0 1 = cc in absurd (omega arith)
 
 pub stopped-by : (p : ℕ) (r : Result Tree) (n q : ℕ) → endFrom p r ≡ refusal n q → r ≡ refusal n q
@@ -72,7 +72,7 @@ left-ends : (room : ℕ) (s : List ℕ) (p o : ℕ) → p < length s → getD s 
 unfolding endAt
 left-ends room s p o there is e =
     let l = ended-by (suc p) (treeAt room s (suc p)) o (sym e) in
-    right-decides room s p (l .it) (at-node there is) (l .is) (outcome _) ∙ ap (endAt room s) (l .place)
+    right-decides room s p (l .it) (at-node there is) (l .is) (outcome _) ∙ ap (endAt room s) (l .position)
 
 pub end-left : (room : ℕ) (s : List ℕ) (p n q : ℕ) → p < length s → getD s p 0 ≡ nodeTag → room ≢ 0 → refusal n q ≡ endAt (room - 1) s (p + 1) → refusal n q ≡ endAt room s p
 end-left zero s p n q there is some e = absurd (some refl)
@@ -89,15 +89,15 @@ pub end-right :
 end-right zero s p o e there is some l r = absurd (some refl)
 end-right (suc room) s p o e there is some l r = (simp sub-one at r) ∙ sym (left-ends room s p o there is (simp (add-one, sub-one) at l))
 
--- a tree ends behind the place where it begins
+-- a tree ends after the position where it begins
 some-bytes : (t : Tree) → 0 < length (tokens t)
 unfolding tokens
 some-bytes (leaf x) = omega arith
 some-bytes (node l r) = omega arith
 
-pub end-behind : (room : ℕ) (s : List ℕ) (p o : ℕ) → done o ≡ endAt room s p → p < o
+pub end-after : (room : ℕ) (s : List ℕ) (p o : ℕ) → done o ≡ endAt room s p → p < o
 unfolding endAt
-end-behind room s p o e = let t = ended-by p (treeAt room s p) o (sym e) in omega (arith, t .place, some-bytes (t .it))
+end-after room s p o e = let t = ended-by p (treeAt room s p) o (sym e) in omega (arith, t .position, some-bytes (t .it))
 
 -- ---- of the first tree
 
@@ -113,7 +113,7 @@ own-tokens s t o bs e h = rw (e, ← h, zero-add) (tree-reader .gives s t bs e .
 
 pub own-ends : (s : List ℕ) (o : ℕ) → Bytes s → done o ≡ firstEnd s → take o s ≡ ownBytes (firstTree s)
 unfolding firstEnd
-own-ends s o bs e = let t = ended-by 0 (firstTree s) o (sym e) in own-tokens s (t .it) o bs (t .is) (t .place)
+own-ends s o bs e = let t = ended-by 0 (firstTree s) o (sym e) in own-tokens s (t .it) o bs (t .is) (t .position)
 
 -- there are none on a refusal
 pub own-stops : (s : List ℕ) (n q : ℕ) → refusal n q ≡ firstEnd s → [] ≡ ownBytes (firstTree s)

@@ -13,7 +13,7 @@ use Rattle.formats.specs.Numbers.{Bytes}
 use Rattle.formats.specs.Refusals.{fileLength, spaceTooShort}
 use Rattle.formats.specs.Results.{Result, done, refusal, onValue, each}
 use Rattle.formats.specs.Records.{recordBytes}
-use Rattle.formats.specs.Blocks.{blockBytes, mostBlocks, blockRecords, partBytes, mostBytes, wordLimit, blockOf, blocksFrom, blocksFor, fileOf, lengthRow, usedFits, usedOf, blockAt, blockRow, joined, flatIn, within, lent}
+use Rattle.formats.specs.Blocks.{blockBytes, mostBlocks, blockRecords, partBytes, mostBytes, wordLimit, blockOf, blocksFrom, blocksFor, fileOf, lengthRow, usedFits, usedOf, blockAt, blockRow, concatenated, flatIn, inRoom, lent}
 use Rattle.formats.specs.ProgramFiles.{Fewest}
 use Rattle.formats.proofs.Numbers.{bytes-append, bytes-take, bytes-drop}
 use Rattle.formats.proofs.Written.{wrote}
@@ -120,7 +120,7 @@ length-inv s n e =
 abbrev blockIn : List ℕ → ℕ → List ℕ
 blockIn s j = take blockBytes (drop (blockBytes * j) s)
 
--- the next block stands right behind it
+-- the next block stands right after it
 drop-block : (s : List ℕ) (j : ℕ) → drop (blockBytes * suc j) s ≡ drop blockBytes (drop (blockBytes * j) s)
 drop-block s j =
     let next : blockBytes * suc j ≡ blockBytes * j + blockBytes = omega arith in
@@ -151,9 +151,9 @@ cut-last part some few = record {
 module _ (blocks : ℕ) (s : List ℕ) (bs : Bytes s) (whole : length s ≡ blockBytes * blocks) where
   -- the rest of the file, n blocks from block j on, is what is written for these parts
   record Rest (n j : ℕ) (parts : List (List ℕ)) : Type 0 where
-    same : blocksFrom blocks n j (joined parts) ≡ drop (blockBytes * j) s
-    bytes : Bytes (joined parts)
-    count : blocksFor (length (joined parts)) ≡ n
+    same : blocksFrom blocks n j (concatenated parts) ≡ drop (blockBytes * j) s
+    bytes : Bytes (concatenated parts)
+    count : blocksFor (length (concatenated parts)) ≡ n
 
   -- a block that is read is the one written for its part
   block-used : (j : ℕ) (part : List ℕ) → j < blocks → blockAt blocks s j ≡ done part → Used blocks j (blockIn s j) part
@@ -164,27 +164,27 @@ module _ (blocks : ℕ) (s : List ℕ) (bs : Bytes s) (whole : length s ≡ bloc
 
   -- a block's part is full, or nothing follows it
   block-cut : (n j : ℕ) (part : List ℕ) (tail : List (List ℕ)) → j + suc n ≡ blocks → Used blocks j (blockIn s j) part
-      → each (blockAt blocks s) n (suc j) ≡ done tail → Cut part (joined tail)
-  unfolding joined
+      → each (blockAt blocks s) n (suc j) ≡ done tail → Cut part (concatenated tail)
+  unfolding concatenated
   block-cut zero j part tail e u h =
-      let none : joined tail ≡ [] = ap joined (each-none (blockAt blocks s) (suc j) tail h) in
+      let none : concatenated tail ≡ [] = ap concatenated (each-none (blockAt blocks s) (suc j) tail h) in
       rw none (cut-last part (omega arith) (omega arith))
-  block-cut (suc n) j part tail e u h = let full = u .full (omega arith) in cut-full part (joined tail) (omega arith)
+  block-cut (suc n) j part tail e u h = let full = u .full (omega arith) in cut-full part (concatenated tail) (omega arith)
 
-  -- nothing is left, or one block and the rest behind it
+  -- nothing is left, or one block and the rest after it
   rest-none : (j : ℕ) → j + 0 ≡ blocks → Rest 0 j []
-  unfolding blocksFrom joined
+  unfolding blocksFrom concatenated
   rest-none j e = record { same = sym (drop-of-length-le s {i = blockBytes * j} (omega arith)); bytes = λ i. lit< tt; count = for-none }
 
   rest-more : (n j : ℕ) (part : List ℕ) (tail : List (List ℕ)) → Used blocks j (blockIn s j) part
-      → Cut part (joined tail) → Rest n (suc j) tail → Rest (suc n) j (part ∷ tail)
-  unfolding blocksFrom joined
+      → Cut part (concatenated tail) → Rest n (suc j) tail → Rest (suc n) j (part ∷ tail)
+  unfolding blocksFrom concatenated
   rest-more n j part tail u c f = record {
     same =
         ap₂ (λ (p r : List ℕ). blockOf p j blocks ++ blocksFrom blocks n (suc j) r) (c .front) (c .back)
         ∙ ap₂ _++_ (u .same) (f .same ∙ drop-block s j)
         ∙ take-append-drop blockBytes (drop (blockBytes * j) s);
-    bytes = bytes-append part (joined tail) (u .bytes) (f .bytes);
+    bytes = bytes-append part (concatenated tail) (u .bytes) (f .bytes);
     count = c .count ∙ ap suc (f .count);
   }
 
@@ -203,13 +203,13 @@ record Read (s r : List ℕ) : Type 0 where
   measure : length s ≡ blockBytes * blocks
   few-blocks : blocks ≤ mostBlocks
   row : each (blockAt blocks s) blocks 0 ≡ done parts
-  gives : joined parts ≡ r
+  gives : concatenated parts ≡ r
 
 read-inv : (s r : List ℕ) → flatIn s ≡ done r → Read s r
 unfolding flatIn blockRow
 read-inv s r e =
     let t = then-inv (lengthRow s) _ r e in
-    let v = value-inv joined (blockRow (t .value) s) r (t .second) in
+    let v = value-inv concatenated (blockRow (t .value) s) r (t .second) in
     let w = length-inv s (t .value) (t .first) in
     record { blocks = t .value; parts = v .value; measure = w .measure; few-blocks = w .few-blocks; row = v .first; gives = v .second }
 
@@ -223,7 +223,7 @@ unfolding fileOf
 blocks-again s r bs e =
     let d = read-inv s r e in
     let f = read-rest s r bs d in
-    ap fileOf (sym (d .gives)) ∙ ap (λ (n : ℕ). blocksFrom n n 0 (joined (d .parts))) (f .count) ∙ f .same
+    ap fileOf (sym (d .gives)) ∙ ap (λ (n : ℕ). blocksFrom n n 0 (concatenated (d .parts))) (f .count) ∙ f .same
 
 -- flat records are bytes where their file is
 pub flat-in-bytes : (s r : List ℕ) → Bytes s → flatIn s ≡ done r → Bytes r
@@ -239,8 +239,8 @@ part-short blocks s j part e =
     let few = used-some blocks j _ (p .fits) .1 in
     rw (← (p .gives)) (simp length-take (omega arith))
 
-parts-short : (blocks : ℕ) (s : List ℕ) (n j : ℕ) (parts : List (List ℕ)) → each (blockAt blocks s) n j ≡ done parts → length (joined parts) ≤ partBytes * n
-unfolding joined
+parts-short : (blocks : ℕ) (s : List ℕ) (n j : ℕ) (parts : List (List ℕ)) → each (blockAt blocks s) n j ≡ done parts → length (concatenated parts) ≤ partBytes * n
+unfolding concatenated
 parts-short blocks s zero j parts e = rw (each-none (blockAt blocks s) j parts e) (omega arith)
 parts-short blocks s (suc n) j parts e =
     let i = each-inv (blockAt blocks s) n j parts e in
@@ -260,7 +260,7 @@ module _ (blocks : ℕ) (s : List ℕ) (few : blocks < wordLimit) where
   record Back (n j : ℕ) (r : List ℕ) : Type 0 where
     parts : List (List ℕ)
     row : each (blockAt blocks s) n j ≡ done parts
-    gives : joined parts ≡ r
+    gives : concatenated parts ≡ r
 
   -- a block that stands in the file is read as the part for which it was written
   block-back : (j n : ℕ) (part rest : List ℕ) → j < wordLimit → length part ≡ recordBytes * n → usedFits blocks j n ≡ true
@@ -272,23 +272,23 @@ module _ (blocks : ℕ) (s : List ℕ) (few : blocks < wordLimit) where
       ∙ ap (usedOf blocks j) (take-at (blockOf part j blocks) rest blockBytes (length-block part j blocks short))
       ∙ used-done part j blocks n e fits small few
 
-  -- behind it stand the blocks for the other records
-  stands-behind : (m j : ℕ) (r : List ℕ) → drop (blockBytes * j) s ≡ blocksFrom blocks (suc m) j r
+  -- after it stand the blocks for the other records
+  stands-after : (m j : ℕ) (r : List ℕ) → drop (blockBytes * j) s ≡ blocksFrom blocks (suc m) j r
       → drop (blockBytes * suc j) s ≡ blocksFrom blocks m (suc j) (drop partBytes r)
   unfolding blocksFrom
-  stands-behind m j r stands =
+  stands-after m j r stands =
       drop-block s j ∙ ap (drop blockBytes) stands ∙ drop-at (blockOf (take partBytes r) j blocks) _ blockBytes (length-first blocks j r)
 
   -- n records that fill m blocks come back from these
   back-from : (m j n : ℕ) (r : List ℕ) → j + m ≡ blocks → length r ≡ recordBytes * n → n ≤ blockRecords * m → blockRecords * m < n + blockRecords
       → drop (blockBytes * j) s ≡ blocksFrom blocks m j r → Back m j r
-  unfolding blocksFrom joined each
+  unfolding blocksFrom concatenated each
   back-from zero j n r e h enough more stands = record { parts = []; row = refl; gives = sym (drop-of-length-le r {i = 0} (omega arith)) }
   back-from (suc m) j n r e h enough more stands =
       let used : length (take partBytes r) ≡ recordBytes * min n blockRecords = length-take partBytes r ∙ omega arith in
       let left : length (drop partBytes r) ≡ recordBytes * (n - blockRecords) = length-drop partBytes r ∙ omega arith in
       let fits = used-fits blocks j (min n blockRecords) (omega arith) (omega arith) (λ full. omega arith) in
-      let b = back-from m (suc j) (n - blockRecords) (drop partBytes r) (omega arith) left (omega arith) (omega arith) (stands-behind m j r stands) in
+      let b = back-from m (suc j) (n - blockRecords) (drop partBytes r) (omega arith) left (omega arith) (omega arith) (stands-after m j r stands) in
       let here = block-back j (min n blockRecords) (take partBytes r) _ (omega arith) used fits stands in
       record {
         parts = take partBytes r ∷ b .parts;
@@ -306,22 +306,22 @@ blocks-back r n e some few =
     let f = fewest r n e in
     let b = back-from blocks (fileOf r) (omega arith) blocks 0 n r (omega arith) e (f .enough) (tight r n e) refl in
     then-done _ (length-done (fileOf r) blocks (record { measure = length-file r; some-block = some-block; few-blocks = few-blocks }))
-    ∙ ap (onValue joined) (b .row)
+    ∙ ap (onValue concatenated) (b .row)
     ∙ ap done (b .gives)
 
 -- ---- into a lent buffer
 
 -- bytes that fit are all there, and others are refused
-pub within-room : (room : ℕ) (bytes : List ℕ) → length bytes ≤ room → within room bytes ≡ done bytes
-unfolding within
-within-room room bytes h = simp (within, le-leb _ _ h)
+pub within-room : (room : ℕ) (bytes : List ℕ) → length bytes ≤ room → inRoom room bytes ≡ done bytes
+unfolding inRoom
+within-room room bytes h = simp (inRoom, le-leb _ _ h)
 
-pub within-short : (room : ℕ) (bytes : List ℕ) → room < length bytes → within room bytes ≡ refusal spaceTooShort 0
-unfolding within
-within-short room bytes h = simp (within, lt-leb _ _ h)
+pub within-short : (room : ℕ) (bytes : List ℕ) → room < length bytes → inRoom room bytes ≡ refusal spaceTooShort 0
+unfolding inRoom
+within-short room bytes h = simp (inRoom, lt-leb _ _ h)
 
 -- the buffer keeps its length
 pub length-lent : (before : List ℕ) (due : Result (List ℕ)) → length (lent before due) ≡ length before
 unfolding lent
 length-lent before (done bytes) = wrote before 0 bytes .same-length
-length-lent before (refusal number place) = refl
+length-lent before (refusal number position) = refl

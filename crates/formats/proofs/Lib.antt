@@ -1,7 +1,7 @@
 -- The laws of the definitions in specs/, a file for each of theirs.
 pub mod Numbers
 pub mod Results
-pub mod Places
+pub mod Buffers
 pub mod Written
 pub mod Tokens
 pub mod Reader

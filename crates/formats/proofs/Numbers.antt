@@ -10,7 +10,7 @@ use borrow.Author.Tests.{le-leb, lt-leb}
 use lib.Dec.{lit<}
 use lib.ListN.{length, getD, take, drop, length-append, length-take, length-drop}
 use lib.Seq.{drop-cons, getD-drop, drop-append-add, take-at}
-use Rattle.formats.specs.Places.{Opens}
+use Rattle.formats.specs.Buffers.{Opens}
 use Rattle.formats.specs.Numbers.{Bytes, bytesOf, numberOf, numberAt}
 
 pub length-bytesOf : (width n : ℕ) → length (bytesOf width n) ≡ width
@@ -61,7 +61,7 @@ numberOf-lt (b ∷ s) bs =
 pub numberOf-fits : (width : ℕ) (s : List ℕ) → Bytes s → length s ≤ width → numberOf s < 256 ^ width
 numberOf-fits width s bs h = lt-of-lt-of-le (numberOf-lt s bs) (pow-le-pow-right (lit< tt) h)
 
--- the number at a place, where it is whole and where it is not
+-- the number at a position, where it is whole and where it is not
 pub numberAt-whole : (width : ℕ) (s : List ℕ) (p : ℕ) → p + width ≤ length s → numberAt width s p ≡ numberOf (take width (drop p s))
 unfolding numberAt
 numberAt-whole width s p h = simp (numberAt, le-leb _ _ h)
@@ -72,7 +72,7 @@ numberAt-cut width s p h = simp (numberAt, lt-leb _ _ h)
 
 -- ---- bytes
 
--- bytes behind bytes are bytes, and so are parts of bytes
+-- bytes after bytes are bytes, and so are parts of bytes
 pub bytes-append : (s t : List ℕ) → Bytes s → Bytes t → Bytes (s ++ t)
 bytes-append [] t bs bt i = bt i
 bytes-append (b ∷ s) t bs bt zero = bs 0
@@ -99,7 +99,7 @@ bytes-bytesOf (suc width) n (suc i) = bytes-bytesOf width (n / 256) i
 
 -- ---- numbers at their places
 
--- the number at a place fits its width, and its bytes are those there
+-- the number at a position fits its width, and its bytes are those there
 pub numberAt-lt : (width : ℕ) (s : List ℕ) (p : ℕ) → Bytes s → p + width ≤ length s → numberAt width s p < 256 ^ width
 numberAt-lt width s p bs h = rw (numberAt-whole width s p h) (numberOf-fits width (take width (drop p s)) (bytes-part width s p bs) (simp length-take (omega arith)))
 
@@ -109,7 +109,7 @@ bytesOf-numberAt width s p bs h =
     rw (numberAt-whole width s p h)
     (ap (λ (k : ℕ). bytesOf k (numberOf (take width (drop p s)))) (sym there) ∙ bytesOf-number (take width (drop p s)) (bytes-part width s p bs))
 
--- the number of that width at a place is there, or it is cut off
+-- the number of that width at a position is there, or it is cut off
 by-width : {A : Type 0} (width : ℕ) (s : List ℕ) (p : ℕ) → (p + width ≤ length s → A) → (length s < p + width → A) → A
 by-width width s p whole cut = elim (decLe (p + width) (length s)) [ yes h ↦ whole h | no h ↦ cut (omega arith) ]
 
@@ -117,27 +117,27 @@ by-width width s p whole cut = elim (decLe (p + width) (length s)) [ yes h ↦ w
 pub numberAt-fits : (width : ℕ) (s : List ℕ) (p : ℕ) → Bytes s → numberAt width s p < 256 ^ width
 numberAt-fits width s p bs = by-width width s p (numberAt-lt width s p bs) (λ h. rw (numberAt-cut width s p h) (one-le-pow width 256 (lit< tt)))
 
--- bytes in front move the place
-pub numberAt-behind : (width : ℕ) (xs s : List ℕ) (p : ℕ) → numberAt width (xs ++ s) (length xs + p) ≡ numberAt width s p
-numberAt-behind width xs s p = by-width width s p
+-- bytes in front move the position
+pub numberAt-after : (width : ℕ) (xs s : List ℕ) (p : ℕ) → numberAt width (xs ++ s) (length xs + p) ≡ numberAt width s p
+numberAt-after width xs s p = by-width width s p
     (λ h. numberAt-whole width (xs ++ s) (length xs + p) (omega (arith, length-append xs s))
     ∙ ap (λ (l : List ℕ). numberOf (take width l)) (drop-append-add xs s p)
     ∙ sym (numberAt-whole width s p h))
     (λ h. numberAt-cut width (xs ++ s) (length xs + p) (omega (arith, length-append xs s)) ∙ sym (numberAt-cut width s p h))
 
--- a number whose bytes stand at a place is the number there
+-- a number whose bytes stand at a position is the number there
 pub numberAt-there : (width n : ℕ) (xs s : List ℕ) (p : ℕ) → length xs ≡ p → n < 256 ^ width → numberAt width (xs ++ (bytesOf width n ++ s)) p ≡ n
 numberAt-there width n xs s p e h =
     let long : 0 + width ≤ length (bytesOf width n ++ s) = omega (arith, length-append (bytesOf width n) s, length-bytesOf width n) in
     ap (numberAt width (xs ++ (bytesOf width n ++ s))) (sym (add-zero (length xs) ∙ e))
-    ∙ numberAt-behind width xs (bytesOf width n ++ s) 0
+    ∙ numberAt-after width xs (bytesOf width n ++ s) 0
     ∙ numberAt-whole width (bytesOf width n ++ s) 0 long
     ∙ ap numberOf (take-at (bytesOf width n) s width (length-bytesOf width n))
     ∙ number-bytesOf width n h
 
 -- ---- numbers read by single bytes
 
--- as many bytes of s as the width says, from k places behind p on
+-- as many bytes of s as the width says, from k places after p on
 abbrev pub bytesFrom : ℕ → List ℕ → ℕ → ℕ → List ℕ
 bytesFrom zero s p k = []
 bytesFrom (suc width) s p k = getD s (p + k) 0 ∷ bytesFrom width s p (suc k)
@@ -148,7 +148,7 @@ part-from zero s p k h = refl
 part-from (suc width) s p k h =
     rw (drop-cons s (p + k) 0 (omega arith), ← (add-suc p k)) (ap (λ (l : List ℕ). getD s (p + k) 0 ∷ l) (part-from width s p (suc k) (omega arith)))
 
--- a number made of these bytes is the number at the place
+-- a number made of these bytes is the number at the position
 pub number-read :
     (width : ℕ) (s : List ℕ) (p : ℕ) (bs : List ℕ) (r : ℕ)
     → width ≤ length s

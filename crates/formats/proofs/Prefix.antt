@@ -21,7 +21,7 @@ unfoldable inFront : Args → List Expr → List Expr
 inFront noArgs es = es
 inFront (arg x xs) es = x ∷ inFront xs es
 
--- the records of expressions, one behind the other
+-- the records of expressions, one after the other
 unfoldable pub recordsOfAll : List Expr → List Kind
 recordsOfAll [] = []
 recordsOfAll (e ∷ es) = prefix e ++ recordsOfAll es
@@ -62,7 +62,7 @@ popped (suc n) (x ∷ es) h =
     record {
       args = arg x (p .args);
       rest = p .rest;
-      is = λ next. p .is (λ xs behind. next (arg x xs) behind);
+      is = λ next. p .is (λ xs after. next (arg x xs) after);
       counted = ap suc (p .counted);
       split = ap (λ (l : List Expr). x ∷ l) (p .split);
     }
@@ -136,7 +136,7 @@ args-short : (n : ℕ) (es : List Expr) (next : Args → List Expr → Option (L
 unfolding popArgs
 args-short zero es next h = absurd (omega arith)
 args-short (suc n) [] next h = refl
-args-short (suc n) (x ∷ es) next h = args-short n es (λ xs behind. next (arg x xs) behind) (le-of-suc-le-suc h)
+args-short (suc n) (x ∷ es) next h = args-short n es (λ xs after. next (arg x xs) after) (le-of-suc-le-suc h)
 
 -- nor is there where two parts are missing one
 two-short : (es : List Expr) (f : Expr → Expr → Expr) → length es < 2 → pop es (λ p es′. pop es′ (λ q rest. some (f p q ∷ rest))) ≡ none
@@ -224,7 +224,7 @@ module _ (arity : ℕ → ℕ) where
 args-popped : (xs : Args) (es : List Expr) (next : Args → List Expr → Option (List Expr)) → popArgs (countArgs xs) (inFront xs es) next ≡ next xs es
 unfolding popArgs countArgs inFront
 args-popped noArgs es next = refl
-args-popped (arg x xs) es next = args-popped xs es (λ ys behind. next (arg x ys) behind)
+args-popped (arg x xs) es next = args-popped xs es (λ ys after. next (arg x ys) after)
 
 -- the records of an expression in front of records give it in front of their expressions
 mutual
@@ -277,8 +277,8 @@ parsed-step arity kind ks ds es h e = elim (decLe (partCount arity (partsOf kind
 pub exprs-inv : (arity : ℕ → ℕ) (ks : List Kind) (es : List Expr) → exprsOf arity ks ≡ some es → Parsed arity ks es
 unfolding exprsOf recordsOfAll
 exprs-inv arity [] es e = subst (Parsed arity []) (Option·some-injective [] es e) (record { joined = refl; applied = tt })
-exprs-inv arity (k ∷ ks) es e = behind (exprsOf arity ks) refl (λ ds f. exprs-inv arity ks ds f)
+exprs-inv arity (k ∷ ks) es e = after (exprsOf arity ks) refl (λ ds f. exprs-inv arity ks ds f)
   where
-    behind : (o : Option (List Expr)) → exprsOf arity ks ≡ o → ((ds : List Expr) → exprsOf arity ks ≡ some ds → Parsed arity ks ds) → Parsed arity (k ∷ ks) es
-    behind none f before = absurd (Option·none-ne-some es (sym (none-stays arity (k ∷ []) ks f) ∙ e))
-    behind (some ds) f before = parsed-step arity k ks ds es (before ds f) (sym (exprs-cons arity k ks ds f) ∙ e)
+    after : (o : Option (List Expr)) → exprsOf arity ks ≡ o → ((ds : List Expr) → exprsOf arity ks ≡ some ds → Parsed arity ks ds) → Parsed arity (k ∷ ks) es
+    after none f before = absurd (Option·none-ne-some es (sym (none-stays arity (k ∷ []) ks f) ∙ e))
+    after (some ds) f before = parsed-step arity k ks ds es (before ds f) (sym (exprs-cons arity k ks ds f) ∙ e)

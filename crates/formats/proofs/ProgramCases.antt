@@ -1,5 +1,5 @@
 -- Worked cases of the program file (01, Program file), proved by computation. Each row of a table
--- is an input and what becomes of it.
+-- is an input and the outcome of it.
 use Prim.Native.Nat.{ℕ, _-_}
 use mathlib.Core.List.{List, [], _∷_, _++_, map}
 use mathlib.Core.Path.{_≡_, refl}
@@ -8,10 +8,10 @@ use lib.ListN.{length, take, drop, replicate, set}
 use Rattle.formats.specs.Numbers.{bytesOf, numberOf, numberAt}
 use Rattle.formats.specs.Results.{Result, done, refusal, verdict, each}
 use Rattle.formats.specs.Records.{Record, fields, bytesOfRecord, flat, recordAt, Const, Var, Add, IfZero, Let, Leaf, Node, Case, Call, fieldsOf, kinds, nth, kindOf, same, below, nodeRecord}
-use Rattle.formats.specs.Programs.{const, var, add, ifZero, letIn, leafOf, nodeOf, caseOf, call, noArgs, arg, prefix, prefixes, size, behind, partsAt}
+use Rattle.formats.specs.Programs.{const, var, add, ifZero, letIn, leafOf, nodeOf, caseOf, call, noArgs, arg, prefix, prefixes, size, placedAt, partsAt}
 use Rattle.formats.specs.Programs.{Lawful, countArgs, treeValued, sortNumber, signatureRecord, arityOf, total, signatureOf, Program, nodes, headerRecord, headerOf, recordsOf, mostParameters}
 use Rattle.formats.specs.Rows.{headerFrom, headerRow, sorts, functionFrom, functionAt, functionRow, nodeAt, nodeRow, popArgs, build, exprsOf, exactlyOne, bodies, prefixRow, readProgram}
-use Rattle.formats.specs.Blocks.{wordSum, checkWord, blockBody, blockOf, blocksFrom, blocksFor, fileOf, lengthRow, zeros, usedFits, fieldsFit, usedOf, blockAt, blockRow, joined, flatIn, programRecords, readFile}
+use Rattle.formats.specs.Blocks.{wordSum, checkWord, blockBody, blockOf, blocksFrom, blocksFor, fileOf, lengthRow, zeros, usedFits, fieldsFit, usedOf, blockAt, blockRow, concatenated, flatIn, programRecords, readFile}
 
 -- ---- Grow
 
@@ -59,7 +59,7 @@ grow-lawful = record {
 
 -- the records of its parts: Case at 2, Leaf at 3, Node at 7
 grow-parts : map (partsAt 2) (map (λ f. f .body) (grow .functions))
-    ≡ (behind 3 (leafOf (add (var 0) (const 1))) ∷ behind 7 (nodeOf (call 1 0 noArgs) (call 2 0 noArgs)) ∷ []) ∷ []
+    ≡ (placedAt 3 (leafOf (add (var 0) (const 1))) ∷ placedAt 7 (nodeOf (call 1 0 noArgs) (call 2 0 noArgs)) ∷ []) ∷ []
 unfolding partsAt size prefix prefixes grow
 grow-parts = refl
 
@@ -139,16 +139,16 @@ read s = verdict (readFile s)
 
 -- Grow's file, and its last words: number 0, 10 records used, 1 block, and the check 64444
 grow-file : fileOf grow-flat ≡ block grow-flat 0 10 1
-unfolding readFile programRecords flatIn lengthRow blockRow blockAt usedOf fieldsFit usedFits zeros joined fileOf blocksFor blocksFrom blockOf blockBody checkWord wordSum readProgram headerRow headerFrom functionRow functionAt functionFrom sorts mostParameters nodeRow nodeAt nodeRecord kindOf kinds nth same below fieldsOf each prefixRow bodies exactlyOne exprsOf build popArgs arityOf total recordAt flat bytesOfRecord bytesOf numberAt numberOf block grow-flat grow-records
+unfolding readFile programRecords flatIn lengthRow blockRow blockAt usedOf fieldsFit usedFits zeros concatenated fileOf blocksFor blocksFrom blockOf blockBody checkWord wordSum readProgram headerRow headerFrom functionRow functionAt functionFrom sorts mostParameters nodeRow nodeAt nodeRecord kindOf kinds nth same below fieldsOf each prefixRow bodies exactlyOne exprsOf build popArgs arityOf total recordAt flat bytesOfRecord bytesOf numberAt numberOf block grow-flat grow-records
 grow-file = refl
 
 grow-words : drop 504 (fileOf grow-flat) ≡ 0 ∷ 0 ∷ 10 ∷ 0 ∷ 1 ∷ 0 ∷ 188 ∷ 251 ∷ []
-unfolding readFile programRecords flatIn lengthRow blockRow blockAt usedOf fieldsFit usedFits zeros joined fileOf blocksFor blocksFrom blockOf blockBody checkWord wordSum readProgram headerRow headerFrom functionRow functionAt functionFrom sorts mostParameters nodeRow nodeAt nodeRecord kindOf kinds nth same below fieldsOf each prefixRow bodies exactlyOne exprsOf build popArgs arityOf total recordAt flat bytesOfRecord bytesOf numberAt numberOf block grow-flat grow-records
+unfolding readFile programRecords flatIn lengthRow blockRow blockAt usedOf fieldsFit usedFits zeros concatenated fileOf blocksFor blocksFrom blockOf blockBody checkWord wordSum readProgram headerRow headerFrom functionRow functionAt functionFrom sorts mostParameters nodeRow nodeAt nodeRecord kindOf kinds nth same below fieldsOf each prefixRow bodies exactlyOne exprsOf build popArgs arityOf total recordAt flat bytesOfRecord bytesOf numberAt numberOf block grow-flat grow-records
 grow-words = refl
 
 -- 1: lengths 0, 511, 513 and 18 blocks
 length-cases : map read ([] ∷ take 511 (block grow-flat 0 10 1) ∷ (block grow-flat 0 10 1 ++ (0 ∷ [])) ∷ replicate 9216 0 ∷ []) ≡ replicate 4 (refusal 1 0)
-unfolding readFile programRecords flatIn lengthRow blockRow blockAt usedOf fieldsFit usedFits zeros joined fileOf blocksFor blocksFrom blockOf blockBody checkWord wordSum readProgram headerRow headerFrom functionRow functionAt functionFrom sorts mostParameters nodeRow nodeAt nodeRecord kindOf kinds nth same below fieldsOf each prefixRow bodies exactlyOne exprsOf build popArgs arityOf total recordAt flat bytesOfRecord bytesOf numberAt numberOf read block grow-flat grow-records
+unfolding readFile programRecords flatIn lengthRow blockRow blockAt usedOf fieldsFit usedFits zeros concatenated fileOf blocksFor blocksFrom blockOf blockBody checkWord wordSum readProgram headerRow headerFrom functionRow functionAt functionFrom sorts mostParameters nodeRow nodeAt nodeRecord kindOf kinds nth same below fieldsOf each prefixRow bodies exactlyOne exprsOf build popArgs arityOf total recordAt flat bytesOfRecord bytesOf numberAt numberOf read block grow-flat grow-records
 length-cases = refl
 
 -- 2: a byte changed; 3, with a check that fits: block number, records used 0, 64, one too few, number of blocks, an unused record; 4: records used
@@ -157,7 +157,7 @@ block-cases : map read
     (block grow-flat 0 10 1 ∷ set (block grow-flat 0 10 1) 16 1 ∷ block grow-flat 1 10 1 ∷ block grow-flat 0 0 1 ∷ block grow-flat 0 64 1 ∷ block grow-flat 0 9 1
     ∷ block grow-flat 0 10 2 ∷ block (grow-flat ++ (replicate 423 0 ++ (1 ∷ []))) 0 10 1 ∷ block grow-flat 0 11 1 ∷ [])
     ≡ done tt ∷ refusal 2 0 ∷ refusal 3 0 ∷ refusal 3 0 ∷ refusal 3 0 ∷ refusal 3 0 ∷ refusal 3 0 ∷ refusal 3 0 ∷ refusal 4 0 ∷ []
-unfolding readFile programRecords flatIn lengthRow blockRow blockAt usedOf fieldsFit usedFits zeros joined fileOf blocksFor blocksFrom blockOf blockBody checkWord wordSum readProgram headerRow headerFrom functionRow functionAt functionFrom sorts mostParameters nodeRow nodeAt nodeRecord kindOf kinds nth same below fieldsOf each prefixRow bodies exactlyOne exprsOf build popArgs arityOf total recordAt flat bytesOfRecord bytesOf numberAt numberOf read block grow-flat grow-records
+unfolding readFile programRecords flatIn lengthRow blockRow blockAt usedOf fieldsFit usedFits zeros concatenated fileOf blocksFor blocksFrom blockOf blockBody checkWord wordSum readProgram headerRow headerFrom functionRow functionAt functionFrom sorts mostParameters nodeRow nodeAt nodeRecord kindOf kinds nth same below fieldsOf each prefixRow bodies exactlyOne exprsOf build popArgs arityOf total recordAt flat bytesOfRecord bytesOf numberAt numberOf read block grow-flat grow-records
 block-cases = refl
 
 -- two blocks: both right; 2 in the second; 3 in the first before 2 in the second; 62 used in the first; a third block that is not needed
@@ -166,5 +166,5 @@ two-block-cases : map read
     ∷ (block (take 504 long) 1 63 2 ++ set (block (drop 504 long) 1 1 2) 0 9) ∷ (block (take 496 long) 0 62 2 ++ block (drop 496 long) 1 2 2)
     ∷ (block (take 504 long) 0 63 3 ++ (block (drop 504 long) 1 1 3 ++ block [] 2 0 3)) ∷ [])
     ≡ done tt ∷ refusal 2 1 ∷ refusal 3 0 ∷ refusal 3 0 ∷ refusal 3 1 ∷ []
-unfolding readFile programRecords flatIn lengthRow blockRow blockAt usedOf fieldsFit usedFits zeros joined fileOf blocksFor blocksFrom blockOf blockBody checkWord wordSum readProgram headerRow headerFrom functionRow functionAt functionFrom sorts mostParameters nodeRow nodeAt nodeRecord kindOf kinds nth same below fieldsOf each prefixRow bodies exactlyOne exprsOf build popArgs arityOf total recordAt flat bytesOfRecord bytesOf numberAt numberOf read block long
+unfolding readFile programRecords flatIn lengthRow blockRow blockAt usedOf fieldsFit usedFits zeros concatenated fileOf blocksFor blocksFrom blockOf blockBody checkWord wordSum readProgram headerRow headerFrom functionRow functionAt functionFrom sorts mostParameters nodeRow nodeAt nodeRecord kindOf kinds nth same below fieldsOf each prefixRow bodies exactlyOne exprsOf build popArgs arityOf total recordAt flat bytesOfRecord bytesOf numberAt numberOf read block long
 two-block-cases = refl

@@ -16,9 +16,9 @@ use Rattle.formats.proofs.Records.{ranged-kind}
 
 -- ---- where the parts stand
 
--- the place goes by its number
-stands-place : {s : List ℕ} {ks : List Kind} {k j : ℕ} → k ≡ j → Stands s k ks → Stands s j ks
-stands-place {s} {ks} e h = subst (λ (i : ℕ). Stands s i ks) e h
+-- the position goes by its number
+stands-position : {s : List ℕ} {ks : List Kind} {k j : ℕ} → k ≡ j → Stands s k ks → Stands s j ks
+stands-position {s} {ks} e h = subst (λ (i : ℕ). Stands s i ks) e h
 
 -- joined records that stand come apart
 pub stands-left : {s : List ℕ} {k : ℕ} (us vs : List Kind) → Stands s k (us ++ vs) → Stands s k us
@@ -26,17 +26,17 @@ stands-left [] vs h = nothing
 stands-left (u ∷ us) vs (one-more is more) = one-more is (stands-left us vs more)
 
 pub stands-right : {s : List ℕ} {k : ℕ} (us vs : List Kind) → Stands s k (us ++ vs) → Stands s (k + length us) vs
-stands-right [] vs h = stands-place (sym (add-zero _)) h
-stands-right (u ∷ us) vs (one-more is more) = stands-place (suc-add _ _ ∙ sym (add-suc _ _)) (stands-right us vs more)
+stands-right [] vs h = stands-position (sym (add-zero _)) h
+stands-right (u ∷ us) vs (one-more is more) = stands-position (suc-add _ _ ∙ sym (add-suc _ _)) (stands-right us vs more)
 
--- each argument stands behind those before it
+-- each argument stands after those before it
 args-stand : (r : List ℕ) (k : ℕ) (xs : Args) → Stands r k (prefixes xs) → Every (StandsPlaced r) (argsAt k xs)
 unfolding prefixes argsAt size
 args-stand r k noArgs h = tt
 args-stand r k (arg x xs) h =
     (stands-left (prefix x) (prefixes xs) h, args-stand r (k + length (prefix x)) xs (stands-right (prefix x) (prefixes xs) h))
 
--- two parts stand one behind the other
+-- two parts stand one after the other
 two-stand : (r : List ℕ) (k : ℕ) (p q : Expr) → Stands r k (prefix p ++ prefix q) → Stands r k (prefix p) × (Stands r (k + length (prefix p)) (prefix q) × Unit {0})
 two-stand r k p q h = (stands-left (prefix p) (prefix q) h, (stands-right (prefix p) (prefix q) h, tt))
 

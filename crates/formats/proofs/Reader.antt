@@ -1,6 +1,6 @@
 -- The tree reader's answers mean what specs/Reader.antt states. What is read stands there and what stands there is read (proofs/Tokens.antt).
--- A refusal inside a part is the refusal of the whole, so the walk from a place that is due to the first fault, and back from a fault to the
--- whole buffer, goes by recursion on the room and on the way to the place.
+-- A refusal inside a part is the refusal of the whole, so the walk from a position that is due to the first fault, and back from a fault to the
+-- whole buffer, goes by recursion on the room and on the way to the position.
 use Prim.Native.Nat.{ℕ, zero, suc, _+_, _-_, _≤_, _<_, zero-le}
 use mathlib.Core.Bool.{Bool, true, false}
 use mathlib.Core.List.{List, [], _∷_, _++_, append-nil, append-assoc}
@@ -14,12 +14,12 @@ use lib.Dec.{leb, lit<}
 use lib.ListN.{length, getD, take, drop, length-drop}
 use lib.Seq.{getD-drop, take-all, split-at}
 use Rattle.formats.specs.Numbers.{Bytes, numberOf}
-use Rattle.formats.specs.Places.{Opens, Lies, nothing, one-more}
+use Rattle.formats.specs.Buffers.{Opens, Lies, nothing, one-more}
 use Rattle.formats.specs.Refusals.{inputEnded, notATag, tooDeep}
-use Rattle.formats.specs.Tokens.{Tree, leaf, node, Labelled, depth, leafTag, nodeTag, labelBytes, mostDepth, tokens, Tag, ended, aLeaf, aNode, labelAt, treeAt, firstTree}
+use Rattle.formats.specs.Tokens.{Tree, leaf, node, Labelled, depth, leafTag, nodeTag, labelBytes, mostDepth, tokens, Tag, noByte, aLeaf, aNode, labelAt, treeAt, firstTree}
 use Rattle.formats.specs.Reader.{Gave, Due, first, left, right, Refuses, no-tag, no-label, no-such-tag, under-too-many, Fits, Ended, FitsNone, TooDeep, TreeReader}
 use Rattle.formats.proofs.Numbers.{length-bytesOf, bytesOf-opens, numberOf-fits}
-use Rattle.formats.proofs.Places.{lies-left, lies-right, lies-part, lies-within, lies-first, opens-lies, lies-shared, lies-take, lies-all, head-is}
+use Rattle.formats.proofs.Buffers.{lies-left, lies-right, lies-part, lies-within, lies-first, opens-lies, lies-shared, lies-take, lies-all, head-is}
 use Rattle.formats.proofs.Tokens.{length-of-tokens, Look, past, at-leaf, at-node, at-other, look, read-ended, read-leaf, read-other, read-deep, label-whole, label-cut, left-refused, right-refused, read-node, reads-at, stands, one-tree}
 use Rattle.formats.specs.Results.{Result, done, refusal}
 use Rattle.formats.proofs.Results.{Outcome, gave, stopped, outcome, done-not}
@@ -38,9 +38,9 @@ none : (s : List ℕ) (number p : ℕ) → firstTree s ≡ refusal number p → 
 unfolding firstTree
 none s number p e t fits shallow o = done-not (reads-at t mostDepth s 0 fits shallow (opens-lies o)) e
 
--- ---- from a place that is due to the first fault
+-- ---- from a position that is due to the first fault
 
--- a place that is due lies within the buffer or at its end, under at most 1,024 nodes
+-- a position that is due lies within the buffer or at its end, under at most 1,024 nodes
 due-within : {s : List ℕ} {p above : ℕ} → Due s p above → p ≤ length s
 due-within first = zero-le
 due-within (left d room (one-more there is more)) = there
@@ -55,8 +55,8 @@ due-under (right l d fits shallow h) = omega arith
 same-fault : {s : List ℕ} {r : Result Tree} {n q n′ q′ : ℕ} → r ≡ refusal n q → r ≡ refusal n′ q′ → Refuses s n q → Refuses s n′ q′
 same-fault {s} {n = n} {q = q} {n′ = n′} {q′ = q′} e f h =
     let number : n ≡ n′ = cc in
-    let place : q ≡ q′ = cc in
-    rw (← number, ← place) h
+    let position : q ≡ q′ = cc in
+    rw (← number, ← position) h
 
 -- at a leaf that is due: a label that is not whole
 leaf-fault : (s : List ℕ) (p above n q : ℕ) → Due s p above → Look s p aLeaf → labelAt s (suc p) ≡ refusal n q → Refuses s n q
@@ -138,7 +138,7 @@ back (under-too-many d (one-more there is more)) = whole-refused d 0 refl (read-
 
 -- ---- what each number means
 
--- a tree, a part of which stands where a tag is due: the bytes before that place are its opening bytes
+-- a tree, a part of which stands where a tag is due: the bytes before that position are its opening bytes
 record Filled (s : List ℕ) (p : ℕ) (u : Tree) : Type 0 where
   whole : Tree
   labelled : Labelled whole
@@ -155,8 +155,8 @@ filled {s} (left {p = p} d room tag) u fits =
     record { whole = f .whole; labelled = f .labelled; rest = tokens (leaf 0) ++ f .rest; joined = f .joined ∙ simp (longer, append-assoc) }
 filled {s} (right {p = p} l d fl shallow h) u fits =
     let f = filled d (node l u) (fl, fits) in
-    let place : suc p + length (tokens l) ≡ p + suc (length (tokens l)) = omega arith in
-    let longer : take (suc p + length (tokens l)) s ≡ take p s ++ (nodeTag ∷ tokens l) = ap (λ (n : ℕ). take n s) place ∙ lies-take h in
+    let position : suc p + length (tokens l) ≡ p + suc (length (tokens l)) = omega arith in
+    let longer : take (suc p + length (tokens l)) s ≡ take p s ++ (nodeTag ∷ tokens l) = ap (λ (n : ℕ). take n s) position ∙ lies-take h in
     record { whole = f .whole; labelled = f .labelled; rest = f .rest; joined = f .joined ∙ simp (longer, append-assoc) }
 
 -- a tree, and where it stands
@@ -183,7 +183,7 @@ due-part first t fits h = record { part = t; labelled = fits; lies = h }
 due-part (left d room (one-more there is more)) t fits h = let u = due-part d t fits h in left-part (u .part) (u .labelled) (u .lies) is
 due-part (right l d fl shallow m) t fits h = let u = due-part d t fits h in right-part (u .part) l (u .labelled) fl (u .lies) m
 
--- a place that is due in the first n bytes is due in each buffer that opens with these
+-- a position that is due in the first n bytes is due in each buffer that opens with these
 due-shared : {s : List ℕ} {p above : ℕ} (n : ℕ) (u : List ℕ) → Opens (take n s) u → Due s p above → p ≤ n → Due u p above
 due-shared n u o first h = first
 due-shared n u o (left d room tag) h = left (due-shared n u o d (omega arith)) room (lies-shared n u o tag (omega arith))
@@ -195,7 +195,7 @@ unfolding tokens
 tag-first (leaf x) (one-more there is more) nl nn = nl is
 tag-first (node l r) (one-more there is more) nl nn = nn is
 
--- the bytes before a place that is due fit some tree
+-- the bytes before a position that is due fit some tree
 fits-before : {s : List ℕ} {p above : ℕ} → Due s p above → Fits (take p s)
 fits-before d =
     let f = filled d (leaf 0) (lit< tt) in

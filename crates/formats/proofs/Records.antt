@@ -18,7 +18,7 @@ use Rattle.formats.specs.Results.{done, refusal, check}
 use Rattle.formats.specs.Records.{recordBytes, Record, fields, Ranged, bytesOfRecord, flat, recordAt, Kind, Const, Var, Add, IfZero, Let, Leaf, Node, Case, Call, fieldsOf, kinds, nth, kindOf, same, below, nodeRecord}
 use Rattle.formats.specs.Programs.{InRange, Every}
 use Rattle.formats.specs.Rows.{headerIn, nodeAt, nodeIn}
-use Rattle.formats.proofs.Numbers.{length-bytesOf, bytesOf-numberAt, bytes-append, bytes-bytesOf, numberAt-fits, numberAt-behind, numberAt-there}
+use Rattle.formats.proofs.Numbers.{length-bytesOf, bytesOf-numberAt, bytes-append, bytes-bytesOf, numberAt-fits, numberAt-after, numberAt-there}
 use Rattle.formats.proofs.Results.{done-not, check-inv, both-held}
 
 -- ---- entries of a mapped list
@@ -88,20 +88,20 @@ at-first (fields x a b i) s h =
     ap₂ (fields x a) second third
 
 -- a record in front moves the number
-at-behind : (r : Record) (s : List ℕ) (k : ℕ) → recordAt (bytesOfRecord r ++ s) (suc k) ≡ recordAt s k
+at-after : (r : Record) (s : List ℕ) (k : ℕ) → recordAt (bytesOfRecord r ++ s) (suc k) ≡ recordAt s k
 unfolding recordAt
-at-behind r s k =
-    let place : recordBytes * suc k ≡ length (bytesOfRecord r) + recordBytes * k = omega (arith, length-record r) in
+at-after r s k =
+    let position : recordBytes * suc k ≡ length (bytesOfRecord r) + recordBytes * k = omega (arith, length-record r) in
     let t = bytesOfRecord r ++ s in
-    ap (λ (p : ℕ). fields (getD t p 0) (getD t (p + 1) 0) (numberAt 2 t (p + 2)) (numberAt 4 t (p + 4))) place
-    ∙ simp (add-assoc, getD-append-add, numberAt-behind)
+    ap (λ (p : ℕ). fields (getD t p 0) (getD t (p + 1) 0) (numberAt 2 t (p + 2)) (numberAt 4 t (p + 4))) position
+    ∙ simp (add-assoc, getD-append-add, numberAt-after)
 
 -- a record of flat records is read at its number
 pub at-flat : (rs : List Record) (k : ℕ) (r : Record) → Every Ranged rs → nth rs k ≡ some r → recordAt (flat rs) k ≡ r
 unfolding flat nth
 at-flat [] k r h e = cc
 at-flat (q ∷ rs) zero r h e = at-first q (flat rs) (h .0) ∙ cc
-at-flat (q ∷ rs) (suc k) r h e = at-behind q (flat rs) k ∙ at-flat rs k r (h .1) e
+at-flat (q ∷ rs) (suc k) r h e = at-after q (flat rs) k ∙ at-flat rs k r (h .1) e
 
 -- so many records of a byte string, the first of them number k
 unfoldable pub recordsFrom : ℕ → List ℕ → ℕ → List Record

@@ -15,28 +15,28 @@ use Rattle.formats.specs.Records.{nth}
 -- a reading is a value or a refusal, with the equation kept
 pub data Outcome {A : Type 0} (r : Result A) : Type 0 where
   gave : (x : A) → r ≡ done x → Outcome r
-  stopped : (number place : ℕ) → r ≡ refusal number place → Outcome r
+  stopped : (number position : ℕ) → r ≡ refusal number position → Outcome r
 
 pub outcome : {A : Type 0} (r : Result A) → Outcome r
 outcome (done x) = gave x refl
-outcome (refusal number place) = stopped number place refl
+outcome (refusal number position) = stopped number position refl
 
-pub byResult : {A C : Type 0} (r : Result A) → ((x : A) → r ≡ done x → C) → ((number place : ℕ) → r ≡ refusal number place → C) → C
-byResult r value none = elim (outcome r) [ gave x e ↦ value x e | stopped number place e ↦ none number place e ]
+pub byResult : {A C : Type 0} (r : Result A) → ((x : A) → r ≡ done x → C) → ((number position : ℕ) → r ≡ refusal number position → C) → C
+byResult r value none = elim (outcome r) [ gave x e ↦ value x e | stopped number position e ↦ none number position e ]
 
 -- values of done readings
 pub done-injective : {A : Type 0} {x y : A} → _≡_ {A = Result A} (done x) (done y) → x ≡ y
-done-injective {x = x} e = ap (λ r. elim r [ done z ↦ z | refusal number place ↦ x ]) e
+done-injective {x = x} e = ap (λ r. elim r [ done z ↦ z | refusal number position ↦ x ]) e
 
 -- a done reading is no refusal
-pub done-not : {A C : Type 0} {x : A} {number place : ℕ} {r : Result A} → r ≡ done x → r ≡ refusal number place → C
-done-not e f = let z : _≡_ {A = ℕ} 0 1 = ap (λ r. elim r [ done x ↦ 0 | refusal number place ↦ 1 ]) (sym e ∙ f) in absurd (omega arith)
+pub done-not : {A C : Type 0} {x : A} {number position : ℕ} {r : Result A} → r ≡ done x → r ≡ refusal number position → C
+done-not e f = let z : _≡_ {A = ℕ} 0 1 = ap (λ r. elim r [ done x ↦ 0 | refusal number position ↦ 1 ]) (sym e ∙ f) in absurd (omega arith)
 
 -- what follows a value, and what follows a refusal
 pub then-done : {A B : Type 0} {r : Result A} {x : A} (next : A → Result B) → r ≡ done x → andThen r next ≡ next x
 then-done next e = ap (λ r. andThen r next) e
 
-pub then-refused : {A B : Type 0} {r : Result A} {number place : ℕ} (next : A → Result B) → r ≡ refusal number place → andThen r next ≡ refusal number place
+pub then-refused : {A B : Type 0} {r : Result A} {number position : ℕ} (next : A → Result B) → r ≡ refusal number position → andThen r next ≡ refusal number position
 then-refused next e = ap (λ r. andThen r next) e
 
 -- where all is done, the first reading is, and what follows it
@@ -47,7 +47,7 @@ pub record Followed {A B : Type 0} (r : Result A) (next : A → Result B) (y : B
 
 pub then-inv : {A B : Type 0} (r : Result A) (next : A → Result B) (y : B) → andThen r next ≡ done y → Followed r next y
 then-inv (done x) next y e = record { value = x; first = refl; second = e }
-then-inv (refusal number place) next y e = done-not e refl
+then-inv (refusal number position) next y e = done-not e refl
 
 -- where a changed value is done, the value is
 pub record Changed {A B : Type 0} (f : A → B) (r : Result A) (y : B) : Type 0 where
@@ -57,33 +57,33 @@ pub record Changed {A B : Type 0} (f : A → B) (r : Result A) (y : B) : Type 0 
 
 pub value-inv : {A B : Type 0} (f : A → B) (r : Result A) (y : B) → onValue f r ≡ done y → Changed f r y
 value-inv f (done x) y e = record { value = x; first = refl; second = done-injective e }
-value-inv f (refusal number place) y e = done-not e refl
+value-inv f (refusal number position) y e = done-not e refl
 
 -- where a changed value is refused, the value is
-pub value-refused : {A B : Type 0} (f : A → B) (r : Result A) (number place : ℕ) → onValue f r ≡ refusal number place → r ≡ refusal number place
-value-refused f (done x) number place e = done-not refl e
-value-refused f (refusal n q) number place e = cc
+pub value-refused : {A B : Type 0} (f : A → B) (r : Result A) (number position : ℕ) → onValue f r ≡ refusal number position → r ≡ refusal number position
+value-refused f (done x) number position e = done-not refl e
+value-refused f (refusal n q) number position e = cc
 
 -- a check that is done held, and its value is the one checked
 pub record Checked {A : Type 0} (test : Bool) (x y : A) : Type 0 where
   pub held : test ≡ true
   pub same : x ≡ y
 
-pub check-inv : {A : Type 0} (test : Bool) (number place : ℕ) (x y : A) → check test number place x ≡ done y → Checked test x y
-check-inv true number place x y e = record { held = refl; same = done-injective e }
-check-inv false number place x y e = done-not e refl
+pub check-inv : {A : Type 0} (test : Bool) (number position : ℕ) (x y : A) → check test number position x ≡ done y → Checked test x y
+check-inv true number position x y e = record { held = refl; same = done-injective e }
+check-inv false number position x y e = done-not e refl
 
 -- what a check says does not depend on its value
-pub check-said : {A : Type 0} (test : Bool) (number place : ℕ) (x : A) → check test number place tt ≡ verdict (check test number place x)
-check-said true number place x = refl
-check-said false number place x = refl
+pub check-said : {A : Type 0} (test : Bool) (number position : ℕ) (x : A) → check test number position tt ≡ verdict (check test number position x)
+check-said true number position x = refl
+check-said false number position x = refl
 
--- what a test that is told says, where it holds and where it does not
-pub test-holds : (test : Bool) (number place : ℕ) (r : Result (Unit {0})) → check test number place tt ≡ r → test ≡ true → done tt ≡ r
-test-holds test number place r told h = ap (λ t. check t number place tt) (sym h) ∙ told
+-- what a test that is reported says, where it holds and where it does not
+pub test-holds : (test : Bool) (number position : ℕ) (r : Result (Unit {0})) → check test number position tt ≡ r → test ≡ true → done tt ≡ r
+test-holds test number position r reported h = ap (λ t. check t number position tt) (sym h) ∙ reported
 
-pub test-fails : (test : Bool) (number place : ℕ) (r : Result (Unit {0})) → check test number place tt ≡ r → test ≡ false → refusal number place ≡ r
-test-fails test number place r told h = ap (λ t. check t number place tt) (sym h) ∙ told
+pub test-fails : (test : Bool) (number position : ℕ) (r : Result (Unit {0})) → check test number position tt ≡ r → test ≡ false → refusal number position ≡ r
+test-fails test number position r reported h = ap (λ t. check t number position tt) (sym h) ∙ reported
 
 -- where a check passes there is a value, and what it refuses is refused
 pub record Value {A : Type 0} (r : Result A) : Type 0 where
@@ -92,11 +92,11 @@ pub record Value {A : Type 0} (r : Result A) : Type 0 where
 
 pub passed-is : {A : Type 0} (r : Result A) → verdict r ≡ done tt → Value r
 passed-is (done x) e = record { value = x; is = refl }
-passed-is (refusal number place) e = done-not e refl
+passed-is (refusal number position) e = done-not e refl
 
-pub refused-is : {A : Type 0} (r : Result A) (number place : ℕ) → verdict r ≡ refusal number place → r ≡ refusal number place
-refused-is (done x) number place e = done-not refl e
-refused-is (refusal n p) number place e = cc
+pub refused-is : {A : Type 0} (r : Result A) (number position : ℕ) → verdict r ≡ refusal number position → r ≡ refusal number position
+refused-is (done x) number position e = done-not refl e
+refused-is (refusal n p) number position e = cc
 
 -- two tests that hold together
 pub both-held : (a b : Bool) → (a && b) ≡ true → (a ≡ true) × (b ≡ true)
@@ -136,7 +136,7 @@ module _ {A : Type 0} (f : ℕ → Result A) where
       let i = each-inv n k xs e in
       ap length (i .both) ∙ ap suc (each-length n (suc k) (i .tail) (i .later))
 
-  -- each reading's value stands at its place
+  -- each reading's value stands at its position
   pub record Found (m k : ℕ) (xs : List A) : Type 0 where
     pub value : A
     pub there : nth xs m ≡ some value
@@ -181,21 +181,21 @@ module _ {A : Type 0} (f : ℕ → Result A) where
   unfolding each
   check-passed n k e = byResult (f k)
       (λ x h. ap verdict (then-done _ h) ∙ same (each f n (suc k)) x)
-      (λ number place h. done-not e (ap verdict h))
+      (λ number position h. done-not e (ap verdict h))
     where
       same : (r : Result (List A)) (x : A) → verdict (andThen r (λ xs. done (x ∷ xs))) ≡ verdict r
       same (done xs) x = refl
-      same (refusal number place) x = refl
+      same (refusal number position) x = refl
 
-  pub check-refused : (n k number place : ℕ) → verdict (f k) ≡ refusal number place → verdict (each f (suc n) k) ≡ refusal number place
+  pub check-refused : (n k number position : ℕ) → verdict (f k) ≡ refusal number position → verdict (each f (suc n) k) ≡ refusal number position
   unfolding each
-  check-refused n k number place e = byResult (f k)
+  check-refused n k number position e = byResult (f k)
       (λ x h. done-not (ap verdict h) e)
       (λ c q h. ap verdict (then-refused _ h) ∙ sym (ap verdict h) ∙ e)
 
 -- so many of the readings less, from further on, give the rest of the values
-pub each-behind : {A : Type 0} (f : ℕ → Result A) (n m k : ℕ) (xs : List A) → each f n k ≡ done xs → m ≤ n → each f (n - m) (k + m) ≡ done (drop m xs)
-each-behind f n m k xs e h =
+pub each-after : {A : Type 0} (f : ℕ → Result A) (n m k : ℕ) (xs : List A) → each f n k ≡ done xs → m ≤ n → each f (n - m) (k + m) ≡ done (drop m xs)
+each-after f n m k xs e h =
     let long : length (drop m xs) ≡ n - m = length-drop m xs ∙ ap (λ l. l - m) (each-length f n k xs e) in
     each-part f n m (n - m) k xs e (omega arith) ∙ ap done (take-all (n - m) (drop m xs) (omega arith))
 
@@ -209,10 +209,10 @@ module _ {A : Type 0} (f : ℕ → Result A) (all : Result (Unit {0})) (end k : 
       let next : end - k ≡ suc (end - (k + 1)) = omega arith in
       record { left = p .left ∙ ap (λ n. verdict (each f n k)) next ∙ check-passed f (end - (k + 1)) k e ∙ ap (λ m. verdict (each f (end - (k + 1)) m)) (sym (add-one k)) }
 
-  pub pass-refused : (number place : ℕ) → k < end → Passing f all end k → verdict (f k) ≡ refusal number place → refusal number place ≡ all
-  pass-refused number place more p e =
+  pub pass-refused : (number position : ℕ) → k < end → Passing f all end k → verdict (f k) ≡ refusal number position → refusal number position ≡ all
+  pass-refused number position more p e =
       let next : end - k ≡ suc (end - (k + 1)) = omega arith in
-      sym (p .left ∙ ap (λ n. verdict (each f n k)) next ∙ check-refused f (end - (k + 1)) k number place e)
+      sym (p .left ∙ ap (λ n. verdict (each f n k)) next ∙ check-refused f (end - (k + 1)) k number position e)
 
   pub pass-all : end ≤ k → Passing f all end k → done tt ≡ all
   pass-all over p =

@@ -25,21 +25,21 @@ use Rattle.formats.proofs.Records.{length-flat, ranged-at, flat-bytes, 
 use Rattle.formats.proofs.Programs.{some-record, some-nodes, length-nodes, length-records, every-left, every-right, nodes-in-range, records-fit}
 use Rattle.formats.proofs.Prefix.{recordsOfAll, exprs-prefix, exprs-inv}
 
--- ---- records that are held one behind the other
+-- ---- records that are held one after the other
 
 -- flat records s hold these records, the first of them with number k
 data Holds (s : List ℕ) : ℕ → List Record → Type 0 where
   no-more : {k : ℕ} → Holds s k []
   and-more : {k : ℕ} {r : Record} {rs : List Record} → recordAt s k ≡ r → Holds s (suc k) rs → Holds s k (r ∷ rs)
 
--- the place goes by its number
-holds-place : {s : List ℕ} {rs : List Record} {k j : ℕ} → k ≡ j → Holds s k rs → Holds s j rs
-holds-place {s} {rs} e h = subst (λ (i : ℕ). Holds s i rs) e h
+-- the position goes by its number
+holds-position : {s : List ℕ} {rs : List Record} {k j : ℕ} → k ≡ j → Holds s k rs → Holds s j rs
+holds-position {s} {rs} e h = subst (λ (i : ℕ). Holds s i rs) e h
 
--- joined records are held one behind the other ..
+-- joined records are held one after the other ..
 holds-append : {s : List ℕ} {us vs : List Record} {k : ℕ} → Holds s k us → Holds s (k + length us) vs → Holds s k (us ++ vs)
-holds-append no-more h = holds-place (add-zero _) h
-holds-append (and-more is more) h = and-more is (holds-append more (holds-place (add-suc _ _ ∙ sym (suc-add _ _)) h))
+holds-append no-more h = holds-position (add-zero _) h
+holds-append (and-more is more) h = and-more is (holds-append more (holds-position (add-suc _ _ ∙ sym (suc-add _ _)) h))
 
 -- .. and come apart again
 holds-left : {s : List ℕ} {k : ℕ} (us vs : List Record) → Holds s k (us ++ vs) → Holds s k us
@@ -47,8 +47,8 @@ holds-left [] vs h = no-more
 holds-left (u ∷ us) vs (and-more is more) = and-more is (holds-left us vs more)
 
 holds-right : {s : List ℕ} {k : ℕ} (us vs : List Record) → Holds s k (us ++ vs) → Holds s (k + length us) vs
-holds-right [] vs h = holds-place (sym (add-zero _)) h
-holds-right (u ∷ us) vs (and-more is more) = holds-place (suc-add _ _ ∙ sym (add-suc _ _)) (holds-right us vs more)
+holds-right [] vs h = holds-position (sym (add-zero _)) h
+holds-right (u ∷ us) vs (and-more is more) = holds-position (suc-add _ _ ∙ sym (add-suc _ _)) (holds-right us vs more)
 
 -- records are held where each is read at its number
 holds-nth : (s : List ℕ) (k : ℕ) (rs : List Record) → ((m : ℕ) (r : Record) → nth rs m ≡ some r → recordAt s (k + m) ≡ r) → Holds s k rs
@@ -186,7 +186,7 @@ counts-fit edition s (suc n) j gs bs e =
 pub sums-fit : (edition : ℕ) (s : List ℕ) (n : ℕ) (gs : List Signature) → Bytes s → each (functionAt edition s) n 0 ≡ done gs → total gs ≤ 65535 * n
 sums-fit edition s n gs bs e = counts-fit edition s n 0 gs bs e
 
--- the number of a sort tells the sort
+-- the number of a sort reports the sort
 sort-of-own : (edition : ℕ) (sort : Sort) → nth (sorts edition) (sortNumber sort) ≡ some sort
 unfolding sorts nth sortNumber
 sort-of-own edition numberValued = refl
@@ -483,7 +483,7 @@ module _ (program : Program) (lawful : Lawful program) where
       let s = flatOf program in
       let fs = program .functions in
       let gs = signatures program in
-      let behind = holds-right (map signatureRecord gs) (map fieldsOf (nodes fs)) more in
+      let after = holds-right (map signatureRecord gs) (map fieldsOf (nodes fs)) more in
       let ranged : Every (InRange (length fs)) (nodes fs) = rw (length-map fs signatureOf) at (nodes-in-range gs 0 fs (lawful .functions)) in
       record {
         header = record {
@@ -496,7 +496,7 @@ module _ (program : Program) (lawful : Lawful program) where
           whole = lawful-length;
         };
         functions = held-functions s gs 0 fs (lawful .functions) (holds-left (map signatureRecord gs) (map fieldsOf (nodes fs)) more);
-        kinds = held-nodes (length fs) s (suc (length fs)) (nodes fs) ranged (holds-place (omega (arith, length-signatures program)) behind);
+        kinds = held-nodes (length fs) s (suc (length fs)) (nodes fs) ranged (holds-position (omega (arith, length-signatures program)) after);
         applied = bodies-applied gs 0 fs (lawful .functions);
       }
 
@@ -518,8 +518,8 @@ module _ (r : List ℕ) (program : Program) (bs : Bytes r) (e : readProgram r �
   held-own : Holds r 0 (recordsOf program)
   unfolding recordsOf
   held-own =
-      let place : suc (length (program .functions)) ≡ 1 + length (map signatureRecord (signatures program)) = omega (arith, length-signatures program) in
-      and-more (sym (known .header .own)) (holds-append (functions-held r 0 (signatures program) (known .functions)) (holds-place place held-kinds))
+      let position : suc (length (program .functions)) ≡ 1 + length (map signatureRecord (signatures program)) = omega (arith, length-signatures program) in
+      and-more (sym (known .header .own)) (holds-append (functions-held r 0 (signatures program) (known .functions)) (holds-position position held-kinds))
 
   -- the program that was read is lawful
   read-lawful : Lawful program
@@ -544,6 +544,6 @@ module _ (r : List ℕ) (program : Program) (bs : Bytes r) (e : readProgram r �
     lawful = read-lawful;
   }
 
-  -- the nodes stand behind the header and the function records
+  -- the nodes stand after the header and the function records
   pub nodes-stand : Stands r (suc (length (program .functions))) (nodes (program .functions))
   nodes-stand = holds-stands r (suc (length (program .functions))) (nodes (program .functions)) held-kinds

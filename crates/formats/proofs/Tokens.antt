@@ -1,5 +1,5 @@
--- Laws of trees, tokens and the reading of a tree. A reading is told by its tag: `look` says what is known where each tag was found, and a law
--- for each tag says what the reading then is. With these, a tree that stands at a place is read there (`reads-at`), and a tree that is read
+-- Laws of trees, tokens and the reading of a tree. A reading is reported by its tag: `look` says what is known where each tag was found, and a law
+-- for each tag says what the reading then is. With these, a tree that stands at a position is read there (`reads-at`), and a tree that is read
 -- stands there (`stands`), each by recursion on the room.
 use Prim.Native.Nat.{ℕ, zero, suc, _+_, _*_, _-_, _≤_, _<_, max, _^_}
 use mathlib.Core.Bool.{Bool, true, false}
@@ -12,11 +12,11 @@ use borrow.Author.Tests.{lt-ltb, le-ltb, le-leb, lt-leb, eq-eqb, ne-eqb, ltb-tru
 use lib.Dec.{leb, ltb, eqb}
 use lib.ListN.{length, getD, take, drop, length-append}
 use Rattle.formats.specs.Numbers.{Bytes, bytesOf, numberOf, numberAt}
-use Rattle.formats.specs.Places.{Lies, one-more}
+use Rattle.formats.specs.Buffers.{Lies, one-more}
 use Rattle.formats.specs.Refusals.{inputEnded, notATag, tooDeep}
-use Rattle.formats.specs.Tokens.{Tree, leaf, node, Labelled, tips, depth, leafTag, nodeTag, labelBytes, tokens, Tag, ended, aLeaf, aNode, other, tagOf, tagAt, labelAt, partsAt, byTag, treeAt}
+use Rattle.formats.specs.Tokens.{Tree, leaf, node, Labelled, tips, depth, leafTag, nodeTag, labelBytes, tokens, Tag, noByte, aLeaf, aNode, other, tagOf, tagAt, labelAt, branchesAt, treeByTag, treeAt}
 use Rattle.formats.proofs.Numbers.{length-bytesOf, number-bytesOf, numberAt-whole, numberAt-lt, bytesOf-numberAt}
-use Rattle.formats.proofs.Places.{lies-left, lies-right, lies-part, lies-taken, lies-append, lies-within}
+use Rattle.formats.proofs.Buffers.{lies-left, lies-right, lies-part, lies-taken, lies-append, lies-within}
 use Rattle.formats.specs.Results.{done, refusal}
 use Rattle.formats.proofs.Results.{Outcome, gave, stopped, outcome, done-not}
 
@@ -40,7 +40,7 @@ joined-tokens output l r =
 
 -- what is known where a tag was found
 pub data Look (s : List ℕ) (p : ℕ) : Tag → Type 0 where
-  past : length s ≤ p → Look s p ended
+  past : length s ≤ p → Look s p noByte
   at-leaf : p < length s → getD s p 0 ≡ leafTag → Look s p aLeaf
   at-node : p < length s → getD s p 0 ≡ nodeTag → Look s p aNode
   at-other : p < length s → getD s p 0 ≢ leafTag → getD s p 0 ≢ nodeTag → Look s p other
@@ -57,7 +57,7 @@ look s p = inside (ltb p (length s)) refl
     which true e there = at-leaf there (eqb-true _ _ e)
     which false e there = second (eqb (getD s p 0) nodeTag) refl there (eqb-false _ _ e)
 
-    inside : (b : Bool) → ltb p (length s) ≡ b → Look s p (elim b [ true ↦ tagOf (getD s p 0) | false ↦ ended ])
+    inside : (b : Bool) → ltb p (length s) ≡ b → Look s p (elim b [ true ↦ tagOf (getD s p 0) | false ↦ noByte ])
     inside true e = which (eqb (getD s p 0) leafTag) refl (ltb-true _ _ e)
     inside false e = past (ltb-false _ _ e)
 
@@ -72,28 +72,28 @@ tag-is {s} {p} (at-node there is) =
 tag-is (at-other there nl nn) = simp (tagAt, tagOf, lt-ltb _ _ there, ne-eqb _ _ nl, ne-eqb _ _ nn)
 
 -- what the reading is, by the tag
-pub read-ended : (room : ℕ) {s : List ℕ} {p : ℕ} → Look s p ended → treeAt room s p ≡ refusal inputEnded p
-unfolding treeAt byTag
-read-ended zero k = simp (treeAt, byTag, tag-is k)
-read-ended (suc room) k = simp (treeAt, byTag, tag-is k)
+pub read-ended : (room : ℕ) {s : List ℕ} {p : ℕ} → Look s p noByte → treeAt room s p ≡ refusal inputEnded p
+unfolding treeAt treeByTag
+read-ended zero k = simp (treeAt, treeByTag, tag-is k)
+read-ended (suc room) k = simp (treeAt, treeByTag, tag-is k)
 
 pub read-leaf : (room : ℕ) {s : List ℕ} {p : ℕ} → Look s p aLeaf → treeAt room s p ≡ labelAt s (suc p)
-unfolding treeAt byTag
-read-leaf zero k = simp (treeAt, byTag, tag-is k)
-read-leaf (suc room) k = simp (treeAt, byTag, tag-is k)
+unfolding treeAt treeByTag
+read-leaf zero k = simp (treeAt, treeByTag, tag-is k)
+read-leaf (suc room) k = simp (treeAt, treeByTag, tag-is k)
 
 pub read-other : (room : ℕ) {s : List ℕ} {p : ℕ} → Look s p other → treeAt room s p ≡ refusal notATag p
-unfolding treeAt byTag
-read-other zero k = simp (treeAt, byTag, tag-is k)
-read-other (suc room) k = simp (treeAt, byTag, tag-is k)
+unfolding treeAt treeByTag
+read-other zero k = simp (treeAt, treeByTag, tag-is k)
+read-other (suc room) k = simp (treeAt, treeByTag, tag-is k)
 
 pub read-deep : {s : List ℕ} {p : ℕ} → Look s p aNode → treeAt zero s p ≡ refusal tooDeep p
-unfolding treeAt byTag
-read-deep k = simp (treeAt, byTag, tag-is k)
+unfolding treeAt treeByTag
+read-deep k = simp (treeAt, treeByTag, tag-is k)
 
-read-parts : (room : ℕ) {s : List ℕ} {p : ℕ} → Look s p aNode → treeAt (suc room) s p ≡ partsAt (λ o. treeAt room s o) (suc p)
-unfolding treeAt byTag
-read-parts room k = simp (treeAt, byTag, tag-is k)
+read-parts : (room : ℕ) {s : List ℕ} {p : ℕ} → Look s p aNode → treeAt (suc room) s p ≡ branchesAt (λ o. treeAt room s o) (suc p)
+unfolding treeAt treeByTag
+read-parts room k = simp (treeAt, treeByTag, tag-is k)
 
 -- a label that is whole, and one that is not
 pub label-whole : (s : List ℕ) (p : ℕ) → p + labelBytes ≤ length s → labelAt s p ≡ done (leaf (numberAt labelBytes s p))
@@ -107,25 +107,25 @@ label-cut s p h = simp (labelAt, lt-leb _ _ h)
 -- a node's reading, by those of its parts
 module _ (room : ℕ) {s : List ℕ} {p : ℕ} (k : Look s p aNode) where
   pub left-refused : {n q : ℕ} → treeAt room s (suc p) ≡ refusal n q → treeAt (suc room) s p ≡ refusal n q
-  unfolding partsAt
-  left-refused e = rw (read-parts room k) (simp (partsAt, e))
+  unfolding branchesAt
+  left-refused e = rw (read-parts room k) (simp (branchesAt, e))
 
   pub right-refused : {l : Tree} {n q : ℕ} → treeAt room s (suc p) ≡ done l → treeAt room s (suc p + length (tokens l)) ≡ refusal n q → treeAt (suc room) s p ≡ refusal n q
-  unfolding partsAt
-  right-refused e f = rw (read-parts room k) (simp (partsAt, e, f))
+  unfolding branchesAt
+  right-refused e f = rw (read-parts room k) (simp (branchesAt, e, f))
 
   pub read-node : {l r : Tree} → treeAt room s (suc p) ≡ done l → treeAt room s (suc p + length (tokens l)) ≡ done r → treeAt (suc room) s p ≡ done (node l r)
-  unfolding partsAt
-  read-node e f = rw (read-parts room k) (simp (partsAt, e, f))
+  unfolding branchesAt
+  read-node e f = rw (read-parts room k) (simp (branchesAt, e, f))
 
--- a label that stands at a place is read there
+-- a label that stands at a position is read there
 label-read : (s : List ℕ) (p x : ℕ) → x < 2 ^ 32 → p ≤ length s → Lies s p (bytesOf labelBytes x) → labelAt s p ≡ done (leaf x)
 label-read s p x fits h label =
     let whole : p + labelBytes ≤ length s = rw length-bytesOf at (lies-within label h) in
     let is : take labelBytes (drop p s) ≡ bytesOf labelBytes x = rw length-bytesOf at (lies-part label) in
     label-whole s p whole ∙ ap (λ (n : ℕ). done (leaf n)) (numberAt-whole labelBytes s p whole ∙ ap numberOf is ∙ number-bytesOf labelBytes x fits)
 
--- a tree that stands at a place, with room for its depth, is read there
+-- a tree that stands at a position, with room for its depth, is read there
 pub reads-at : (t : Tree) (room : ℕ) (s : List ℕ) (p : ℕ) → Labelled t → depth t ≤ room → Lies s p (tokens t) → treeAt room s p ≡ done t
 unfolding depth tokens
 reads-at (leaf x) room s p fits h (one-more there is more) =
@@ -136,7 +136,7 @@ reads-at (node l r) (suc room) s p fits h (one-more there is more) =
     (reads-at l room s (suc p) (fits .0) (omega arith) (lies-left (tokens l) (tokens r) more))
     (reads-at r room s (suc p + length (tokens l)) (fits .1) (omega arith) (lies-right (tokens l) (tokens r) more))
 
--- what is known of a tree that was read at a place with so much room
+-- what is known of a tree that was read at a position with so much room
 pub record Stands (room : ℕ) (s : List ℕ) (p : ℕ) (t : Tree) : Type 0 where
   pub lies : Lies s p (tokens t)
   pub labelled : Labelled t

@@ -27,7 +27,7 @@ wordSum-first [] h = absurd (omega arith)
 wordSum-first (low ∷ []) h = absurd (omega arith)
 wordSum-first (low ∷ (high ∷ s)) h = refl
 
--- the words from a place on are the word there and those behind it
+-- the words from a position on are the word there and those after it
 pub wordSum-step : (s : List ℕ) (k : ℕ) → 2 * k + 2 ≤ length s → wordSum (drop (2 * k) s) ≡ numberAt 2 s (2 * k) + wordSum (drop (2 * k + 2) s)
 wordSum-step s k h =
     wordSum-first (drop (2 * k) s) (omega (arith, length-drop (2 * k) s))
@@ -38,9 +38,9 @@ wordSum-one : (w : ℕ) → w < wordLimit → wordSum (bytesOf 2 w) ≡ w
 unfolding wordSum bytesOf
 wordSum-one w h = add-zero (numberOf (bytesOf 2 w)) ∙ number-bytesOf 2 w h
 
--- a word behind whole words adds itself
-wordSum-behind : (s : List ℕ) (n w : ℕ) → length s ≡ 2 * n → w < wordLimit → wordSum (s ++ bytesOf 2 w) ≡ wordSum s + w
-wordSum-behind s n w e h = wordSum-append s (bytesOf 2 w) n e ∙ ap (λ (m : ℕ). wordSum s + m) (wordSum-one w h)
+-- a word after whole words adds itself
+wordSum-after : (s : List ℕ) (n w : ℕ) → length s ≡ 2 * n → w < wordLimit → wordSum (s ++ bytesOf 2 w) ≡ wordSum s + w
+wordSum-after s n w e h = wordSum-append s (bytesOf 2 w) n e ∙ ap (λ (m : ℕ). wordSum s + m) (wordSum-one w h)
 
 -- the check word is a word
 pub checkWord-lt : (s : List ℕ) → checkWord s < wordLimit
@@ -50,9 +50,9 @@ checkWord-lt s = omega arith
 -- it makes the sum right ..
 pub checkWord-right : (s : List ℕ) (n : ℕ) → length s ≡ 2 * n → wordSum (s ++ bytesOf 2 (checkWord s)) % wordLimit ≡ checkSum
 unfolding checkWord
-checkWord-right s n e = rw (wordSum-behind s n (checkWord s) e (checkWord-lt s)) (omega arith)
+checkWord-right s n e = rw (wordSum-after s n (checkWord s) e (checkWord-lt s)) (omega arith)
 
 -- .. and no other word does
 pub checkWord-only : (s : List ℕ) (n w : ℕ) → length s ≡ 2 * n → w < wordLimit → wordSum (s ++ bytesOf 2 w) % wordLimit ≡ checkSum → w ≡ checkWord s
 unfolding checkWord
-checkWord-only s n w e h right = omega (arith, wordSum-behind s n w e h)
+checkWord-only s n w e h right = omega (arith, wordSum-after s n w e h)

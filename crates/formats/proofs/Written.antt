@@ -1,5 +1,5 @@
--- Laws of a write into a lent buffer. Where vs fits, the buffer is a front, what stood before the place and vs, and behind it what stood behind
--- vs. So the length is kept, and each byte is read from the part that holds it. Two writes, one right behind the other, only make the front
+-- Laws of a write into a lent buffer. Where vs fits, the buffer is a front, what stood before the position and vs, and after it what stood after
+-- vs. So the length is kept, and each byte is read from the part that holds it. Two writes, one right after the other, only make the front
 -- longer: so a write is made of its bytes, set one after the other.
 use Prim.Native.Nat.{ℕ, suc, _+_, _-_, _≤_, _<_}
 use mathlib.Core.List.{List, [], _∷_, _++_, append-assoc}
@@ -31,7 +31,7 @@ module _ (s : List ℕ) (p : ℕ) (vs : List ℕ) (fits : p + length vs ≤ leng
   as-front : written s p vs ≡ (take p s ++ vs) ++ drop (p + length vs) s
   as-front = rw append-assoc (written-fits s p vs fits)
 
-  -- before the place stand as many bytes as it says
+  -- before the position stand as many bytes as it says
   length-before : length (take p s) ≡ p
   length-before = length-take-le p s (omega arith)
 
@@ -39,12 +39,12 @@ module _ (s : List ℕ) (p : ℕ) (vs : List ℕ) (fits : p + length vs ≤ leng
   length-front : length (take p s ++ vs) ≡ p + length vs
   length-front = simp (length-append, length-before)
 
-  -- so it is what a part of that length shows, and behind it all is as it was
+  -- so it is what a part of that length shows, and after it all is as it was
   pub front-written : take (p + length vs) (written s p vs) ≡ take p s ++ vs
   front-written = ap (take (p + length vs)) as-front ∙ take-at (take p s ++ vs) (drop (p + length vs) s) (p + length vs) length-front
 
-  pub behind-written : drop (p + length vs) (written s p vs) ≡ drop (p + length vs) s
-  behind-written = ap (drop (p + length vs)) as-front ∙ drop-at (take p s ++ vs) (drop (p + length vs) s) (p + length vs) length-front
+  pub after-written : drop (p + length vs) (written s p vs) ≡ drop (p + length vs) s
+  after-written = ap (drop (p + length vs)) as-front ∙ drop-at (take p s ++ vs) (drop (p + length vs) s) (p + length vs) length-front
 
   -- the length is kept
   length-fits : length (written s p vs) ≡ length s
@@ -54,22 +54,22 @@ module _ (s : List ℕ) (p : ℕ) (vs : List ℕ) (fits : p + length vs ≤ leng
   in-front : (i : ℕ) → i < p + length vs → getD (written s p vs) i 0 ≡ getD (take p s ++ vs) i 0
   in-front i h = rw as-front (List·getD-append (take p s ++ vs) (drop (p + length vs) s) 0 i (rw length-front h))
 
-  -- vs stands behind what was before the place
+  -- vs stands after what was before the position
   there-fits : (i : ℕ) → i < length vs → getD (written s p vs) (p + i) 0 ≡ getD vs i 0
   there-fits i h = in-front (p + i) (omega arith) ∙ (rw length-before at (getD-append-add (take p s) vs i 0))
 
-  -- what was before the place is as it was
+  -- what was before the position is as it was
   before-fits : (i : ℕ) → i < p → getD (written s p vs) i 0 ≡ getD s i 0
   before-fits i h = in-front i (omega arith) ∙ List·getD-append (take p s) vs 0 i (rw length-before h) ∙ getD-take p s i 0 h
 
-  -- a byte behind the front is read from the rest, which is as it was
-  behind-fits : (i : ℕ) → getD (written s p vs) (p + length vs + i) 0 ≡ getD s (p + length vs + i) 0
-  behind-fits i =
+  -- a byte after the front is read from the rest, which is as it was
+  after-fits : (i : ℕ) → getD (written s p vs) (p + length vs + i) 0 ≡ getD s (p + length vs + i) 0
+  after-fits i =
       rw as-front ((rw length-front at (getD-append-add (take p s ++ vs) (drop (p + length vs) s) i 0)) ∙ getD-drop (p + length vs) s i 0)
 
   -- so every byte but those of vs is as it was
   untouched-fits : (i : ℕ) → (i < p) ⊎ (p + length vs ≤ i) → getD (written s p vs) i 0 ≡ getD s i 0
-  untouched-fits i = ⊎-elim (before-fits i) (λ (h : p + length vs ≤ i). rw (add-sub-of-le h) at (behind-fits (i - (p + length vs))))
+  untouched-fits i = ⊎-elim (before-fits i) (λ (h : p + length vs ≤ i). rw (add-sub-of-le h) at (after-fits (i - (p + length vs))))
 
 -- vs fits, or it does not
 by-room : {A : Type 0} (s : List ℕ) (p : ℕ) (vs : List ℕ) → (p + length vs ≤ length s → A) → (length s < p + length vs → A) → A
@@ -88,13 +88,13 @@ wrote s p vs = record {
 pub written-none : (s : List ℕ) (p : ℕ) → written s p [] ≡ s
 written-none s p = by-room s p [] (λ fits. written-fits s p [] fits ∙ (rw add-zero (take-append-drop p s))) (written-short s p [])
 
--- to write behind a front leaves the front
-behind-front : (f d ws : List ℕ) → length ws ≤ length d → written (f ++ d) (length f) ws ≡ f ++ (ws ++ drop (length ws) d)
-behind-front f d ws fits =
+-- to write after a front leaves the front
+after-front : (f d ws : List ℕ) → length ws ≤ length d → written (f ++ d) (length f) ws ≡ f ++ (ws ++ drop (length ws) d)
+after-front f d ws fits =
     let room : length f + length ws ≤ length (f ++ d) = omega (arith, length-append f d) in
     written-fits (f ++ d) (length f) ws room ∙ simp (take-append-seam, drop-append-add)
 
--- to write vs, and ws right behind it, is to write both at once
+-- to write vs, and ws right after it, is to write both at once
 pub written-append : (s : List ℕ) (p : ℕ) (vs ws : List ℕ) → p + length (vs ++ ws) ≤ length s
     → written (written s p vs) (p + length vs) ws ≡ written s p (vs ++ ws)
 written-append s p vs ws fits =
@@ -102,7 +102,7 @@ written-append s p vs ws fits =
     let first : p + length vs ≤ length s = omega arith in
     let rest : length ws ≤ length (drop (p + length vs) s) = omega (arith, length-drop (p + length vs) s) in
     rw (as-front s p vs first)
-    ((rw (length-front s p vs first) at (behind-front (take p s ++ vs) (drop (p + length vs) s) ws rest))
+    ((rw (length-front s p vs first) at (after-front (take p s ++ vs) (drop (p + length vs) s) ws rest))
     ∙ simp (written-fits s p (vs ++ ws) fits, drop-drop, append-assoc, length-append, add-assoc))
 
 -- to write ws, and vs right before it, is to write both at once
@@ -111,18 +111,18 @@ pub written-front : (s : List ℕ) (p : ℕ) (vs ws : List ℕ) → p + length (
 written-front s p vs ws fits =
     let q = p + length vs in
     let both = length-append vs ws in
-    let behind = ws ++ drop (q + length ws) s in
-    let first : written s q ws ≡ take q s ++ behind = written-fits s q ws (omega arith) in
+    let after = ws ++ drop (q + length ws) s in
+    let first : written s q ws ≡ take q s ++ after = written-fits s q ws (omega arith) in
     let long : length (written s q ws) ≡ length s = wrote s q ws .same-length in
     let short : p ≤ length (take q s) = omega (arith, length-take-le q s (omega arith)) in
-    let front : take p (take q s ++ behind) ≡ take p s =
-    take-append-le p (take q s) behind short ∙ sym (take-append-le p (take q s) (drop q s) short) ∙ ap (take p) (take-append-drop q s) in
-    let rest : drop q (take q s ++ behind) ≡ behind = drop-at (take q s) behind q (length-take-le q s (omega arith)) in
-    let place : q + length ws ≡ p + length (vs ++ ws) = omega arith in
+    let front : take p (take q s ++ after) ≡ take p s =
+    take-append-le p (take q s) after short ∙ sym (take-append-le p (take q s) (drop q s) short) ∙ ap (take p) (take-append-drop q s) in
+    let rest : drop q (take q s ++ after) ≡ after = drop-at (take q s) after q (length-take-le q s (omega arith)) in
+    let position : q + length ws ≡ p + length (vs ++ ws) = omega arith in
     written-fits (written s q ws) p vs (omega arith)
     ∙ ap (λ (l : List ℕ). take p l ++ (vs ++ drop q l)) first
     ∙ ap₂ (λ (x y : List ℕ). x ++ (vs ++ y)) front rest
-    ∙ ap (λ (n : ℕ). take p s ++ (vs ++ (ws ++ drop n s))) place
+    ∙ ap (λ (n : ℕ). take p s ++ (vs ++ (ws ++ drop n s))) position
     ∙ ap (λ (l : List ℕ). take p s ++ l) (sym (append-assoc vs ws _))
     ∙ sym (written-fits s p (vs ++ ws) fits)
 

@@ -31,18 +31,18 @@ abbrev pub mostBytes : ℕ
 mostBytes = partBytes * mostBlocks
 
 -- 01, Blocks: "504–505: block number from 0. 506–507: records used .. 508–509: number of blocks."
-abbrev pub numberPlace : ℕ
-numberPlace = 504
+abbrev pub numberOffset : ℕ
+numberOffset = 504
 
-abbrev pub usedPlace : ℕ
-usedPlace = 506
+abbrev pub usedOffset : ℕ
+usedOffset = 506
 
-abbrev pub blocksPlace : ℕ
-blocksPlace = 508
+abbrev pub blocksOffset : ℕ
+blocksOffset = 508
 
 -- 01, Blocks: "510–511: check".
-abbrev pub checkPlace : ℕ
-checkPlace = 510
+abbrev pub checkOffset : ℕ
+checkOffset = 510
 
 -- The sum of 16-bit words, low byte first. (A last byte alone is no word.)
 unfoldable pub wordSum : List ℕ → ℕ
@@ -103,10 +103,10 @@ usedFits blocks j used = elim (ltb (suc j) blocks) [ true ↦ eqb used blockReco
 -- The fields other than the check, and the unused records, of the block with number j of so many.
 unfoldable pub fieldsFit : ℕ → ℕ → List ℕ → Bool
 fieldsFit blocks j block =
-    eqb (numberAt 2 block numberPlace) j
-    && (usedFits blocks j (numberAt 2 block usedPlace)
-    && (eqb (numberAt 2 block blocksPlace) blocks
-    && zeros (drop (recordBytes * numberAt 2 block usedPlace) (take partBytes block))))
+    eqb (numberAt 2 block numberOffset) j
+    && (usedFits blocks j (numberAt 2 block usedOffset)
+    && (eqb (numberAt 2 block blocksOffset) blocks
+    && zeros (drop (recordBytes * numberAt 2 block usedOffset) (take partBytes block))))
 
 -- 01, The order of the tests: "2 check, then 3 other block fields or unused records", at the block.
 -- The records that it uses.
@@ -114,7 +114,7 @@ unfoldable pub usedOf : ℕ → ℕ → List ℕ → Result (List ℕ)
 usedOf blocks j block =
     elim (eqb (wordSum block % wordLimit) checkSum) [
       | false ↦ refusal blockCheck j
-      | true ↦ check (fieldsFit blocks j block) blockField j (take (recordBytes * numberAt 2 block usedPlace) block)
+      | true ↦ check (fieldsFit blocks j block) blockField j (take (recordBytes * numberAt 2 block usedOffset) block)
     ]
 
 unfoldable pub blockAt : ℕ → List ℕ → ℕ → Result (List ℕ)
@@ -124,14 +124,14 @@ blockAt blocks s j = usedOf blocks j (take blockBytes (drop (blockBytes * j) s))
 unfoldable pub blockRow : ℕ → List ℕ → Result (List (List ℕ))
 blockRow blocks s = each (blockAt blocks s) blocks 0
 
--- The parts one behind the other.
-unfoldable pub joined : List (List ℕ) → List ℕ
-joined [] = []
-joined (part ∷ parts) = part ++ joined parts
+-- The parts one after the other.
+unfoldable pub concatenated : List (List ℕ) → List ℕ
+concatenated [] = []
+concatenated (part ∷ parts) = part ++ concatenated parts
 
 -- The flat records of a file, or the first refusal of the block rows.
 unfoldable pub flatIn : List ℕ → Result (List ℕ)
-flatIn s = andThen (lengthRow s) (λ n. onValue joined (blockRow n s))
+flatIn s = andThen (lengthRow s) (λ n. onValue concatenated (blockRow n s))
 
 -- The program in a file.
 unfoldable pub programIn : List ℕ → Result Program
@@ -154,20 +154,20 @@ writeFile r = onValue (λ program. fileOf r) (readProgram r)
 
 -- 01, The table of refusals: "13 code, file or work buffer too short", at 0: the bytes, where the
 -- buffer has room for them.
-unfoldable pub within : ℕ → List ℕ → Result (List ℕ)
-within room bytes = check (leb (length bytes) room) spaceTooShort 0 bytes
+unfoldable pub inRoom : ℕ → List ℕ → Result (List ℕ)
+inRoom room bytes = check (leb (length bytes) room) spaceTooShort 0 bytes
 
 unfoldable pub programInto : ℕ → List ℕ → Result (List ℕ)
-programInto room r = andThen (programRecords r) (within room)
+programInto room r = andThen (programRecords r) (inRoom room)
 
 unfoldable pub readInto : ℕ → List ℕ → Result (List ℕ)
-readInto room s = andThen (readFile s) (within room)
+readInto room s = andThen (readFile s) (inRoom room)
 
 unfoldable pub writeInto : ℕ → List ℕ → Result (List ℕ)
-writeInto room r = andThen (writeFile r) (within room)
+writeInto room r = andThen (writeFile r) (inRoom room)
 
 -- What the lent buffer then holds. 01, What the lent buffers hold: "A refusal leaves every output
 -- buffer untouched".
 unfoldable pub lent : List ℕ → Result (List ℕ) → List ℕ
 lent before (done bytes) = written before 0 bytes
-lent before (refusal number place) = before
+lent before (refusal number position) = before

@@ -1,12 +1,11 @@
 -- The formats of 01, Tokens and of 01, Program file.
 pub mod Numbers
-pub mod Places
+pub mod Buffers
 pub mod Written
 pub mod Refusals
 pub mod Tokens
 pub mod Results
 pub mod Records
-pub mod CodeColumn
 pub mod Programs
 pub mod Rows
 pub mod Blocks
@@ -14,3 +13,4 @@ pub mod ProgramFiles
 pub mod Reader
 pub mod Characters
 pub mod Decimal
+pub mod Inner

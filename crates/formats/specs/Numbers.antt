@@ -21,7 +21,7 @@ unfoldable pub numberOf : List ℕ → ℕ
 numberOf [] = 0
 numberOf (b ∷ s) = b + 256 * numberOf s
 
--- The number of that width at place p of s, or 0 where s does not hold it whole.
+-- The number of that width at offset p of s, or 0 where s does not hold it whole.
 unfoldable pub numberAt : ℕ → List ℕ → ℕ → ℕ
 numberAt width s p = elim (leb (p + width) (length s)) [ true ↦ numberOf (take width (drop p s)) | false ↦ 0 ]
 

@@ -65,7 +65,7 @@ pub record ProgramFiles : Type 0 where
   pub parses : (program : Program) → Lawful program → readProgram (flatOf program) ≡ done program
   -- .. and flattening undoes parsing.
   pub flattens : (r : List ℕ) (program : Program) → Bytes r → readProgram r ≡ done program → Flattened r program
-  -- The nodes stand behind the header and the function records, and the parts of an expression at their own records.
+  -- The nodes stand after the header and the function records, and the parts of an expression at their own records.
   pub nodes-stand : (r : List ℕ) (program : Program) → Bytes r → readProgram r ≡ done program
       → Stands r (suc (length (program .functions))) (nodes (program .functions))
   pub parts-stand : (r : List ℕ) (k : ℕ) (e : Expr) → Stands r k (prefix e) → Every (StandsPlaced r) (partsAt k e)

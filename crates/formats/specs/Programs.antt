@@ -49,25 +49,25 @@ pub record Placed : Type 0 where
   pub at-record : ℕ
   pub expr : Expr
 
--- An expression behind so many records.
-abbrev pub behind : ℕ → Expr → Placed
-behind r e = record { at-record = r; expr = e }
+-- An expression after so many records.
+abbrev pub placedAt : ℕ → Expr → Placed
+placedAt r e = record { at-record = r; expr = e }
 
 -- The arguments of a Call, from record r on.
 unfoldable pub argsAt : ℕ → Args → List Placed
 argsAt r noArgs = []
-argsAt r (arg x xs) = behind r x ∷ argsAt (r + size x) xs
+argsAt r (arg x xs) = placedAt r x ∷ argsAt (r + size x) xs
 
--- The parts of the expression at record r, each with its own record: the first right behind r, each other behind the one before it.
+-- The parts of the expression at record r, each with its own record: the first right after r, each other after the one before it.
 unfoldable pub partsAt : ℕ → Expr → List Placed
 partsAt r (const i) = []
 partsAt r (var a) = []
-partsAt r (add p q) = behind (suc r) p ∷ behind (suc r + size p) q ∷ []
-partsAt r (ifZero t z o) = behind (suc r) t ∷ behind (suc r + size t) z ∷ behind (suc r + size t + size z) o ∷ []
-partsAt r (letIn p body) = behind (suc r) p ∷ behind (suc r + size p) body ∷ []
-partsAt r (leafOf p) = behind (suc r) p ∷ []
-partsAt r (nodeOf p q) = behind (suc r) p ∷ behind (suc r + size p) q ∷ []
-partsAt r (caseOf a p q) = behind (suc r) p ∷ behind (suc r + size p) q ∷ []
+partsAt r (add p q) = placedAt (suc r) p ∷ placedAt (suc r + size p) q ∷ []
+partsAt r (ifZero t z o) = placedAt (suc r) t ∷ placedAt (suc r + size t) z ∷ placedAt (suc r + size t + size z) o ∷ []
+partsAt r (letIn p body) = placedAt (suc r) p ∷ placedAt (suc r + size p) body ∷ []
+partsAt r (leafOf p) = placedAt (suc r) p ∷ []
+partsAt r (nodeOf p q) = placedAt (suc r) p ∷ placedAt (suc r + size p) q ∷ []
+partsAt r (caseOf a p q) = placedAt (suc r) p ∷ placedAt (suc r + size p) q ∷ []
 partsAt r (call a b xs) = argsAt (suc r) xs
 
 -- How many arguments there are.

@@ -5,7 +5,7 @@ use mathlib.Core.Logic.{_≢_, _↔_}
 use mathlib.Core.Path.{_≡_}
 use lib.ListN.{length, getD, take}
 use Rattle.formats.specs.Numbers.{Bytes}
-use Rattle.formats.specs.Places.{Opens, Lies}
+use Rattle.formats.specs.Buffers.{Opens, Lies}
 use Rattle.formats.specs.Refusals.{inputEnded, notATag, tooDeep}
 use Rattle.formats.specs.Tokens.{Tree, Labelled, tips, depth, leafTag, nodeTag, labelBytes, mostDepth, tokens, firstTree}
 use Rattle.formats.specs.Results.{done, refusal}
@@ -20,8 +20,8 @@ pub record Gave (s : List ℕ) (t : Tree) : Type 0 where
   -- no other tree's tokens begin the buffer
   pub only : (u : Tree) → Labelled u → Opens (tokens u) s → u ≡ t
 
--- The tag of a part of the first tree is due at place p of s, under so many nodes: what stands before p is in order, and p is the next place
--- to look at. A left tree begins behind its node's tag, a right tree behind the left one.
+-- The tag of a part of the first tree is due at offset p of s, under so many nodes: what stands before p is in order, and p is the next place
+-- to look at. A left tree begins after its node's tag, a right tree after the left one.
 pub data Due (s : List ℕ) : ℕ → ℕ → Type 0 where
   first : Due s 0 0
   left : {p above : ℕ} → Due s p above → above < mostDepth → Lies s p (nodeTag ∷ []) → Due s (suc p) (suc above)
@@ -33,7 +33,7 @@ pub data Due (s : List ℕ) : ℕ → ℕ → Type 0 where
       → Lies s p (nodeTag ∷ tokens l)
       → Due s (suc p + length (tokens l)) (suc above)
 
--- The refusals of the row "tree reader", a rule for each condition: the number and the place, where all before the place is in order.
+-- The refusals of the row "tree reader", a rule for each condition: the number and the position, where all before the position is in order.
 pub data Refuses (s : List ℕ) : ℕ → ℕ → Type 0 where
   -- 15 at the start of a tag that is not there
   no-tag : {p above : ℕ} → Due s p above → p ≡ length s → Refuses s inputEnded p
@@ -76,7 +76,7 @@ pub record TreeReader : Type 0 where
   pub gives : (s : List ℕ) (t : Tree) → Bytes s → firstTree s ≡ done t → Gave s t
   -- A refusal means that no such tree begins the buffer.
   pub none : (s : List ℕ) (number p : ℕ) → firstTree s ≡ refusal number p → (t : Tree) → Labelled t → depth t ≤ mostDepth → Opens (tokens t) s → ⊥
-  -- The number and the place are those of the table's row.
+  -- The number and the position are those of the table's row.
   pub refuses : (s : List ℕ) (number p : ℕ) → Bytes s → (firstTree s ≡ refusal number p) ↔ Refuses s number p
   -- What each number means.
   pub ended : (s : List ℕ) (p : ℕ) → Bytes s → firstTree s ≡ refusal inputEnded p → Ended s

@@ -25,7 +25,7 @@ Ranged (fields x a b i) = (x < 256) × (a < 256) × (b < 2 ^ 16) × (i < 2 ^ 32)
 unfoldable pub bytesOfRecord : Record → List ℕ
 bytesOfRecord (fields x a b i) = x ∷ a ∷ (bytesOf 2 b ++ bytesOf 4 i)
 
--- Flat records: their bytes, one record behind the other.
+-- Flat records: their bytes, one record after the other.
 unfoldable pub flat : List Record → List ℕ
 flat [] = []
 flat (r ∷ rs) = bytesOfRecord r ++ flat rs
@@ -69,7 +69,7 @@ fieldsOf (Call a b) = fields 8 a b 0
 unfoldable pub kinds : ℕ → ℕ → ℕ → ℕ → List Kind
 kinds edition a b i = Const i ∷ Var a ∷ Add ∷ IfZero ∷ Let ∷ Leaf ∷ Node ∷ Case a ∷ Call a b ∷ []
 
--- The element at a place of a list, if there is one.
+-- The element at a position of a list, if there is one.
 unfoldable pub nth : {A : Type 0} → List A → ℕ → Option A
 nth [] k = none
 nth (x ∷ xs) zero = some x

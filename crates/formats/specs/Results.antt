@@ -1,4 +1,4 @@
--- What a reading or a check gives: a value, or a refusal with its number and its place.
+-- What a reading or a check gives: a value, or a refusal with its number and its position.
 use Prim.Native.Nat.{ℕ, zero, suc}
 use mathlib.Core.Bool.{Bool, true, false}
 use mathlib.Core.List.{List, [], _∷_}
@@ -10,12 +10,12 @@ pub data Result (A : Type 0) : Type 0 where
 -- A value goes on to what follows; a refusal stays.
 abbrev pub andThen : {A B : Type 0} → Result A → (A → Result B) → Result B
 andThen (done x) next = next x
-andThen (refusal number place) next = refusal number place
+andThen (refusal number position) next = refusal number position
 
 -- A value is changed; a refusal stays.
 abbrev pub onValue : {A B : Type 0} → (A → B) → Result A → Result B
 onValue f (done x) = done (f x)
-onValue f (refusal number place) = refusal number place
+onValue f (refusal number position) = refusal number position
 
 -- What a check says, whatever the value.
 abbrev pub verdict : {A : Type 0} → Result A → Result (Unit {0})
@@ -23,8 +23,8 @@ verdict r = onValue (λ x. tt) r
 
 -- The value where the test holds, else the refusal.
 abbrev pub check : {A : Type 0} → Bool → ℕ → ℕ → A → Result A
-check true number place x = done x
-check false number place x = refusal number place
+check true number position x = done x
+check false number position x = refusal number position
 
 -- One after the other, so many, the first of them k. The first refusal stops it.
 unfoldable pub each : {A : Type 0} → (ℕ → Result A) → ℕ → ℕ → Result (List A)

@@ -91,7 +91,7 @@ pop (e ∷ es) next = next e es
 -- So many expressions, as arguments, go on to what follows.
 unfoldable pub popArgs : ℕ → List Expr → (Args → List Expr → Option (List Expr)) → Option (List Expr)
 popArgs zero es next = next noArgs es
-popArgs (suc n) es next = pop es (λ x rest. popArgs n rest (λ xs behind. next (arg x xs) behind))
+popArgs (suc n) es next = pop es (λ x rest. popArgs n rest (λ xs after. next (arg x xs) after))
 
 -- A record in front of expressions takes its parts from them, and is one expression with these.
 unfoldable pub build : (ℕ → ℕ) → Kind → List Expr → Option (List Expr)
@@ -105,7 +105,7 @@ build arity Node es = pop es (λ p es′. pop es′ (λ q rest. some (nodeOf p q
 build arity (Case a) es = pop es (λ p es′. pop es′ (λ q rest. some (caseOf a p q ∷ rest)))
 build arity (Call a b) es = popArgs (arity b) es (λ xs rest. some (call a b xs ∷ rest))
 
--- The expressions that records are, one behind the other, found from the last record on; none where parts are missing.
+-- The expressions that records are, one after the other, found from the last record on; none where parts are missing.
 unfoldable pub exprsOf : (ℕ → ℕ) → List Kind → Option (List Expr)
 exprsOf arity [] = some []
 exprsOf arity (k ∷ ks) = elim (exprsOf arity ks) [ none ↦ none | some es ↦ build arity k es ]

@@ -51,30 +51,30 @@ tokens (node l r) = nodeTag ∷ (tokens l ++ tokens r)
 abbrev pub mostDepth : ℕ
 mostDepth = 1024
 
--- What stands at the place of a tag.
+-- What stands at the position of a tag.
 pub data Tag : Type 0 where
-  ended aLeaf aNode other : Tag
+  noByte aLeaf aNode other : Tag
 
 unfoldable pub tagOf : ℕ → Tag
 tagOf b = elim (eqb b leafTag) [ true ↦ aLeaf | false ↦ elim (eqb b nodeTag) [ true ↦ aNode | false ↦ other ] ]
 
 unfoldable pub tagAt : List ℕ → ℕ → Tag
-tagAt s p = elim (ltb p (length s)) [ true ↦ tagOf (getD s p 0) | false ↦ ended ]
+tagAt s p = elim (ltb p (length s)) [ true ↦ tagOf (getD s p 0) | false ↦ noByte ]
 
 -- A leaf whose label begins at p. 01, The tree reader: "for 15 the start of the tag or label not
 -- whole".
 unfoldable pub labelAt : List ℕ → ℕ → Result Tree
 labelAt s p = elim (leb (p + labelBytes) (length s)) [ true ↦ done (leaf (numberAt labelBytes s p)) | false ↦ refusal inputEnded p ]
 
--- The node whose left tree begins at p: the left tree, then the right one behind it, each read by `read`.
-unfoldable pub partsAt : (ℕ → Result Tree) → ℕ → Result Tree
-partsAt read p = andThen (read p) (λ l. andThen (read (p + length (tokens l))) (λ r. done (node l r)))
+-- The node whose left tree begins at p: the left tree, then the right one after it, each read by `read`.
+unfoldable pub branchesAt : (ℕ → Result Tree) → ℕ → Result Tree
+branchesAt read p = andThen (read p) (λ l. andThen (read (p + length (tokens l))) (λ r. done (node l r)))
 
 -- By the tag at p. Where it is a node's, the answer is `below`'s.
-unfoldable pub byTag : List ℕ → ℕ → (ℕ → Result Tree) → Result Tree
-byTag s p below =
+unfoldable pub treeByTag : List ℕ → ℕ → (ℕ → Result Tree) → Result Tree
+treeByTag s p below =
     elim (tagAt s p) [
-      | ended ↦ refusal inputEnded p
+      | noByte ↦ refusal inputEnded p
       | aLeaf ↦ labelAt s (suc p)
       | aNode ↦ below p
       | other ↦ refusal notATag p
@@ -83,8 +83,8 @@ byTag s p below =
 -- The tree that begins at p, with room for so many nodes above its leaves. 01, The tree reader: "A
 -- tree's end is found by recursion on its two parts."
 unfoldable pub treeAt : ℕ → List ℕ → ℕ → Result Tree
-treeAt zero s p = byTag s p (λ q. refusal tooDeep q)
-treeAt (suc room) s p = byTag s p (λ q. partsAt (λ o. treeAt room s o) (suc q))
+treeAt zero s p = treeByTag s p (λ q. refusal tooDeep q)
+treeAt (suc room) s p = treeByTag s p (λ q. branchesAt (λ o. treeAt room s o) (suc q))
 
 -- 01, The tree reader: "The tree reader takes the first tree of a buffer".
 unfoldable pub firstTree : List ℕ → Result Tree

@@ -2,7 +2,7 @@
 ghost use Prim.Native.Nat.{_+_, _*_};
 ghost use mathlib.Core.Path.{_≡_};
 ghost use lib.ListN.{getD, set};
-ghost use Rattle.stepwise.specs.Steps.{field as fieldOf, frameWords};
+ghost use Rattle.stepwise.specs.Inner.Steps.{field as fieldOf, frameWords};
 
 // Words of a row.
 const ROW_WORDS: usize = 8;
@@ -25,7 +25,7 @@ pub const PARENT: u16 = 5;
 
 pub const SLOT: u16 = 6;
 
-pub const BEHIND: u16 = 7;
+pub const AFTER: u16 = 7;
 
 // What a record does when it begins; else its first part begins.
 pub const GIVES_CONSTANT: u16 = 0;
@@ -65,7 +65,7 @@ pub fn field(table: &[u16], r: u16, f: u16) -> u16
 }
 
 // The place of a frame's word.
-fn word_place(calls: u16, slot: u16) -> usize
+fn word_offset(calls: u16, slot: u16) -> usize
     ensures { λ r. ⌜ r ≡ frameWords * calls + slot ⌝ }
 {
     FRAME_WORDS * (calls as usize) + (slot as usize)
@@ -75,7 +75,7 @@ fn word_place(calls: u16, slot: u16) -> usize
 pub fn frame_word(values: &[u32], calls: u16, slot: u16) -> u32
     ensures { λ r. ⌜ r ≡ getD (now (values .entry)) (frameWords * calls + slot) 0 ⌝ }
 {
-    let at = word_place(calls, slot);
+    let at = word_offset(calls, slot);
     if at < values.len() {
         return values[at];
     }
@@ -86,7 +86,7 @@ pub fn frame_word(values: &[u32], calls: u16, slot: u16) -> u32
 pub fn put_frame(values: &mut [u32], calls: u16, slot: u16, x: u32)
     ensures { λ _. ⌜ now (values .exit) ≡ set (now (values .entry)) (frameWords * calls + slot) x ⌝ }
 {
-    let i = word_place(calls, slot);
+    let i = word_offset(calls, slot);
     if i < values.len() {
         values[i] = x;
     }

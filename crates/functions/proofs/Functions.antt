@@ -18,12 +18,12 @@ use Rattle.formats.specs.Programs.{Signature, numberValued, treeValued, total, 
 use Rattle.formats.specs.Rows.{headerIn, sorts, functionFrom, functionAt, functionIn, sortIn, arityIn, countIn, functionRow}
 use Rattle.formats.proofs.Results.{then-done, then-refused, each-inv, each-none, check-said, test-holds, test-fails, passed-is, refused-is, Passing, pass-more, pass-refused, pass-all}
 use Rattle.formats.proofs.Rows.{function-read}
-use Rattle.refusal.specs.Number.{number}
-use Rattle.refusal.specs.Said.{said}
+use Rattle.refusal.specs.Inner.Numbers.{number}
+use Rattle.refusal.specs.Inner.Verdicts.{verdictResult}
 use Rattle.refusal.specs.declared.Verdict.{Verdict}
 use Rattle.refusal.specs.declared.Verdict.the-variants.{Passed, Refused}
 use Rattle.refusal.specs.declared.Refusal.{Refusal}
-use Rattle.functions.specs.Counts.{countsFrom}
+use Rattle.functions.specs.Inner.Counts.{countsFrom}
 
 -- ---- `most_parameters`
 
@@ -77,7 +77,7 @@ module _ (s : List ℕ) (j : ℕ) where
       → functionIn s j ≡ functionFrom (headerIn s .edition) j (fields x a n i)
   unfolding functionIn functionAt sortIn arityIn countIn recordAt
   function-is x a n i ex ea en ei =
-      let place : recordBytes * (1 + j) ≡ recordBytes * suc j = omega arith in
+      let position : recordBytes * (1 + j) ≡ recordBytes * suc j = omega arith in
       cc
 
   -- what is known of its record at each way out
@@ -159,15 +159,15 @@ module _ (s : List ℕ) (functions : ℕ) where
   fields-none = record { left = simp sub-zero }
 
   module _ (j : ℕ) (more : j < functions) (p : Passing (functionIn s) (verdict (each (functionIn s) functions 0)) functions j)
-      (fits : Bool) (told : check fits functionField (suc j) tt ≡ verdict (functionIn s j))
+      (fits : Bool) (reported : check fits functionField (suc j) tt ≡ verdict (functionIn s j))
     where
       pub fields-more : not fits ≡ false → Passing (functionIn s) (verdict (each (functionIn s) functions 0)) functions (j + 1)
-      fields-more u = pass-more _ _ functions j more p (sym (test-holds fits functionField (suc j) _ told (not-false fits u)))
+      fields-more u = pass-more _ _ functions j more p (sym (test-holds fits functionField (suc j) _ reported (not-false fits u)))
 
       pub fields-refused : not fits ≡ true → refusal functionField (j + 1) ≡ verdict (each (functionIn s) functions 0)
       fields-refused u =
           ap (refusal functionField) (add-one j)
-          ∙ pass-refused _ _ functions j functionField (suc j) more p (sym (test-fails fits functionField (suc j) _ told (not-true fits u)))
+          ∙ pass-refused _ _ functions j functionField (suc j) more p (sym (test-fails fits functionField (suc j) _ reported (not-true fits u)))
 
 pub ruleset fields-checked = (fields-none, fields-more, fields-refused, pass-all)
 
@@ -189,10 +189,10 @@ module _ (s : List ℕ) (functions nodes : ℕ) (ef : functions ≡ headerIn s .
   unfolding functionRow headerIn recordAt functionIn
   row-is = rw (ef, en)
 
-  module _ (read : Verdict) (told : said read ≡ verdict (each (functionIn s) functions 0)) where
-    pub row-field : (why : Refusal) (place : ℕ) → read ≡ Refused why place → refusal (number why) place ≡ verdict (functionRow (headerIn s) s)
-    row-field why place case =
-        sym (ap verdict (row-is ∙ then-refused _ (refused-is (each (functionIn s) functions 0) (number why) place (sym told ∙ ap said case))))
+  module _ (read : Verdict) (reported : verdictResult read ≡ verdict (each (functionIn s) functions 0)) where
+    pub row-field : (why : Refusal) (position : ℕ) → read ≡ Refused why position → refusal (number why) position ≡ verdict (functionRow (headerIn s) s)
+    row-field why position case =
+        sym (ap verdict (row-is ∙ then-refused _ (refused-is (each (functionIn s) functions 0) (number why) position (sym reported ∙ ap verdictResult case))))
 
     -- the sum of the counts decides
     sum-decides :
@@ -201,7 +201,7 @@ module _ (s : List ℕ) (functions nodes : ℕ) (ef : functions ≡ headerIn s .
         → sum ≡ countsFrom functions s 0
         → check (eqb sum nodes) functionField functions tt ≡ verdict (functionRow (headerIn s) s)
     sum-decides sum case es =
-        let v = passed-is (each (functionIn s) functions 0) (sym told ∙ ap said case) in
+        let v = passed-is (each (functionIn s) functions 0) (sym reported ∙ ap verdictResult case) in
         ap (λ n. check (eqb n nodes) functionField functions tt) (es ∙ sym (total-is s functions 0 (v .value) (v .is)))
         ∙ check-said (eqb (total (v .value)) nodes) functionField functions (v .value)
         ∙ sym (ap verdict (row-is ∙ then-done _ (v .is)))

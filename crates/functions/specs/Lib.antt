@@ -1,2 +1,2 @@
 -- What the functions of the row answer.
-pub mod Counts
+pub mod Inner

@@ -7,8 +7,8 @@ ghost use Rattle.formats.specs.Programs.{mostParameters};
 ghost use Rattle.formats.specs.Refusals.{functionField};
 ghost use Rattle.formats.specs.Results.{check, each, verdict};
 ghost use Rattle.formats.specs.Rows.{headerIn, functionIn, functionRow};
-ghost use Rattle.refusal.specs.Said.{said};
-ghost use Rattle.functions.specs.Counts.{countsFrom};
+ghost use Rattle.refusal.specs.Inner.Verdicts.{verdictResult};
+ghost use Rattle.functions.specs.Inner.Counts.{countsFrom};
 
 const RECORD_BYTES: usize = 8;
 
@@ -45,7 +45,7 @@ fn function_fits(flat: &[u8], j: u16) -> bool
 
 // The fields of the function records, so many.
 fn function_fields(flat: &[u8], functions: u16) -> Verdict
-    ensures { λ r. ⌜ said r ≡ verdict (each (functionIn (now (flat .entry))) functions 0) ⌝ }
+    ensures { λ r. ⌜ verdictResult r ≡ verdict (each (functionIn (now (flat .entry))) functions 0) ⌝ }
 {
     let mut j: u16 = 0;
     while j < functions {
@@ -72,13 +72,13 @@ fn count_sum(flat: &[u8], functions: u16) -> usize
 
 // The row "functions": the fields of each record, then the sum of the counts.
 pub fn function_row(flat: &[u8]) -> Verdict
-    ensures { λ r. ⌜ said r ≡ verdict (functionRow (headerIn (now (flat .entry))) (now (flat .entry))) ⌝ }
+    ensures { λ r. ⌜ verdictResult r ≡ verdict (functionRow (headerIn (now (flat .entry))) (now (flat .entry))) ⌝ }
 {
     let functions = signatures::functions_in(flat) as u16;
     let nodes = signatures::nodes_in(flat) as usize;
     let fields = function_fields(flat, functions);
     match fields {
-        Verdict::Refused(why, place) => Verdict::Refused(why, place),
+        Verdict::Refused(why, position) => Verdict::Refused(why, position),
         Verdict::Passed => {
             if count_sum(flat, functions) == nodes {
                 return Verdict::Passed;

@@ -69,16 +69,16 @@ pub ruleset header-fields = (wrong-edition, no-functions, many-functions, no-nod
 
 module _ (s : List ℕ) (edition f n i : ℕ) (fits : Bool)
     (e : edition ≡ getD s 0 0) (ef : f ≡ headerIn s .functions) (en : n ≡ headerIn s .nodes) (ei : i ≡ numberAt 4 s 4)
-    (told : check fits headerField 0 tt ≡ verdict (headerFrom (length s) (fields edition f n i)))
+    (reported : check fits headerField 0 tt ≡ verdict (headerFrom (length s) (fields edition f n i)))
   where
-    header-told : check fits headerField 0 tt ≡ verdict (headerRow s)
+    header-reported : check fits headerField 0 tt ≡ verdict (headerRow s)
     unfolding headerRow headerIn recordAt
-    header-told = told ∙ cc
+    header-reported = reported ∙ cc
 
     pub header-passed : fits ≡ true → done tt ≡ verdict (headerRow s)
-    header-passed h = test-holds fits headerField 0 _ header-told h
+    header-passed h = test-holds fits headerField 0 _ header-reported h
 
     pub header-refused : fits ≡ false → refusal headerField 0 ≡ verdict (headerRow s)
-    header-refused h = test-fails fits headerField 0 _ header-told h
+    header-refused h = test-fails fits headerField 0 _ header-reported h
 
 pub ruleset header-said = (header-passed, header-refused)

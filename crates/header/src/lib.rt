@@ -6,7 +6,7 @@ ghost use Rattle.formats.specs.Records.{fields};
 ghost use Rattle.formats.specs.Refusals.{headerField};
 ghost use Rattle.formats.specs.Results.{check, verdict};
 ghost use Rattle.formats.specs.Rows.{headerFrom, headerRow};
-ghost use Rattle.refusal.specs.Said.{said};
+ghost use Rattle.refusal.specs.Inner.Verdicts.{verdictResult};
 
 const RECORD_BYTES: usize = 8;
 
@@ -43,7 +43,7 @@ fn header_fits(edition: u8, functions: usize, nodes: usize, rest: u32, bytes: us
 
 // The row "header".
 pub fn header_row(flat: &[u8]) -> Verdict
-    ensures { λ r. ⌜ said r ≡ verdict (headerRow (now (flat .entry))) ⌝ }
+    ensures { λ r. ⌜ verdictResult r ≡ verdict (headerRow (now (flat .entry))) ⌝ }
 {
     let edition = words::read8(flat, 0);
     let functions = signatures::functions_in(flat) as usize;

@@ -11,7 +11,7 @@ ghost use Rattle.translation.specs.Calls.{translateFile};
 ghost use Rattle.answers.specs.Answer.{Answers};
 ghost use Rattle.answers.specs.Fills.{Fills};
 ghost use Rattle.run_answers.specs.RunCall.{StreamCall};
-ghost use Rattle.run_calls.specs.RunsFile.{RunsFile};
+ghost use Rattle.run_calls.specs.ProgramCall.{ProgramCall};
 ghost use Rattle.source_answers.specs.SourceCall.{SourceCall};
 
 // The length of the first tree's own bytes.
@@ -98,7 +98,7 @@ pub extern "C" fn hogvax_run(
     returns: &mut [u64],
     answer: &mut [u64],
 ) -> u32
-    ensures { λ r. ⌜ RunsFile (now (file .entry)) (now (input .entry)) (now (output .entry)) (now (output .exit)) (now (code .entry)) (now (code .exit)) (now (values .entry)) (now (values .exit)) (now (returns .entry)) (now (returns .exit)) (now (answer .entry)) (now (answer .exit)) fuel r ⌝ }
+    ensures { λ r. ⌜ ProgramCall (now (file .entry)) (now (input .entry)) (now (output .entry)) (now (output .exit)) (now (code .entry)) (now (code .exit)) (now (values .entry)) (now (values .exit)) (now (returns .entry)) (now (returns .exit)) (now (answer .entry)) (now (answer .exit)) fuel r ⌝ }
 {
     run_calls::run(file, input, fuel, output, code, values, returns, answer)
 }

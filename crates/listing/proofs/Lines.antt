@@ -16,7 +16,7 @@ use Rattle.formats.specs.Numbers.{Bytes, numberAt, signed32}
 use Rattle.formats.specs.Records.{Record, Ranged, fields, recordAt, recordBytes}
 use Rattle.formats.proofs.Written.{written-none}
 use Rattle.formats.proofs.Records.{ranged-at}
-use Rattle.translation.specs.Listing.{Line, line, lineOf, linesFrom, instructionsIn}
+use Rattle.translation.specs.Listing.{ListingLine, listingLine, lineOf, linesFrom, instructionsIn}
 use Rattle.formats.specs.Characters.{newline, space}
 use Rattle.translation.specs.ListingText.{field, signedField, lineText, linesText}
 use Rattle.listing.specs.Shown.{longestLine, mostCode, Puts}
@@ -32,16 +32,16 @@ pub line-shown : (s : List ℕ) (k opcode byte1 operand word : ℕ) (number : �
     → word ≡ numberAt 4 s (recordBytes * k + 4)
     → SFits w32 number
     → number ≡ signed32 word
-    → line k opcode byte1 operand (toZ w32 (ofZ w32 number)) ≡ lineOf k (recordAt s k)
+    → listingLine k opcode byte1 operand (toZ w32 (ofZ w32 number)) ≡ lineOf k (recordAt s k)
 unfolding lineOf recordAt
 line-shown s k opcode byte1 operand word number eo eb ep ew fits en = rw (toZ-ofZ fits) (cc)
 
 -- ---- the length of the lines
 
 -- a field of a number below 10^k, k at least 1
-pub field-length : (k n behind : ℕ) → n < 10 ^ suc k → length (field n behind) ≤ suc k + 1
+pub field-length : (k n after : ℕ) → n < 10 ^ suc k → length (field n after) ≤ suc k + 1
 unfolding field
-field-length k n behind h = rw length-append (omega (arith, decimal-length k n h))
+field-length k n after h = rw length-append (omega (arith, decimal-length k n h))
 
 signed-length : (w : ℕ) → w < 2 ^ 32 → length (signedField (signed32 w)) ≤ 12
 unfolding signed32 signedField
@@ -103,24 +103,24 @@ module _ (code s : List ℕ) (p : ℕ) where
       record {
         within = omega arith;
         room = omega (arith, lines-length code (length code / recordBytes) 0 bs (omega arith));
-        put = record { buffer = sym (written-none s p); behind = omega arith; inside = omega arith };
+        put = record { buffer = sym (written-none s p); after = omega arith; inside = omega arith };
       }
 
   module _ (t : List ℕ) (k q : ℕ) (g : Going code s t p k q) where
-    module _ (less : k < instructionsIn code) (l : Line) (told : l ≡ lineOf k (recordAt code k)) where
+    module _ (less : k < instructionsIn code) (l : ListingLine) (reported : l ≡ lineOf k (recordAt code k)) where
       -- with this line
       next : linesText (linesFrom code (suc k) 0) ≡ linesText (linesFrom code k 0) ++ lineText l
       next =
           let at : 0 + k ≡ k = omega arith in
           lines-more code k 0
           ∙ ap (λ m. linesText (linesFrom code k 0) ++ lineText (lineOf m (recordAt code m))) at
-          ∙ ap (λ m. linesText (linesFrom code k 0) ++ lineText m) (sym told)
+          ∙ ap (λ m. linesText (linesFrom code k 0) ++ lineText m) (sym reported)
 
       next-room : p + length (linesText (linesFrom code k 0) ++ lineText l) ≤ length s
       next-room = omega (arith, g .room, ap length next, fewer code (suc k) (instructionsIn code) 0 (omega arith))
 
       pub line-room : q + length (lineText l) ≤ length t
-      line-room = omega (arith, next-room, length-append (linesText (linesFrom code k 0)) (lineText l), g .put .behind, put-length s t p _ q (g .put))
+      line-room = omega (arith, next-room, length-append (linesText (linesFrom code k 0)) (lineText l), g .put .after, put-length s t p _ q (g .put))
 
       pub lines-step : (u : List ℕ) (r : ℕ) → Puts t u q (lineText l) r → Going code s u p (k + 1) r
       lines-step u r put =

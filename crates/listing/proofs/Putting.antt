@@ -1,4 +1,4 @@
--- Text put into a buffer: one piece behind the other.
+-- Text put into a buffer: one piece after the other.
 use Prim.Native.Nat.{ℕ, _+_, _/_, _%_, _≤_, _<_}
 use mathlib.Core.List.{List, [], _∷_, _++_}
 use mathlib.Core.Path.{_≡_, refl, ap, _∙_}
@@ -10,7 +10,7 @@ use mir.Val.{SFits, toZ, ofZ}
 use mir.Facts.{toZ-ofZ}
 use Rattle.formats.specs.Written.{written}
 use Rattle.formats.proofs.Written.{wrote, written-one, written-append}
-use Rattle.translation.specs.Listing.{line}
+use Rattle.translation.specs.Listing.{listingLine}
 use Rattle.formats.specs.Characters.{space, digitZero}
 use Rattle.formats.specs.Decimal.{decimal}
 use Rattle.translation.specs.ListingText.{field, signedField, lineText}
@@ -23,21 +23,21 @@ pub put-length : (s t : List ℕ) (p : ℕ) (vs : List ℕ) (q : ℕ) → Puts s
 put-length s t p vs q put = ap length (put .buffer) ∙ wrote s p vs .same-length
 
 pub put-one : (s : List ℕ) (p v : ℕ) → p < length s → Puts s (set s p v) p (v ∷ []) (p + 1)
-put-one s p v h = record { buffer = written-one s p v h; behind = refl; inside = omega (arith, length-set s p v) }
+put-one s p v h = record { buffer = written-one s p v h; after = refl; inside = omega (arith, length-set s p v) }
 
 -- all that is put is within the buffer, and so it is put as one
 pub put-both : (s t u : List ℕ) (p q r : ℕ) (vs ws : List ℕ) → Puts s t p vs q → Puts t u q ws r → Puts s u p (vs ++ ws) r
 put-both s t u p q r vs ws first second =
-    let sum : r ≡ p + length (vs ++ ws) = omega (arith, first .behind, second .behind, length-append vs ws) in
+    let sum : r ≡ p + length (vs ++ ws) = omega (arith, first .after, second .after, length-append vs ws) in
     let room : p + length (vs ++ ws) ≤ length s =
     omega (arith, second .inside, put-length s t p vs q first, put-length t u q ws r second) in
     record {
       buffer =
           second .buffer
           ∙ ap (λ (l : List ℕ). written l q ws) (first .buffer)
-          ∙ ap (λ (m : ℕ). written (written s p vs) m ws) (first .behind)
+          ∙ ap (λ (m : ℕ). written (written s p vs) m ws) (first .after)
           ∙ written-append s p vs ws room;
-      behind = sum;
+      after = sum;
       inside = second .inside;
     }
 
@@ -46,13 +46,13 @@ first-room : (s : List ℕ) (p : ℕ) (vs ws : List ℕ) → p + length (vs ++ w
 first-room s p vs ws room = omega (arith, length-append vs ws)
 
 rest-room : (s t : List ℕ) (p q : ℕ) (vs ws : List ℕ) → p + length (vs ++ ws) ≤ length s → Puts s t p vs q → q + length ws ≤ length t
-rest-room s t p q vs ws room put = omega (arith, length-append vs ws, put .behind, put-length s t p vs q put)
+rest-room s t p q vs ws room put = omega (arith, length-append vs ws, put .after, put-length s t p vs q put)
 
 -- ---- `put_number`
 
 module _ (s : List ℕ) (p n : ℕ) (room : p + length (decimal n) ≤ length s) where
-  pub digit-place : n < 10 → p < length s
-  digit-place h = omega (arith, rw (decimal-one n h) at room)
+  pub digit-offset : n < 10 → p < length s
+  digit-offset h = omega (arith, rw (decimal-one n h) at room)
 
   pub digit-put : (t : List ℕ) (r : ℕ) → n < 10 → Puts s t p ((digitZero + n) ∷ []) r → Puts s t p (decimal n) r
   digit-put t r h put = rw (decimal-one n h) put
@@ -65,37 +65,37 @@ module _ (s : List ℕ) (p n : ℕ) (room : p + length (decimal n) ≤ length s)
     tenth-room = omega (arith, split)
 
     module _ (t : List ℕ) (q : ℕ) (put : Puts s t p (decimal (n / 10)) q) where
-      pub last-place : q < length t
-      last-place = omega (arith, split, put .behind, put-length s t p _ q put)
+      pub last-offset : q < length t
+      last-offset = omega (arith, split, put .after, put-length s t p _ q put)
 
       pub last-put : (u : List ℕ) (r : ℕ) → Puts t u q ((digitZero + n % 10) ∷ []) r → Puts s u p (decimal n) r
       last-put u r digit = rw (decimal-more n more) (put-both s t u p q r _ _ put digit)
 
-pub ruleset number-ways = (digit-place, digit-put, tenth-room, last-place, last-put)
+pub ruleset number-ways = (digit-offset, digit-put, tenth-room, last-offset, last-put)
 
 -- ---- `put_field`
 
-module _ (s : List ℕ) (p n behind : ℕ) (room : p + length (field n behind) ≤ length s) where
-  field-split : length (field n behind) ≡ length (decimal n) + 1
+module _ (s : List ℕ) (p n after : ℕ) (room : p + length (field n after) ≤ length s) where
+  field-split : length (field n after) ≡ length (decimal n) + 1
   unfolding field
-  field-split = length-append (decimal n) (behind ∷ [])
+  field-split = length-append (decimal n) (after ∷ [])
 
   pub number-room : p + length (decimal n) ≤ length s
   number-room = omega (arith, field-split)
 
   module _ (t : List ℕ) (q : ℕ) (put : Puts s t p (decimal n) q) where
-    pub behind-place : q < length t
-    behind-place = omega (arith, field-split, put .behind, put-length s t p _ q put)
+    pub after-offset : q < length t
+    after-offset = omega (arith, field-split, put .after, put-length s t p _ q put)
 
-    pub field-put : (u : List ℕ) (r : ℕ) → Puts t u q (behind ∷ []) r → Puts s u p (field n behind) r
+    pub field-put : (u : List ℕ) (r : ℕ) → Puts t u q (after ∷ []) r → Puts s u p (field n after) r
     unfolding field
-    field-put u r byte = put-both s t u p q r (decimal n) (behind ∷ []) put byte
+    field-put u r byte = put-both s t u p q r (decimal n) (after ∷ []) put byte
 
-pub ruleset field-ways = (number-room, behind-place, field-put)
+pub ruleset field-ways = (number-room, after-offset, field-put)
 
 -- ---- `put_line`
 
-module _ (s : List ℕ) (p a o b w : ℕ) (n : ℤ) (room : p + length (lineText (line a o b w n)) ≤ length s) where
+module _ (s : List ℕ) (p a o b w : ℕ) (n : ℤ) (room : p + length (lineText (listingLine a o b w n)) ≤ length s) where
   pub address-room : p + length (field a space) ≤ length s
   unfolding lineText
   address-room = first-room s p (field a space) _ room
@@ -126,7 +126,7 @@ module _ (s : List ℕ) (p a o b w : ℕ) (n : ℤ) (room : p + length (lineText
           pub sign-room : SFits w32 n → q₄ + length (signedField (toZ w32 (ofZ w32 n))) ≤ length s₄
           sign-room fits = rw (toZ-ofZ fits) (rest-room s₃ s₄ q₃ q₄ (field w space) _ rest₃ put₄)
 
-          pub line-put : SFits w32 n → (t : List ℕ) (r : ℕ) → Puts s₄ t q₄ (signedField (toZ w32 (ofZ w32 n))) r → Puts s t p (lineText (line a o b w n)) r
+          pub line-put : SFits w32 n → (t : List ℕ) (r : ℕ) → Puts s₄ t q₄ (signedField (toZ w32 (ofZ w32 n))) r → Puts s t p (lineText (listingLine a o b w n)) r
           unfolding lineText
           line-put fits t r put₅ =
               let put = rw (toZ-ofZ fits) at put₅ in

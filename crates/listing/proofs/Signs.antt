@@ -88,20 +88,20 @@ unfolding signedField
 text-above (pos k) h = refl
 text-above (negsuc k) h = let z : _≡_ {A = ℕ} 0 1 = cc in absurd (omega arith)
 
-module _ (s : List ℕ) (p : ℕ) (n : ℤ) (fits : SFits w32 n) (room : p + length (signedField n) ≤ length s) (size : ℕ) (told : size ≡ natAbs (read n)) where
+module _ (s : List ℕ) (p : ℕ) (n : ℤ) (fits : SFits w32 n) (room : p + length (signedField n) ≤ length s) (size : ℕ) (reported : size ≡ natAbs (read n)) where
   is-size : natAbs n ≡ size
-  is-size = sym (told ∙ ap natAbs (toZ-ofZ fits))
+  is-size = sym (reported ∙ ap natAbs (toZ-ofZ fits))
 
   module _ (h : ltZ (read n) (pos 0) ≡ true) where
     text : signedField n ≡ (minus ∷ []) ++ field size newline
     text = text-below n (as-read n fits true h) ∙ ap (λ k. (minus ∷ []) ++ field k newline) is-size
 
-    pub sign-place : p < length s
-    sign-place = omega (arith, ap length text)
+    pub sign-offset : p < length s
+    sign-offset = omega (arith, ap length text)
 
     module _ (t : List ℕ) (q : ℕ) (sign : Puts s t p (minus ∷ []) q) where
       pub size-room : q + length (field size newline) ≤ length t
-      size-room = omega (arith, ap length text, sign .behind, put-length s t p _ q sign)
+      size-room = omega (arith, ap length text, sign .after, put-length s t p _ q sign)
 
       pub signed-put : (u : List ℕ) (r : ℕ) → Puts t u q (field size newline) r → Puts s u p (signedField n) r
       signed-put u r digits = rw text (put-both s t u p q r (minus ∷ []) (field size newline) sign digits)
@@ -116,4 +116,4 @@ module _ (s : List ℕ) (p : ℕ) (n : ℤ) (fits : SFits w32 n) (room : p + len
     pub plain-put : (t : List ℕ) (r : ℕ) → Puts s t p (field size newline) r → Puts s t p (signedField n) r
     plain-put t r put = rw plain-text put
 
-pub ruleset signed-ways = (sign-place, size-room, signed-put, plain-room, plain-put)
+pub ruleset signed-ways = (sign-offset, size-room, signed-put, plain-room, plain-put)

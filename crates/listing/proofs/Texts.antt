@@ -13,13 +13,13 @@ use Rattle.formats.specs.Blocks.{lent}
 use Rattle.formats.specs.Written.{written}
 use Rattle.formats.proofs.Results.{value-inv, value-refused}
 use Rattle.formats.proofs.Written.{wrote, written-fits}
-use Rattle.refusal.specs.Number.{number}
-use Rattle.refusal.specs.Put.{answered, Put}
+use Rattle.refusal.specs.Inner.Numbers.{number}
+use Rattle.refusal.specs.Inner.FilledBuffer.{filledResult, FilledBuffer}
 use Rattle.refusal.specs.declared.Refusal.{Refusal}
 use Rattle.refusal.specs.declared.Filled.{Filled}
 use Rattle.refusal.specs.declared.Filled.the-variants.{Written, Refused}
 use Rattle.translation.specs.Calls.{translateFile}
-use Rattle.translation.specs.Listing.{refused, linesFrom, instructionsIn, listingOf, listing}
+use Rattle.translation.specs.Listing.{refusedListing, linesFrom, instructionsIn, listingOf, listing}
 use Rattle.translation.proofs.Calls.{has-room}
 use Rattle.formats.specs.Characters.{newline, space, ascii}
 use Rattle.translation.specs.ListingText.{field, linesText, codeWord, refusedWord, text}
@@ -31,13 +31,13 @@ use Rattle.listing.proofs.Lines.{field-length}
 word-put : (s t word : List ℕ) → length word ≤ length s → t ≡ written s 0 word → Puts s t 0 word (length word)
 word-put s t word room is = record {
   buffer = is;
-  behind = omega arith;
+  after = omega arith;
   inside = omega (arith, ap length is, wrote s 0 word .same-length);
 }
 
 -- ---- `put_refusal`
 
-module _ (s t : List ℕ) (n place : ℕ) (big : mostText ≤ length s) (is : t ≡ written s 0 refusedWord) where
+module _ (s t : List ℕ) (n offset : ℕ) (big : mostText ≤ length s) (is : t ≡ written s 0 refusedWord) where
   refused-length : length t ≡ length s
   refused-length = ap length is ∙ wrote s 0 refusedWord .same-length
 
@@ -45,22 +45,22 @@ module _ (s t : List ℕ) (n place : ℕ) (big : mostText ≤ length s) (is : t 
   number-room fits = omega (arith, refused-length, field-length 19 n space (omega (arith, fits-lt-pow fits)))
 
   module _ (u : List ℕ) (q : ℕ) (put : Puts t u 8 (field n space) q) where
-    pub place-room : Fits w64 n → Fits w64 place → q + length (field place newline) ≤ length u
-    place-room fits fits′ =
+    pub offset-room : Fits w64 n → Fits w64 offset → q + length (field offset newline) ≤ length u
+    offset-room fits fits′ =
         omega (
           arith,
           refused-length,
-          put .behind,
+          put .after,
           put-length t u 8 _ q put,
           field-length 19 n space (omega (arith, fits-lt-pow fits)),
-          field-length 19 place newline (omega (arith, fits-lt-pow fits′)),
+          field-length 19 offset newline (omega (arith, fits-lt-pow fits′)),
         )
 
-    pub refusal-put : (v : List ℕ) (r : ℕ) → Puts u v q (field place newline) r → Puts s v 0 (text (refused n place)) r
+    pub refusal-put : (v : List ℕ) (r : ℕ) → Puts u v q (field offset newline) r → Puts s v 0 (text (refusedListing n offset)) r
     unfolding text refusedWord ascii
     refusal-put v r last = put-both s t v 0 8 r _ _ (word-put s t refusedWord (omega arith) is) (put-both t u v 8 q r _ _ put last)
 
-pub ruleset refusal-ways = (number-room, place-room, refusal-put)
+pub ruleset refusal-ways = (number-room, offset-room, refusal-put)
 
 -- ---- `put_code`
 
@@ -78,7 +78,7 @@ module _ (s t code : List ℕ) (big : mostText ≤ length s) (short : length cod
   module _ (u : List ℕ) (q : ℕ) (put : Puts t u 5 (field (instructionsIn code) newline) q) where
     pub lines-room : q + longestLine * instructionsIn code ≤ length u
     unfolding instructionsIn
-    lines-room = omega (arith, code-length, count-length, put .behind, put-length t u 5 _ q put)
+    lines-room = omega (arith, code-length, count-length, put .after, put-length t u 5 _ q put)
 
     pub code-put : (v : List ℕ) (r : ℕ) → Puts u v q (linesText (linesFrom code (instructionsIn code) 0)) r → Puts s v 0 (text (listingOf (done code))) r
     unfolding text codeWord ascii listingOf
@@ -88,26 +88,26 @@ pub ruleset code-ways = (count-room, lines-room, code-put)
 
 -- ---- `put_listing`
 
-module _ (file code after : List ℕ) (size : length code ≡ mostCode) (filled : Filled) (put : Put (translateFile (length code) file) code after filled) where
-  pub listing-refused : (s t : List ℕ) (r n : ℕ) (why : Refusal) (place : ℕ) → filled ≡ Refused why place → n ≡ number why
-      → Puts s t 0 (text (refused n place)) r → Puts s t 0 (text (listing file)) r
+module _ (file code after : List ℕ) (size : length code ≡ mostCode) (filled : Filled) (put : FilledBuffer (translateFile (length code) file) code after filled) where
+  pub listing-refused : (s t : List ℕ) (r n : ℕ) (why : Refusal) (offset : ℕ) → filled ≡ Refused why offset → n ≡ number why
+      → Puts s t 0 (text (refusedListing n offset)) r → Puts s t 0 (text (listing file)) r
   unfolding listing listingOf
-  listing-refused s t r n why place is told p =
-      let stop : translateFile (length code) file ≡ refusal (number why) place = value-refused length _ (number why) place (sym (put .answer) ∙ ap answered is) in
-      let due : listing file ≡ refused n place =
-      ap (λ room. listingOf (translateFile room file)) (sym size) ∙ ap listingOf stop ∙ ap (λ m. refused m place) (sym told) in
+  listing-refused s t r n why offset is reported p =
+      let stop : translateFile (length code) file ≡ refusal (number why) offset = value-refused length _ (number why) offset (sym (put .answer) ∙ ap filledResult is) in
+      let due : listing file ≡ refusedListing n offset =
+      ap (λ room. listingOf (translateFile room file)) (sym size) ∙ ap listingOf stop ∙ ap (λ m. refusedListing m offset) (sym reported) in
       rw due p
 
   -- the code, which stands at the start of its buffer
-  record Laid (bytes : ℕ) : Type 0 where
+  record Emitted (bytes : ℕ) : Type 0 where
     is : translateFile (length code) file ≡ done (take bytes after)
     inside : bytes ≤ length after
     short : length (take bytes after) ≤ mostCode
 
-  laid : (bytes : ℕ) → filled ≡ Written bytes → Laid bytes
+  emitted : (bytes : ℕ) → filled ≡ Written bytes → Emitted bytes
   unfolding lent
-  laid bytes e =
-      let v = value-inv length (translateFile (length code) file) bytes (sym (put .answer) ∙ ap answered e) in
+  emitted bytes e =
+      let v = value-inv length (translateFile (length code) file) bytes (sym (put .answer) ∙ ap filledResult e) in
       let fits : 0 + length (v .value) ≤ length code = omega (arith, has-room (length code) file (v .value) (v .first)) in
       let stands : after ≡ v .value ++ drop (0 + length (v .value)) code = put .buffer ∙ ap (lent code) (v .first) ∙ written-fits code 0 (v .value) fits in
       let there : take bytes after ≡ v .value = ap (take bytes) stands ∙ take-at (v .value) _ bytes (v .second) in
@@ -118,16 +118,16 @@ module _ (file code after : List ℕ) (size : length code ≡ mostCode) (filled 
       }
 
   pub code-inside : (bytes : ℕ) → filled ≡ Written bytes → bytes ≤ length after
-  code-inside bytes e = laid bytes e .inside
+  code-inside bytes e = emitted bytes e .inside
 
   pub code-short : (bytes : ℕ) → filled ≡ Written bytes → length (take bytes after) ≤ mostCode
-  code-short bytes e = laid bytes e .short
+  code-short bytes e = emitted bytes e .short
 
   pub listing-put : (s t : List ℕ) (r bytes : ℕ) → filled ≡ Written bytes → Puts s t 0 (text (listingOf (done (take bytes after)))) r → Puts s t 0 (text (listing file)) r
   unfolding listing
   listing-put s t r bytes e p =
       let due : listing file ≡ listingOf (done (take bytes after)) =
-      ap (λ room. listingOf (translateFile room file)) (sym size) ∙ ap listingOf (laid bytes e .is) in
+      ap (λ room. listingOf (translateFile room file)) (sym size) ∙ ap listingOf (emitted bytes e .is) in
       rw due p
 
 pub ruleset listing-ways = (listing-refused, code-inside, code-short, listing-put)

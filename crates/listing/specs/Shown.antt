@@ -5,15 +5,15 @@ use mathlib.Core.Path.{_≡_}
 use lib.ListN.{length}
 use Rattle.formats.specs.Written.{written}
 use Rattle.meaning.specs.Instructions.{instructionBytes, mostInstructions}
-use Rattle.translation.specs.Listing.{line as aLine}
-use Rattle.translation.specs.Listing.{Line as LineOfListing}
+use Rattle.translation.specs.Listing.{listingLine as aLine}
+use Rattle.translation.specs.Listing.{ListingLine as LineOfListing}
 use Rattle.listing.specs.declared.Line.{Line}
 
 -- The longest code. 01, Limits: "At most 4,128 instructions".
 abbrev pub mostCode : ℕ
 mostCode = instructionBytes * mostInstructions
 
--- The longest line: an address of 4 digits, two bytes of 3, an operand of 5, a sign and 10 digits, and a character behind each.
+-- The longest line: an address of 4 digits, two bytes of 3, an operand of 5, a sign and 10 digits, and a character after each.
 abbrev pub longestLine : ℕ
 longestLine = 31
 
@@ -25,9 +25,9 @@ mostText = 10 + longestLine * mostInstructions
 abbrev pub shown : Line → LineOfListing
 shown l = aLine (l .address) (l .opcode) (l .byte1) (l .operand) (l .number)
 
--- These bytes are put into a buffer from place p on, the rest is untouched, and the place behind them is answered, which is
+-- These bytes are put into a buffer from place p on, the rest is untouched, and the offset after them is answered, which is
 -- within the buffer.
 pub record Puts (before after : List ℕ) (p : ℕ) (bytes : List ℕ) (r : ℕ) : Type 0 where
   pub buffer : after ≡ written before p bytes
-  pub behind : r ≡ p + length bytes
+  pub after : r ≡ p + length bytes
   pub inside : r ≤ length after

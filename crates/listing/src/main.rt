@@ -9,7 +9,7 @@ ghost use lib.IntN.{natAbs};
 ghost use lib.ListN.{length};
 ghost use Rattle.formats.specs.Records.{recordAt};
 ghost use Rattle.formats.specs.Results.{done};
-ghost use Rattle.translation.specs.Listing.{lineOf, linesFrom, refused, instructionsIn, listingOf, listing};
+ghost use Rattle.translation.specs.Listing.{lineOf, linesFrom, refusedListing, instructionsIn, listingOf, listing};
 ghost use Rattle.formats.specs.Decimal.{decimal};
 ghost use Rattle.translation.specs.ListingText.{field, signedField, lineText, linesText, text};
 ghost use Rattle.listing.specs.Shown.{longestLine, mostCode, mostText, shown, Puts};
@@ -53,7 +53,7 @@ fn line_at(code: &[u8], k: usize) -> Line
     }
 }
 
-// Puts a byte at a place, and answers the place behind it, as all that follow do.
+// Puts a byte at an offset, and answers the offset after it, as all that follow do.
 fn put_byte(out: &mut [u8], at: usize, byte: u8) -> usize
     requires { ⌜ at < length (now out) ⌝ }
     ensures { λ r. ⌜ Puts (now (out .entry)) (now (out .exit)) at (byte ∷ []) r ⌝ }
@@ -74,13 +74,13 @@ fn put_number(out: &mut [u8], at: usize, n: usize) -> usize
     put_byte(out, last, b'0' + ((n % 10) as u8))
 }
 
-// Puts a number and the character behind it.
-fn put_field(out: &mut [u8], at: usize, n: usize, behind: u8) -> usize
-    requires { ⌜ at + length (field n behind) ≤ length (now out) ⌝ }
-    ensures { λ r. ⌜ Puts (now (out .entry)) (now (out .exit)) at (field n behind) r ⌝ }
+// Puts a number and the character after it.
+fn put_field(out: &mut [u8], at: usize, n: usize, after: u8) -> usize
+    requires { ⌜ at + length (field n after) ≤ length (now out) ⌝ }
+    ensures { λ r. ⌜ Puts (now (out .entry)) (now (out .exit)) at (field n after) r ⌝ }
 {
     let last = put_number(out, at, n);
-    put_byte(out, last, behind)
+    put_byte(out, last, after)
 }
 
 // A number without its sign. -1 - n always fits, and -n does not.
@@ -134,13 +134,13 @@ fn put_lines(out: &mut [u8], at: usize, code: &[u8]) -> usize
 }
 
 // Puts the one line of a refusal.
-fn put_refusal(out: &mut [u8], number: usize, place: usize) -> usize
+fn put_refusal(out: &mut [u8], number: usize, offset: usize) -> usize
     requires { ⌜ mostText ≤ length (now out) ⌝ }
-    ensures { λ r. ⌜ Puts (now (out .entry)) (now (out .exit)) 0 (text (refused number place)) r ⌝ }
+    ensures { λ r. ⌜ Puts (now (out .entry)) (now (out .exit)) 0 (text (refusedListing number offset)) r ⌝ }
 {
     writing::write_bytes(out, 0, b"refused ");
     let last = put_field(out, 8, number, b' ');
-    put_field(out, last, place, b'\n')
+    put_field(out, last, offset, b'\n')
 }
 
 // Puts the listing of a code: the heading, and the lines.
@@ -161,7 +161,7 @@ fn put_listing(out: &mut [u8], file: &[u8]) -> usize
     let mut code = [0u8; CODE_BYTES];
     let filled = translate::translate_file(file, &mut code);
     match filled {
-        Filled::Refused(why, place) => put_refusal(out, refusal::number_of(why) as usize, place),
+        Filled::Refused(why, offset) => put_refusal(out, refusal::number_of(why) as usize, offset),
         Filled::Written(bytes) => put_code(out, &code[..bytes]),
     }
 }

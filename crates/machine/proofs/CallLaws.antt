@@ -12,23 +12,23 @@ use lib.Dec.{lit<}
 use lib.ListN.{length, getD, set, take, drop, length-set}
 use Rattle.formats.specs.Refusals.{tooManyCalls, cannotPerform}
 use Rattle.meaning.specs.Instructions.{Call, Return}
-use Rattle.meaning.specs.Performing.{Setting, opened, ends, call, kept, numberKept, leave, operate}
+use Rattle.meaning.specs.Performing.{Setting, opened, ends, openCall, kept, numberKept, leave, operate}
 use Rattle.meaning.specs.Running.{valueWords, returnWords}
 use Rattle.machine.specs.declared.Machine.{Machine}
-use Rattle.machine.specs.Held.{wordsFrom, waiting, frameOf, stateOf, stepOf, Chained, first, above, Held, Sound}
-use Rattle.machine.specs.Held.{goesOn, hasEnded, stoppedBy, jumpTo, left}
-use Rattle.machine.specs.Does.{Does, OnPlaces, FromPlaces}
+use Rattle.machine.specs.Inner.States.{wordsFrom, waiting, frameOf, stateOf, stepOf, Chained, first, above, Held, Sound}
+use Rattle.machine.specs.Inner.States.{goesOn, hasEnded, stoppedBy, jumpTo, left}
+use Rattle.machine.specs.Inner.Effects.{Does, OnReturns, FromReturns}
 use Rattle.machine.proofs.Frames.{length-words, words-pushed, words-top, words-taken, words-left}
 use Rattle.machine.proofs.Frames.{waiting-kept, waiting-more, chained-more, count-waiting}
 use Rattle.machine.proofs.Doing.{held-as, refused-so, goes-so}
 
 -- ---- `leave`
 
-module _ (places : List ℕ) (top : ℕ) (s : Machine) where
+module _ (returns : List ℕ) (top : ℕ) (s : Machine) where
   pub left-first :
       s .saved < 2
       → record { stop = hasEnded; address = s .address; top = top; base = s .base; saved = s .saved; read = s .read; written = s .written }
-      ≡ left places top s
+      ≡ left returns top s
   unfolding left
   left-first h = sym (rw (left, lt-ltb (s .saved) 2 h))
 
@@ -36,49 +36,49 @@ module _ (places : List ℕ) (top : ℕ) (s : Machine) where
       2 ≤ s .saved
       → record {
         stop = s .stop;
-        address = getD places (s .saved - 2) 0;
+        address = getD returns (s .saved - 2) 0;
         top = top;
-        base = getD places (s .saved - 1) 0;
+        base = getD returns (s .saved - 1) 0;
         saved = s .saved - 2;
         read = s .read;
         written = s .written;
       }
-      ≡ left places top s
+      ≡ left returns top s
   unfolding left
   left-back h = sym (rw (left, le-ltb (s .saved) 2 h))
 
 pub ruleset leaves = (left-first, left-back)
 
--- ---- `call`
+-- ---- `openCall`
 
-module _ (entry n : ℕ) (places : List ℕ) (s : Machine) where
+module _ (entry n : ℕ) (returns : List ℕ) (s : Machine) where
   -- 01, Instructions that cannot be performed: "19 .. (.. missing .. words)"
-  pub call-few : (r : Machine) → s .top - s .base < n → r ≡ stoppedBy cannotPerform s → OnPlaces (Call entry n) places places s r
+  pub call-few : (r : Machine) → s .top - s .base < n → r ≡ stoppedBy cannotPerform s → OnReturns (Call entry n) returns returns s r
   unfolding operate
   call-few r few e =
       record {
         does =
             λ m values output h.
-            refused-so m _ values places output s r cannotPerform e (rw (operate, length-words, lt-leb n (s .top - s .base) few)) (lit< tt) h;
+            refused-so m _ values returns output s r cannotPerform e (rw (operate, length-words, lt-leb n (s .top - s .base) few)) (lit< tt) h;
       }
 
   module _ (there : n ≤ s .top - s .base) where
     calls :
         (m : Setting) (values output : List ℕ)
-        → operate m (stateOf values places output s) (Call entry n) ≡ call m entry n (stateOf values places output s)
+        → operate m (stateOf values returns output s) (Call entry n) ≡ openCall m entry n (stateOf values returns output s)
     unfolding operate
     calls m values output = rw (operate, length-words, le-leb n (s .top - s .base) there)
 
     -- 01, The table of refusals: "18 a call with 1,024 open"
-    pub call-deep : (r : Machine) → returnWords - 2 ≤ s .saved → r ≡ stoppedBy tooManyCalls s → OnPlaces (Call entry n) places places s r
-    unfolding call opened
+    pub call-deep : (r : Machine) → returnWords - 2 ≤ s .saved → r ≡ stoppedBy tooManyCalls s → OnReturns (Call entry n) returns returns s r
+    unfolding openCall opened
     call-deep r deep e =
         record {
           does =
               λ m values output h.
-              let counted = count-waiting values places (s .base) (s .saved) (h .chained) in
-              let full : m .mostOpen ≤ suc (length (waiting values places (s .base) (s .saved))) = omega (arith, h .calls-limit) in
-              refused-so m _ values places output s r tooManyCalls e (calls m values output ∙ rw (call, opened, le-ltb _ _ full)) (lit< tt) h;
+              let counted = count-waiting values returns (s .base) (s .saved) (h .chained) in
+              let full : m .mostOpen ≤ suc (length (waiting values returns (s .base) (s .saved))) = omega (arith, h .calls-limit) in
+              refused-so m _ values returns output s r tooManyCalls e (calls m values output ∙ rw (openCall, opened, le-ltb _ _ full)) (lit< tt) h;
         }
 
     -- the machine in the new frame, and the return places then
@@ -94,35 +94,35 @@ module _ (entry n : ℕ) (places : List ℕ) (s : Machine) where
           written = s .written;
         }
 
-    abbrev places′ : List ℕ
-    places′ = set (set places (s .saved) (suc (s .address))) (suc (s .saved)) (s .base)
+    abbrev returns′ : List ℕ
+    returns′ = set (set returns (s .saved) (suc (s .address))) (suc (s .saved)) (s .base)
 
     -- the arguments are its words, and the rest of the present frame's words wait
     called :
         (m : Setting) (values output : List ℕ)
         → s .stop ≡ goesOn
         → s .saved < returnWords - 2
-        → Held m values places output s
-        → Does m (operate m (stateOf values places output s) (Call entry n)) values places output values places′ output s inside
-    unfolding call opened
+        → Held m values returns output s
+        → Does m (operate m (stateOf values returns output s) (Call entry n)) values returns output values returns′ output s inside
+    unfolding openCall opened
     called m values output going fits h =
-        let counted = count-waiting values places (s .base) (s .saved) (h .chained) in
-        let few : suc (length (waiting values places (s .base) (s .saved))) < m .mostOpen = omega (arith, h .calls-limit) in
+        let counted = count-waiting values returns (s .base) (s .saved) (h .chained) in
+        let few : suc (length (waiting values returns (s .base) (s .saved))) < m .mostOpen = omega (arith, h .calls-limit) in
         let based = h .based in
-        let lent = h .places-lent in
+        let lent = h .returns-lent in
         let back = suc (s .address) in
         let all : n ≡ s .top - (s .top - n) = omega arith in
         let arguments : take n (frameOf values s) ≡ frameOf values inside =
         words-taken values (s .base) (s .top - s .base) (s .top - n) n (omega arith) (omega arith) ∙ ap (wordsFrom values (s .top - n)) all in
         let rest : drop n (frameOf values s) ≡ wordsFrom values (s .base) (s .top - n - s .base) =
         words-left values (s .base) (s .top - s .base) (s .top - n - s .base) n (omega arith) in
-        let callers = waiting-more places (s .base) (s .saved) back (h .chained) (omega arith) values (s .top - n) in
-        let chained = chained-more places (s .base) (s .saved) back (h .chained) (omega arith) (s .top - n) (omega arith) in
-        let same : length places′ ≡ length places = simp length-set in
-        goes-so m _ values places output values places′ output s inside
-        (calls m values output ∙ rw (call, opened, lt-ltb _ _ few, arguments, rest, callers))
+        let callers = waiting-more returns (s .base) (s .saved) back (h .chained) (omega arith) values (s .top - n) in
+        let chained = chained-more returns (s .base) (s .saved) back (h .chained) (omega arith) (s .top - n) (omega arith) in
+        let same : length returns′ ≡ length returns = simp length-set in
+        goes-so m _ values returns output values returns′ output s inside
+        (calls m values output ∙ rw (openCall, opened, lt-ltb _ _ few, arguments, rest, callers))
         going
-        (held-as m values places output values places′ output s inside h refl same refl (omega arith) (h .topped) (omega arith) chained (h .read-there) (h .written-there))
+        (held-as m values returns output values returns′ output s inside h refl same refl (omega arith) (h .topped) (omega arith) chained (h .read-there) (h .written-there))
         refl same refl refl
 
     pub call-made :
@@ -130,7 +130,7 @@ module _ (entry n : ℕ) (places : List ℕ) (s : Machine) where
         → Sound s
         → s .saved < returnWords - 2
         → j ≡ jumpTo entry s
-        → OnPlaces (Call entry n) places (set (set places (s .saved) (s .address + 1)) (s .saved + 1) (s .base)) s
+        → OnReturns (Call entry n) returns (set (set returns (s .saved) (s .address + 1)) (s .saved + 1) (s .base)) s
         (record {
           stop = j .stop;
           address = j .address;
@@ -152,11 +152,11 @@ record Cut (values values′ : List ℕ) (base top : ℕ) (words : List ℕ) : T
   based : base ≤ top
   topped : top ≤ valueWords
   on : (own : ℕ) → own ≤ base → wordsFrom values′ own (top - own) ≡ words ++ wordsFrom values own (base - own)
-  below : (places : List ℕ) (own n : ℕ) → Chained places own n → own ≤ base → waiting values′ places own n ≡ waiting values places own n
+  below : (returns : List ℕ) (own n : ℕ) → Chained returns own n → own ≤ base → waiting values′ returns own n ≡ waiting values returns own n
 
 cut-all : (values : List ℕ) (base : ℕ) → base ≤ valueWords → Cut values values base base []
 cut-all values base fits =
-    record { same-length = refl; based = le-refl base; topped = fits; on = λ own h. refl; below = λ places own n c h. refl }
+    record { same-length = refl; based = le-refl base; topped = fits; on = λ own h. refl; below = λ returns own n c h. refl }
 
 cut-to-one :
     (values : List ℕ) (base x : ℕ)
@@ -172,48 +172,48 @@ cut-to-one values base x fits lent =
           λ own h.
           let one-more : base + 1 - own ≡ suc (base - own) = omega arith in
           ap (wordsFrom (set values base x) own) one-more ∙ words-pushed values own (base - own) base x (omega arith) (omega arith);
-      below = λ places own n c h. waiting-kept values places own n base x c h;
+      below = λ returns own n c h. waiting-kept values returns own n base x c h;
     }
 
 -- A frame cut is left: the first one with its number, another one for the frame that waits.
-module _ (m : Setting) (values values′ places output words : List ℕ) (address top read written top′ : ℕ) where
+module _ (m : Setting) (values values′ returns output words : List ℕ) (address top read written top′ : ℕ) where
   abbrev at-frame : ℕ → ℕ → Machine
   at-frame base saved = record { stop = goesOn; address = address; top = top; base = base; saved = saved; read = read; written = written }
 
   left-so :
       (base saved : ℕ)
-      → Chained places base saved
+      → Chained returns base saved
       → Cut values values′ base top′ words
-      → Held m values places output (at-frame base saved)
-      → Does m (leave (waiting values places base saved) words (stateOf values places output (at-frame base saved)))
-      values places output values′ places output (at-frame base saved) (left places top′ (at-frame base saved))
+      → Held m values returns output (at-frame base saved)
+      → Does m (leave (waiting values returns base saved) words (stateOf values returns output (at-frame base saved)))
+      values returns output values′ returns output (at-frame base saved) (left returns top′ (at-frame base saved))
   unfolding stepOf left leave waiting wordsFrom numberKept
   left-so base saved first cut h =
       record {
-        told = ap (λ ws. ends (numberKept ws)) (cut .on 0 (le-refl 0) ∙ append-nil words);
+        reported = ap (λ ws. ends (numberKept ws)) (cut .on 0 (le-refl 0) ∙ append-nil words);
         held =
-            held-as m values places output values′ places output (at-frame 0 0) _ h (cut .same-length) refl refl
+            held-as m values returns output values′ returns output (at-frame 0 0) _ h (cut .same-length) refl refl
             (cut .based) (cut .topped) (h .saved-fits) first (h .read-there) (h .written-there);
         same-values = cut .same-length;
-        same-places = refl;
+        same-returns = refl;
         same-output = refl;
         untouched = refl;
         still = λ stops. record { read = refl; written = refl; same = refl };
       }
   left-so base saved (above {n = n} under c) cut h =
       let s : Machine = at-frame base (suc (suc n)) in
-      let own : ℕ = getD places (suc n) 0 in
-      let back : Machine = record { stop = goesOn; address = getD places n 0; top = top′; base = own; saved = n; read = read; written = written } in
+      let own : ℕ = getD returns (suc n) 0 in
+      let back : Machine = record { stop = goesOn; address = getD returns n 0; top = top′; base = own; saved = n; read = read; written = written } in
       let two-less : suc (suc n) - 2 ≡ n = omega arith in
       let one-less : suc (suc n) - 1 ≡ suc n = omega arith in
-      let is-back : left places top′ s ≡ back = sym (left-back places top′ s (omega arith)) ∙ rw (two-less, one-less) in
+      let is-back : left returns top′ s ≡ back = sym (left-back returns top′ s (omega arith)) ∙ rw (two-less, one-less) in
       let based = cut .based in
       let fits = h .saved-fits in
       rw is-back
-      (goes-so m _ values places output values′ places output s back
-      (rw (cut .on own under, cut .below places own n c under))
+      (goes-so m _ values returns output values′ returns output s back
+      (rw (cut .on own under, cut .below returns own n c under))
       refl
-      (held-as m values places output values′ places output s back h (cut .same-length) refl refl (omega arith) (cut .topped) (omega arith) c
+      (held-as m values returns output values′ returns output s back h (cut .same-length) refl refl (omega arith) (cut .topped) (omega arith) c
       (h .read-there) (h .written-there))
       (cut .same-length) refl refl refl)
 
@@ -224,15 +224,15 @@ kept-more zero frame h g = absurd (h refl)
 kept-more (suc zero) frame h g = absurd (g refl)
 kept-more (suc (suc k)) frame h g = refl
 
-module _ (k : ℕ) (places values : List ℕ) (s r : Machine) where
+module _ (k : ℕ) (returns values : List ℕ) (s r : Machine) where
   -- these words can be kept, or none can
   gives :
       (values′ words : List ℕ) (top : ℕ)
       → s .stop ≡ goesOn
       → kept k (frameOf values s) ≡ some words
       → Cut values values′ (s .base) top words
-      → r ≡ left places top s
-      → FromPlaces (Return k) places values values′ s r
+      → r ≡ left returns top s
+      → FromReturns (Return k) returns values values′ s r
   unfolding operate
   gives values′ words top going keeps cut e =
       let same : stoppedBy goesOn s ≡ s = ap (λ stop. stoppedBy stop s) (sym going) in
@@ -240,25 +240,25 @@ module _ (k : ℕ) (places values : List ℕ) (s r : Machine) where
         does =
             λ m output h.
             let so =
-            left-so m values values′ places output words (s .address) (s .top) (s .read) (s .written) top (s .base) (s .saved)
+            left-so m values values′ returns output words (s .address) (s .top) (s .read) (s .written) top (s .base) (s .saved)
             (h .chained) cut (rw same h) in
             rw (e, operate, keeps) (rw same at so);
       }
 
-  gives-none : kept k (frameOf values s) ≡ none → r ≡ stoppedBy cannotPerform s → FromPlaces (Return k) places values values s r
+  gives-none : kept k (frameOf values s) ≡ none → r ≡ stoppedBy cannotPerform s → FromReturns (Return k) returns values values s r
   unfolding operate
   gives-none missing e =
-      record { does = λ m output h. refused-so m _ values places output s r cannotPerform e (rw (operate, missing)) (lit< tt) h }
+      record { does = λ m output h. refused-so m _ values returns output s r cannotPerform e (rw (operate, missing)) (lit< tt) h }
 
-  pub return-none : Sound s → k ≡ 0 → r ≡ left places (s .base) s → FromPlaces (Return k) places values values s r
+  pub return-none : Sound s → k ≡ 0 → r ≡ left returns (s .base) s → FromReturns (Return k) returns values values s r
   unfolding kept
   return-none sound is e = gives values [] (s .base) (sound .going) (rw is) (cut-all values (s .base) (omega arith)) e
 
-  pub return-more : k ≢ 0 → k ≢ 1 → r ≡ stoppedBy cannotPerform s → FromPlaces (Return k) places values values s r
+  pub return-more : k ≢ 0 → k ≢ 1 → r ≡ stoppedBy cannotPerform s → FromReturns (Return k) returns values values s r
   return-more h g e = gives-none (kept-more k (frameOf values s) h g) e
 
   -- 01, Instructions that cannot be performed: "19 .. (.. missing .. words)"
-  pub return-empty : k ≡ 1 → s .top ≤ s .base → r ≡ stoppedBy cannotPerform s → FromPlaces (Return k) places values values s r
+  pub return-empty : k ≡ 1 → s .top ≤ s .base → r ≡ stoppedBy cannotPerform s → FromReturns (Return k) returns values values s r
   unfolding kept wordsFrom
   return-empty is empty e = let no-word : s .top - s .base ≡ 0 = omega arith in gives-none (rw (is, no-word)) e
 
@@ -267,8 +267,8 @@ module _ (k : ℕ) (places values : List ℕ) (s r : Machine) where
       → valueWords ≤ length values
       → k ≡ 1
       → s .base < s .top
-      → r ≡ left places (s .base + 1) s
-      → FromPlaces (Return k) places values (set values (s .base) (getD values (s .top - 1) 0)) s r
+      → r ≡ left returns (s .base + 1) s
+      → FromReturns (Return k) returns values (set values (s .base) (getD values (s .top - 1) 0)) s r
   unfolding kept
   return-one sound lent is filled e =
       let x : ℕ = getD values (s .top - 1) 0 in

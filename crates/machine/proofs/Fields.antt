@@ -9,7 +9,7 @@ use lib.Seq.{getD-take, getD-drop}
 use Rattle.formats.specs.Numbers.{numberOf, numberAt}
 use Rattle.formats.specs.Records.{recordAt}
 use Rattle.formats.proofs.Numbers.{bytesFrom, number-read}
-use Rattle.formats.proofs.Places.{part-inside, length-inside}
+use Rattle.formats.proofs.Buffers.{part-inside, length-inside}
 use Rattle.meaning.specs.Instructions.{instructionBytes}
 
 -- a number that is there whole is what its bytes stand for

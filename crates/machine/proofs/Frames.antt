@@ -16,7 +16,7 @@ use Rattle.meaning.specs.Levels.{atLevel}
 use Rattle.meaning.proofs.Levels.{level-newest, level-older}
 use Rattle.meaning.specs.Performing.{Caller, wordsBelow, standing, Step, refuses, one, two}
 use Rattle.machine.specs.declared.Machine.{Machine}
-use Rattle.machine.specs.Held.{wordsFrom, waiting, stateOf, Chained, first, above}
+use Rattle.machine.specs.Inner.States.{wordsFrom, waiting, stateOf, Chained, first, above}
 
 decide : (b : Bool) → (b ≡ true) ⊎ (b ≡ false)
 decide true = inl refl
@@ -132,90 +132,90 @@ words-left values base (suc n) rest (suc k) e = words-left values base n rest k 
 
 -- a value word above them set
 pub waiting-kept :
-    (values places : List ℕ) (base saved i x : ℕ)
-    → Chained places base saved
+    (values returns : List ℕ) (base saved i x : ℕ)
+    → Chained returns base saved
     → base ≤ i
-    → waiting (set values i x) places base saved ≡ waiting values places base saved
+    → waiting (set values i x) returns base saved ≡ waiting values returns base saved
 unfolding waiting
-waiting-kept values places base saved i x first h = refl
-waiting-kept values places base saved i x (above {n = n} below c) h =
-    let own : ℕ = getD places (suc n) 0 in
-    ap₂ (λ (ws : List ℕ) (cs : List Caller). record { back = getD places n 0; words = ws } ∷ cs)
+waiting-kept values returns base saved i x first h = refl
+waiting-kept values returns base saved i x (above {n = n} below c) h =
+    let own : ℕ = getD returns (suc n) 0 in
+    ap₂ (λ (ws : List ℕ) (cs : List Caller). record { back = getD returns n 0; words = ws } ∷ cs)
     (words-kept values own (base - own) i x (omega arith))
-    (waiting-kept values places own n i x c (le-trans below h))
+    (waiting-kept values returns own n i x c (le-trans below h))
 
 -- a return place above them set
 pub waiting-saved :
-    (values places : List ℕ) (base saved i x : ℕ)
-    → Chained places base saved
+    (values returns : List ℕ) (base saved i x : ℕ)
+    → Chained returns base saved
     → saved ≤ i
-    → waiting values (set places i x) base saved ≡ waiting values places base saved
+    → waiting values (set returns i x) base saved ≡ waiting values returns base saved
 unfolding waiting
-waiting-saved values places base saved i x first h = refl
-waiting-saved values places base saved i x (above {n = n} below c) h =
-    let own-kept : getD (set places i x) (suc n) 0 ≡ getD places (suc n) 0 = getD-set-other places i (suc n) x 0 (λ e. absurd (omega arith)) in
-    let back-kept : getD (set places i x) n 0 ≡ getD places n 0 = getD-set-other places i n x 0 (λ e. absurd (omega arith)) in
-    rw (own-kept, back-kept, waiting-saved values places (getD places (suc n) 0) n i x c (omega arith)) refl
+waiting-saved values returns base saved i x first h = refl
+waiting-saved values returns base saved i x (above {n = n} below c) h =
+    let own-kept : getD (set returns i x) (suc n) 0 ≡ getD returns (suc n) 0 = getD-set-other returns i (suc n) x 0 (λ e. absurd (omega arith)) in
+    let back-kept : getD (set returns i x) n 0 ≡ getD returns n 0 = getD-set-other returns i n x 0 (λ e. absurd (omega arith)) in
+    rw (own-kept, back-kept, waiting-saved values returns (getD returns (suc n) 0) n i x c (omega arith)) refl
 
-pub chained-saved : (places : List ℕ) (base saved i x : ℕ) → Chained places base saved → saved ≤ i → Chained (set places i x) base saved
-chained-saved places base saved i x first h = first
-chained-saved places base saved i x (above {n = n} below c) h =
-    let own-kept : getD (set places i x) (suc n) 0 ≡ getD places (suc n) 0 = getD-set-other places i (suc n) x 0 (λ e. absurd (omega arith)) in
-    above {base = base} {n = n} (rw own-kept below) (rw own-kept (chained-saved places (getD places (suc n) 0) n i x c (omega arith)))
+pub chained-saved : (returns : List ℕ) (base saved i x : ℕ) → Chained returns base saved → saved ≤ i → Chained (set returns i x) base saved
+chained-saved returns base saved i x first h = first
+chained-saved returns base saved i x (above {n = n} below c) h =
+    let own-kept : getD (set returns i x) (suc n) 0 ≡ getD returns (suc n) 0 = getD-set-other returns i (suc n) x 0 (λ e. absurd (omega arith)) in
+    above {base = base} {n = n} (rw own-kept below) (rw own-kept (chained-saved returns (getD returns (suc n) 0) n i x c (omega arith)))
 
 -- one frame more waits: its return place is saved, below a new base
-module _ (places : List ℕ) (base saved back : ℕ) (c : Chained places base saved) (fits : saved + 1 < length places) where
+module _ (returns : List ℕ) (base saved back : ℕ) (c : Chained returns base saved) (fits : saved + 1 < length returns) where
   abbrev back-set : List ℕ
-  back-set = set places saved back
+  back-set = set returns saved back
 
-  abbrev place-set : List ℕ
-  place-set = set back-set (suc saved) base
+  abbrev position-set : List ℕ
+  position-set = set back-set (suc saved) base
 
-  own-there : getD place-set (suc saved) 0 ≡ base
+  own-there : getD position-set (suc saved) 0 ≡ base
   own-there = getD-set-same back-set (suc saved) base 0 (simp length-set (omega arith))
 
-  back-there : getD place-set saved 0 ≡ back
-  back-there = getD-set-other back-set (suc saved) saved base 0 (λ e. omega arith) ∙ getD-set-same places saved back 0 (omega arith)
+  back-there : getD position-set saved 0 ≡ back
+  back-there = getD-set-other back-set (suc saved) saved base 0 (λ e. omega arith) ∙ getD-set-same returns saved back 0 (omega arith)
 
   chained-still : Chained back-set base saved
-  chained-still = chained-saved places base saved saved back c (le-refl saved)
+  chained-still = chained-saved returns base saved saved back c (le-refl saved)
 
-  waiting-still : (values : List ℕ) → waiting values place-set base saved ≡ waiting values places base saved
+  waiting-still : (values : List ℕ) → waiting values position-set base saved ≡ waiting values returns base saved
   waiting-still values =
       waiting-saved values back-set base saved (suc saved) base chained-still (omega arith)
-      ∙ waiting-saved values places base saved saved back c (le-refl saved)
+      ∙ waiting-saved values returns base saved saved back c (le-refl saved)
 
   pub waiting-more :
       (values : List ℕ) (lo : ℕ)
-      → waiting values place-set lo (suc (suc saved))
-      ≡ record { back = back; words = wordsFrom values base (lo - base) } ∷ waiting values places base saved
+      → waiting values position-set lo (suc (suc saved))
+      ≡ record { back = back; words = wordsFrom values base (lo - base) } ∷ waiting values returns base saved
   unfolding waiting
   waiting-more values lo = rw (own-there, back-there, waiting-still values)
 
-  pub chained-more : (lo : ℕ) → base ≤ lo → Chained place-set lo (suc (suc saved))
+  pub chained-more : (lo : ℕ) → base ≤ lo → Chained position-set lo (suc (suc saved))
   chained-more lo h =
       above {base = lo} {n = saved} (rw own-there h) (rw own-there (chained-saved back-set base saved (suc saved) base chained-still (omega arith)))
 
 -- they hold all words below the base
-pub words-below : (values places : List ℕ) (base saved : ℕ) → Chained places base saved → wordsBelow (waiting values places base saved) ≡ base
+pub words-below : (values returns : List ℕ) (base saved : ℕ) → Chained returns base saved → wordsBelow (waiting values returns base saved) ≡ base
 unfolding waiting wordsBelow
-words-below values places base saved first = refl
-words-below values places base saved (above {n = n} below c) =
-    let own : ℕ = getD places (suc n) 0 in
-    rw (length-words values own (base - own), words-below values places own n c) (omega arith)
+words-below values returns base saved first = refl
+words-below values returns base saved (above {n = n} below c) =
+    let own : ℕ = getD returns (suc n) 0 in
+    rw (length-words values own (base - own), words-below values returns own n c) (omega arith)
 
 -- there is one for every two words saved
-pub count-waiting : (values places : List ℕ) (base saved : ℕ) → Chained places base saved → saved ≡ 2 * length (waiting values places base saved)
+pub count-waiting : (values returns : List ℕ) (base saved : ℕ) → Chained returns base saved → saved ≡ 2 * length (waiting values returns base saved)
 unfolding waiting
-count-waiting values places base saved first = refl
-count-waiting values places base saved (above {n = n} below c) = let e = count-waiting values places (getD places (suc n) 0) n c in omega arith
+count-waiting values returns base saved first = refl
+count-waiting values returns base saved (above {n = n} below c) = let e = count-waiting values returns (getD returns (suc n) 0) n c in omega arith
 
 -- all words that stand
 pub all-standing :
-    (values places output : List ℕ) (s : Machine)
-    → Chained places (s .base) (s .saved)
+    (values returns output : List ℕ) (s : Machine)
+    → Chained returns (s .base) (s .saved)
     → s .base ≤ s .top
-    → standing (stateOf values places output s) ≡ s .top
+    → standing (stateOf values returns output s) ≡ s .top
 unfolding standing
-all-standing values places output s c h =
-    rw (length-words values (s .base) (s .top - s .base), words-below values places (s .base) (s .saved) c) (omega arith)
+all-standing values returns output s c h =
+    rw (length-words values (s .base) (s .top - s .base), words-below values returns (s .base) (s .saved) c) (omega arith)

@@ -15,12 +15,12 @@ use lib.Seq.{length-take-le, drop-drop}
 use Rattle.formats.specs.Refusals.{fuelUsedUp, inputEnded, notATag, outputFull, tooManyCalls, cannotPerform}
 use Rattle.formats.specs.Written.{written}
 use Rattle.formats.proofs.Written.{written-fits}
-use Rattle.refusal.specs.Number.{number}
+use Rattle.refusal.specs.Inner.Numbers.{number}
 use Rattle.refusal.specs.declared.Refusal.{Refusal}
 use Rattle.refusal.specs.declared.Refusal.the-variants.{FuelUsedUp}
 use Rattle.refusal.specs.declared.Verdict.the-variants.{Passed, Refused}
 use Rattle.meaning.specs.Performing.{Setting, State, start, goes, ends, refuses, step, numberKept}
-use Rattle.meaning.specs.Running.{Run, Stop, refused, Ran, ranTo, noneDone, tooShort, ofCode, outcomeOf, numberTold, valueWords, returnWords, streamRun}
+use Rattle.meaning.specs.Running.{Run, Stop, refused, Ran, ranTo, noneDone, tooShort, ofCode, outcomeOf, numberReported, valueWords, returnWords, streamRun}
 use Rattle.meaning.specs.StreamRun.{StepRefusal, ended-there, no-tag, full, too-many, cannot, Stops, used-up, returned, stuck, here, on}
 use Rattle.meaning.specs.StreamRun.{Steps as Led}
 use Rattle.meaning.proofs.Steps.{one-step}
@@ -30,10 +30,10 @@ use Rattle.meaning.proofs.WorkWords.{untouched, run-refused}
 use Rattle.meaning.proofs.WorkWords.{ended as words-ended}
 use Rattle.machine.specs.declared.Machine.{Machine}
 use Rattle.machine.specs.declared.Answer.{Answer}
-use Rattle.machine.specs.Held.{wordsFrom, waiting, frameOf, stateOf, stepOf, goesOn, hasEnded, first, Going, Held, Lent}
-use Rattle.machine.specs.Does.{Does, Steps}
+use Rattle.machine.specs.Inner.States.{wordsFrom, waiting, frameOf, stateOf, stepOf, goesOn, hasEnded, first, Going, Held, Lent}
+use Rattle.machine.specs.Inner.Effects.{Does, Steps}
 use Rattle.machine.proofs.Frames.{words-top}
-use Rattle.machine.specs.Told.{answered, refusalNumber, dueAt, Tells, Performed}
+use Rattle.machine.specs.Inner.Answers.{runAnswer, refusalNumber, dueAt, Reports, Performed}
 
 -- ---- `refusal_of`
 
@@ -82,39 +82,39 @@ module _ (values : List ℕ) (s : Machine) where
 
 pub ruleset kept = (kept-none, kept-top)
 
--- ---- `tell`
+-- ---- `report`
 
 module _ (values : List ℕ) (units : ℕ) (s : Machine) where
-  pub tells-ended :
+  pub reports-ended :
       (number : ℕ)
       → s .stop ≡ hasEnded
       → number ≡ numberKept (frameOf values s)
-      → Tells values units s (record { verdict = Passed; units = units + 1; read = s .read; written = s .written; number = number })
+      → Reports values units s (record { verdict = Passed; units = units + 1; read = s .read; written = s .written; number = number })
   unfolding dueAt
-  tells-ended number e is = record { tells = rw (dueAt, eq-eqb _ _ e, is) refl }
+  reports-ended number e is = record { reports = rw (dueAt, eq-eqb _ _ e, is) refl }
 
-  pub tells-refused :
+  pub reports-refused :
       (why : Refusal)
       → s .stop ≢ hasEnded
       → number why ≡ refusalNumber (s .stop)
-      → Tells values units s (record { verdict = Refused why (s .read); units = units; read = s .read; written = s .written; number = 0 })
+      → Reports values units s (record { verdict = Refused why (s .read); units = units; read = s .read; written = s .written; number = 0 })
   unfolding dueAt
-  tells-refused why h is = record { tells = rw (dueAt, ne-eqb _ _ h, is) refl }
+  reports-refused why h is = record { reports = rw (dueAt, ne-eqb _ _ h, is) refl }
 
-pub ruleset told = (tells-ended, tells-refused)
+pub ruleset reported = (reports-ended, reports-refused)
 
 -- ---- what a stop says of the step
 
-module _ (values places output : List ℕ) (r : Machine) where
-  step-goes : r .stop ≡ goesOn → stepOf values places output r ≡ goes (stateOf values places output r)
+module _ (values returns output : List ℕ) (r : Machine) where
+  step-goes : r .stop ≡ goesOn → stepOf values returns output r ≡ goes (stateOf values returns output r)
   unfolding stepOf
   step-goes e = rw (stepOf, eq-eqb _ _ e)
 
-  step-ends : r .stop ≡ hasEnded → stepOf values places output r ≡ ends (numberKept (frameOf values r))
+  step-ends : r .stop ≡ hasEnded → stepOf values returns output r ≡ ends (numberKept (frameOf values r))
   unfolding stepOf
   step-ends e = rw (stepOf, ne-eqb (r .stop) goesOn (λ z. absurd (omega arith)), eq-eqb _ _ e)
 
-  step-refuses : r .stop ≢ goesOn → r .stop ≢ hasEnded → stepOf values places output r ≡ refuses (r .stop)
+  step-refuses : r .stop ≢ goesOn → r .stop ≢ hasEnded → stepOf values returns output r ≡ refuses (r .stop)
   unfolding stepOf
   step-refuses h g = rw (stepOf, ne-eqb _ _ h, ne-eqb _ _ g)
 
@@ -157,7 +157,7 @@ unfolding streamRun
 lent-run code input output fuel values returns r v p d =
     rw (streamRun, le-leb _ _ v, le-leb _ _ p) (ap (ranTo output) (sym (runs (ofCode code input (length output)) start .only-one fuel r d)))
 
--- ---- the output: what is written, and behind it what stood there
+-- ---- the output: what is written, and after it what stood there
 
 output-is :
     (output output₀ : List ℕ) (w : ℕ)
@@ -170,10 +170,10 @@ output-is output output₀ w same fits rest =
     let long = length-take-le w output fits in
     let end : 0 + length front ≡ w = omega arith in
     let room : 0 + length front ≤ length output₀ = omega arith in
-    let behind : drop (0 + length front) output₀ ≡ drop w output = ap (λ k. drop k output₀) end ∙ sym rest in
-    sym (written-fits output₀ 0 front room ∙ ap (λ (l : List ℕ). front ++ l) behind ∙ take-append-drop w output)
+    let after : drop (0 + length front) output₀ ≡ drop w output = ap (λ k. drop k output₀) end ∙ sym rest in
+    sym (written-fits output₀ 0 front room ∙ ap (λ (l : List ℕ). front ++ l) after ∙ take-append-drop w output)
 
--- what is untouched behind fewer bytes is so behind more
+-- what is untouched after fewer bytes is so after more
 drop-more : (few many : ℕ) (l k : List ℕ) → few ≤ many → drop few l ≡ drop few k → drop many l ≡ drop many k
 drop-more few many l k h e =
     let sum : few + (many - few) ≡ many = omega arith in
@@ -181,31 +181,31 @@ drop-more few many l k h e =
 
 -- ---- `run`
 
--- In front of a turn: the machine goes on, so many steps have led to its state, and behind what is written the output is as it was.
-pub record Running (code input : List ℕ) (fuel : ℕ) (output₀ values₀ places₀ output values places : List ℕ) (s : Machine) (units : ℕ) : Type 0 where
+-- In front of a turn: the machine goes on, so many steps have led to its state, and after what is written the output is as it was.
+pub record Running (code input : List ℕ) (fuel : ℕ) (output₀ values₀ returns₀ output values returns : List ℕ) (s : Machine) (units : ℕ) : Type 0 where
   pub going : s .stop ≡ goesOn
-  pub held : Held (ofCode code input (length output₀)) values places output s
+  pub held : Held (ofCode code input (length output₀)) values returns output s
   pub past : List ℕ
-  pub led : Led (ofCode code input (length output₀)) past start (stateOf values places output s)
+  pub led : Led (ofCode code input (length output₀)) past start (stateOf values returns output s)
   pub counted : length past ≡ units
   pub fuelled : units ≤ fuel
   pub same-values : length values ≡ length values₀
-  pub same-places : length places ≡ length places₀
+  pub same-returns : length returns ≡ length returns₀
   pub same-output : length output ≡ length output₀
   pub untouched : drop (s .written) output ≡ drop (s .written) output₀
 
-module _ (code input : List ℕ) (fuel : ℕ) (output₀ values₀ places₀ : List ℕ) where
+module _ (code input : List ℕ) (fuel : ℕ) (output₀ values₀ returns₀ : List ℕ) where
   abbrev m : Setting
   m = ofCode code input (length output₀)
 
   -- what is due at the end
   abbrev due : Ran
-  due = streamRun code input output₀ fuel (length values₀) (length places₀)
+  due = streamRun code input output₀ fuel (length values₀) (length returns₀)
 
   pub run-first :
       valueWords ≤ length values₀
-      → returnWords ≤ length places₀
-      → Running code input fuel output₀ values₀ places₀ output₀ values₀ places₀
+      → returnWords ≤ length returns₀
+      → Running code input fuel output₀ values₀ returns₀ output₀ values₀ returns₀
       (record { stop = 0; address = 0; top = 0; base = 0; saved = 0; read = 0; written = 0 })
       0
   unfolding waiting wordsFrom
@@ -217,7 +217,7 @@ module _ (code input : List ℕ) (fuel : ℕ) (output₀ values₀ places₀ : L
           calls-limit = refl;
           space-is = refl;
           values-lent = v;
-          places-lent = p;
+          returns-lent = p;
           based = omega arith;
           topped = omega arith;
           saved-fits = omega arith;
@@ -230,24 +230,24 @@ module _ (code input : List ℕ) (fuel : ℕ) (output₀ values₀ places₀ : L
         counted = refl;
         fuelled = omega arith;
         same-values = refl;
-        same-places = refl;
+        same-returns = refl;
         same-output = refl;
         untouched = refl;
       }
 
-  module _ (output values places : List ℕ) (s : Machine) (units : ℕ)
-      (h : Running code input fuel output₀ values₀ places₀ output values places s units)
+  module _ (output values returns : List ℕ) (s : Machine) (units : ℕ)
+      (h : Running code input fuel output₀ values₀ returns₀ output values returns s units)
     where
       abbrev state : State
-      state = stateOf values places output s
+      state = stateOf values returns output s
 
       pub turn-going : Going s
       turn-going = record { going = h .going; based = h .held .based; topped = h .held .topped }
 
-      pub turn-lent : Lent s input output values places
+      pub turn-lent : Lent s input output values returns
       turn-lent = record {
         values-lent = h .held .values-lent;
-        places-lent = h .held .places-lent;
+        returns-lent = h .held .returns-lent;
         saved-fits = h .held .saved-fits;
         read-there = h .held .read-there;
         written-there = h .held .written-there;
@@ -255,21 +255,21 @@ module _ (code input : List ℕ) (fuel : ℕ) (output₀ values₀ places₀ : L
 
       -- a run that stops here, for whatever reason
       stops-here :
-          (done : List ℕ) (why : Stop) (output′ values′ places′ : List ℕ) (a : Answer)
+          (done : List ℕ) (why : Stop) (output′ values′ returns′ : List ℕ) (a : Answer)
           → Stops m fuel start (record { performed = done; last = state; stop = why })
-          → answered a
-          ≡ record { outcome = outcomeOf why (s .read); units = length done; bytesRead = s .read; bytesWritten = s .written; number = numberTold why }
+          → runAnswer a
+          ≡ record { outcome = outcomeOf why (s .read); units = length done; bytesRead = s .read; bytesWritten = s .written; number = numberReported why }
           → output′ ≡ output
-          → WorkWords beforeStream (outcomeOf why (s .read)) values₀ values′ places₀ places′
-          → Performed due output′ values₀ values′ places₀ places′ a
-      stops-here done why output′ values′ places′ a d told same words =
+          → WorkWords beforeStream (outcomeOf why (s .read)) values₀ values′ returns₀ returns′
+          → Performed due output′ values₀ values′ returns₀ returns′ a
+      stops-here done why output′ values′ returns′ a d reported same words =
           let v : valueWords ≤ length values₀ = omega (arith, h .held .values-lent, h .same-values) in
-          let p : returnWords ≤ length places₀ = omega (arith, h .held .places-lent, h .same-places) in
+          let p : returnWords ≤ length returns₀ = omega (arith, h .held .returns-lent, h .same-returns) in
           let there = h .held .written-there in
           let long = length-take-le (s .written) output there in
-          rw (lent-run code input output₀ fuel (length values₀) (length places₀) _ v p d)
+          rw (lent-run code input output₀ fuel (length values₀) (length returns₀) _ v p d)
           (record {
-            answer = rw long told;
+            answer = rw long reported;
             output = same ∙ output-is output output₀ (s .written) (h .same-output) there (h .untouched);
             words = words;
           })
@@ -277,19 +277,19 @@ module _ (code input : List ℕ) (fuel : ℕ) (output₀ values₀ places₀ : L
       -- the fuel is used up
       pub stops-unfuelled :
           fuel ≤ units
-          → Performed due output values₀ values places₀ places
+          → Performed due output values₀ values returns₀ returns
           (record { verdict = Refused FuelUsedUp (s .read); units = fuel; read = s .read; written = s .written; number = 0 })
-      unfolding outcomeOf numberTold beforeStream
+      unfolding outcomeOf numberReported beforeStream
       stops-unfuelled none =
           let all : length (h .past) ≡ fuel = omega (arith, h .counted, h .fuelled) in
-          stops-here (h .past) (refused fuelUsedUp) output values places _ (used-up (h .led) all) (rw all refl) refl
-          (run-refused beforeStream _ _ _ _ _ (h .same-values) (h .same-places) fuelUsedUp (s .read) refl refl)
+          stops-here (h .past) (refused fuelUsedUp) output values returns _ (used-up (h .led) all) (rw all refl) refl
+          (run-refused beforeStream _ _ _ _ _ (h .same-values) (h .same-returns) fuelUsedUp (s .read) refl refl)
 
       -- after a turn
-      module _ (output′ values′ places′ : List ℕ) (r : Machine) (more : units < fuel)
-          (d : Steps code input values places output values′ places′ output′ s r)
+      module _ (output′ values′ returns′ : List ℕ) (r : Machine) (more : units < fuel)
+          (d : Steps code input values returns output values′ returns′ output′ s r)
         where
-          did : Does m (step m state) values places output values′ places′ output′ s r
+          did : Does m (step m state) values returns output values′ returns′ output′ s r
           did = d .does m refl refl (h .held)
 
           pub turned-asks : Fits w64 fuel → (r .top ≤ length values′) × (units + 1 < 2 ^ 64)
@@ -301,16 +301,16 @@ module _ (code input : List ℕ) (fuel : ℕ) (output₀ values₀ places₀ : L
           pub turned-values : length values′ ≡ length values₀
           turned-values = did .same-values ∙ h .same-values
 
-          pub turned-places : length places′ ≡ length places₀
-          turned-places = did .same-places ∙ h .same-places
+          pub turned-returns : length returns′ ≡ length returns₀
+          turned-returns = did .same-returns ∙ h .same-returns
 
           counted-more : length (h .past ++ (s .address ∷ [])) ≡ units + 1
           counted-more = omega (arith, length-append (h .past) (s .address ∷ []), h .counted)
 
           -- it goes on
-          pub turned-on : r .stop ≡ goesOn → Running code input fuel output₀ values₀ places₀ output′ values′ places′ r (units + 1)
+          pub turned-on : r .stop ≡ goesOn → Running code input fuel output₀ values₀ returns₀ output′ values′ returns′ r (units + 1)
           turned-on goes-on =
-              let e : step m state ≡ goes (stateOf values′ places′ output′ r) = sym (did .told) ∙ step-goes values′ places′ output′ r goes-on in
+              let e : step m state ≡ goes (stateOf values′ returns′ output′ r) = sym (did .reported) ∙ step-goes values′ returns′ output′ r goes-on in
               let grown = one-step m state .grows _ e .writes in
               let before = length-take-le (s .written) output (h .held .written-there) in
               let after = length-take-le (r .written) output′ (did .held .written-there) in
@@ -325,57 +325,57 @@ module _ (code input : List ℕ) (fuel : ℕ) (output₀ values₀ places₀ : L
                 counted = counted-more;
                 fuelled = omega arith;
                 same-values = turned-values;
-                same-places = turned-places;
+                same-returns = turned-returns;
                 same-output = turned-output;
                 untouched = did .untouched ∙ drop-more (s .written) (r .written) output output₀ more-written (h .untouched);
               }
 
           -- it stops
-          pub turned-stops : (a : Answer) → r .stop ≢ goesOn → Tells values′ units r a → Performed due output′ values₀ values′ places₀ places′ a
-          unfolding outcomeOf numberTold dueAt
+          pub turned-stops : (a : Answer) → r .stop ≢ goesOn → Reports values′ units r a → Performed due output′ values₀ values′ returns₀ returns′ a
+          unfolding outcomeOf numberReported dueAt
           turned-stops a stops t =
               let still = did .still stops in
               let fuel-left : length (h .past) < fuel = omega (arith, h .counted) in
               elim (decLe (r .stop) hasEnded) [
                 | yes low ↦
                     let is-end : r .stop ≡ hasEnded = omega arith in
-                    let e : step m state ≡ ends (numberKept (frameOf values′ r)) = sym (did .told) ∙ step-ends values′ places′ output′ r is-end in
-                    stops-here _ _ output′ values′ places′ a (returned (h .led) fuel-left e)
-                    (t .tells ∙ rw (dueAt, eq-eqb _ _ is-end, still .read, still .written, counted-more) refl)
+                    let e : step m state ≡ ends (numberKept (frameOf values′ r)) = sym (did .reported) ∙ step-ends values′ returns′ output′ r is-end in
+                    stops-here _ _ output′ values′ returns′ a (returned (h .led) fuel-left e)
+                    (t .reports ∙ rw (dueAt, eq-eqb _ _ is-end, still .read, still .written, counted-more) refl)
                     (still .same)
-                    (words-ended beforeStream _ _ _ _ _ turned-values turned-places refl)
+                    (words-ended beforeStream _ _ _ _ _ turned-values turned-returns refl)
                 | no high ↦
                     let no-end : r .stop ≢ hasEnded = λ e. absurd (omega arith) in
-                    let e : step m state ≡ refuses (r .stop) = sym (did .told) ∙ step-refuses values′ places′ output′ r stops no-end in
+                    let e : step m state ≡ refuses (r .stop) = sym (did .reported) ∙ step-refuses values′ returns′ output′ r stops no-end in
                     let own-refusal = one-step m state .refusals (r .stop) e in
                     let own = names-itself (r .stop) own-refusal in
-                    stops-here _ _ output′ values′ places′ a (stuck (h .led) fuel-left e)
-                    (t .tells ∙ rw (dueAt, ne-eqb _ _ no-end, own, still .read, still .written, h .counted) refl)
+                    stops-here _ _ output′ values′ returns′ a (stuck (h .led) fuel-left e)
+                    (t .reports ∙ rw (dueAt, ne-eqb _ _ no-end, own, still .read, still .written, h .counted) refl)
                     (still .same)
-                    (run-refused beforeStream _ _ _ _ _ turned-values turned-places (r .stop) (s .read) refl (not-before (r .stop) own-refusal))
+                    (run-refused beforeStream _ _ _ _ _ turned-values turned-returns (r .stop) (s .read) refl (not-before (r .stop) own-refusal))
               ]
 
-pub ruleset running = (run-first, turn-going, turn-lent, turned-output, turned-values, turned-places, turned-on, turned-stops, stops-unfuelled)
+pub ruleset running = (run-first, turn-going, turn-lent, turned-output, turned-values, turned-returns, turned-on, turned-stops, stops-unfuelled)
 
 -- ---- `perform`
 
 -- value words are missing, or return words
-module _ (code input output : List ℕ) (fuel : ℕ) (values places : List ℕ) (r : Answer) (told : answered r ≡ noneDone) where
+module _ (code input output : List ℕ) (fuel : ℕ) (values returns : List ℕ) (r : Answer) (reported : runAnswer r ≡ noneDone) where
   pub short-values :
       length values < valueWords
-      → Performed (streamRun code input output fuel (length values) (length places)) output values values places places r
+      → Performed (streamRun code input output fuel (length values) (length returns)) output values values returns returns r
   unfolding streamRun
   short-values h =
-      let none : streamRun code input output fuel (length values) (length places) ≡ tooShort output = rw (streamRun, lt-leb _ _ h) in
-      rw none (record { answer = told; output = refl; words = untouched beforeStream _ values places })
+      let none : streamRun code input output fuel (length values) (length returns) ≡ tooShort output = rw (streamRun, lt-leb _ _ h) in
+      rw none (record { answer = reported; output = refl; words = untouched beforeStream _ values returns })
 
-  pub short-places :
+  pub short-returns :
       valueWords ≤ length values
-      → length places < returnWords
-      → Performed (streamRun code input output fuel (length values) (length places)) output values values places places r
+      → length returns < returnWords
+      → Performed (streamRun code input output fuel (length values) (length returns)) output values values returns returns r
   unfolding streamRun
-  short-places v h =
-      let none : streamRun code input output fuel (length values) (length places) ≡ tooShort output = rw (streamRun, le-leb _ _ v, lt-leb _ _ h) in
-      rw none (record { answer = told; output = refl; words = untouched beforeStream _ values places })
+  short-returns v h =
+      let none : streamRun code input output fuel (length values) (length returns) ≡ tooShort output = rw (streamRun, le-leb _ _ v, lt-leb _ _ h) in
+      rw none (record { answer = reported; output = refl; words = untouched beforeStream _ values returns })
 
-pub ruleset too-short = (short-values, short-places)
+pub ruleset too-short = (short-values, short-returns)

@@ -10,35 +10,35 @@ use lib.ListN.{length, getD, set, length-set}
 use Rattle.formats.specs.Numbers.{sum32}
 use Rattle.formats.specs.Refusals.{cannotPerform}
 use Rattle.meaning.specs.Instructions.{Operation, Push, Get, Add, Ifnot, Slide, Drop}
-use Rattle.meaning.specs.Performing.{Setting, Step, goes, refuses, next, holding, one, room, push, operate}
+use Rattle.meaning.specs.Performing.{Setting, Step, goes, refuses, toNext, holding, one, room, pushWord, operate}
 use Rattle.meaning.specs.Running.{valueWords}
 use Rattle.machine.specs.declared.Machine.{Machine}
-use Rattle.machine.specs.Held.{wordsFrom, stateOf, Held, Sound, stoppedBy, nextTo}
-use Rattle.machine.specs.Does.{OnNumbers, OnValues}
+use Rattle.machine.specs.Inner.States.{wordsFrom, stateOf, Held, Sound, stoppedBy, nextTo}
+use Rattle.machine.specs.Inner.Effects.{OnNumbers, OnValues}
 use Rattle.machine.proofs.Frames.{words-pushed, one-missing, one-taken, two-missing, two-taken, word-found, word-missing, waiting-kept, all-standing}
 use Rattle.machine.proofs.Doing.{moved, held-moved, refused-so, goes-so}
 
 -- ---- an operation refused, and one that goes on in its frame
 
--- what becomes of an operation, whatever the other buffers hold
+-- The outcome of an operation, whatever the other buffers hold
 abbrev Becomes : Operation → List ℕ → Machine → (List ℕ → List ℕ → Step) → Type 0
 Becomes op values s due =
-    (m : Setting) (places output : List ℕ)
-    → Held m values places output s
-    → operate m (stateOf values places output s) op ≡ due places output
+    (m : Setting) (returns output : List ℕ)
+    → Held m values returns output s
+    → operate m (stateOf values returns output s) op ≡ due returns output
 
 -- done on the numbers: it leaves the value words, whatever they hold
 on-numbers : (op : Operation) (s r : Machine) → ((values : List ℕ) → OnValues op values values s r) → OnNumbers op s r
-on-numbers op s r h = record { does = λ m values places output held. h values .does m places output held }
+on-numbers op s r h = record { does = λ m values returns output held. h values .does m returns output held }
 
 -- it cannot be performed
 cannot :
     (op : Operation) (values : List ℕ) (s r : Machine)
     → r ≡ stoppedBy cannotPerform s
-    → Becomes op values s (λ places output. refuses cannotPerform)
+    → Becomes op values s (λ returns output. refuses cannotPerform)
     → OnValues op values values s r
 cannot op values s r is e =
-    record { does = λ m places output h. refused-so m _ values places output s r cannotPerform is (e m places output h) (omega arith) h }
+    record { does = λ m returns output h. refused-so m _ values returns output s r cannotPerform is (e m returns output h) (omega arith) h }
 
 -- it goes on at an address, with the frame's words up to here
 stays :
@@ -48,13 +48,13 @@ stays :
     → s .base ≤ top
     → top ≤ valueWords
     → length values′ ≡ length values
-    → Becomes op values s (λ places output. goes (stateOf values′ places output (moved a top (s .read) (s .written) s)))
+    → Becomes op values s (λ returns output. goes (stateOf values′ returns output (moved a top (s .read) (s .written) s)))
     → OnValues op values values′ s r
 stays op values values′ s r a top sound is based topped long e =
     record {
-      does = λ m places output h.
-          let held = held-moved m values places output values′ output s a top (s .read) (s .written) h long refl based topped (h .read-there) (h .written-there) in
-          rw is (goes-so m _ values places output values′ places output s _ (e m places output h) (sound .going) held long refl refl refl);
+      does = λ m returns output h.
+          let held = held-moved m values returns output values′ output s a top (s .read) (s .written) h long refl based topped (h .read-there) (h .written-there) in
+          rw is (goes-so m _ values returns output values′ returns output s _ (e m returns output h) (sound .going) held long refl refl refl);
     }
 
 -- it goes on at the next address, with a word set on top of those that stay
@@ -67,26 +67,26 @@ stays-set :
     → s .base ≤ i
     → i < valueWords
     → Becomes op values s
-    (λ places output. goes (next (holding (x ∷ wordsFrom values (s .base) (i - s .base)) (stateOf values places output s))))
+    (λ returns output. goes (toNext (holding (x ∷ wordsFrom values (s .base) (i - s .base)) (stateOf values returns output s))))
     → OnValues op values (set values i x) s r
 stays-set op values s r i top x sound lent is above based topped e =
     stays op values (set values i x) s r (s .address + 1) top sound is (omega arith) (omega arith) (length-set values i x)
-    (λ m places output h.
+    (λ m returns output h.
     let n : ℕ = i - s .base in
     let counted : top - s .base ≡ suc n = omega arith in
     let frame = words-pushed values (s .base) n i x (omega arith) (omega arith) in
-    let below = waiting-kept values places (s .base) (s .saved) i x (h .chained) based in
-    e m places output h ∙ sym (rw (add-one, counted, frame, below)))
+    let below = waiting-kept values returns (s .base) (s .saved) i x (h .chained) based in
+    e m returns output h ∙ sym (rw (add-one, counted, frame, below)))
 
--- ---- `push`
+-- ---- `pushWord`
 
 module _ (values : List ℕ) (x : ℕ) (s r : Machine) (sound : Sound s) where
   pub push-full : valueWords ≤ s .top → r ≡ stoppedBy cannotPerform s → OnValues (Push x) values values s r
-  unfolding operate push room
+  unfolding operate pushWord room
   push-full full is =
       cannot (Push x) values s r is
-      (λ m places output h.
-      let all = all-standing values places output s (h .chained) (sound .based) in
+      (λ m returns output h.
+      let all = all-standing values returns output s (h .chained) (sound .based) in
       rw (room, all, h .words-limit, le-ltb _ _ full))
 
   pub push-room :
@@ -94,11 +94,11 @@ module _ (values : List ℕ) (x : ℕ) (s r : Machine) (sound : Sound s) where
       → s .top < valueWords
       → r ≡ nextTo (s .top + 1) s
       → OnValues (Push x) values (set values (s .top) x) s r
-  unfolding operate push room
+  unfolding operate pushWord room
   push-room lent fits is =
       stays-set (Push x) values s r (s .top) (s .top + 1) x sound lent is (omega arith) (sound .based) fits
-      (λ m places output h.
-      let all = all-standing values places output s (h .chained) (sound .based) in
+      (λ m returns output h.
+      let all = all-standing values returns output s (h .chained) (sound .based) in
       rw (room, all, h .words-limit, lt-ltb _ _ fits))
 
 pub ruleset pushes = (push-full, push-room)
@@ -108,7 +108,7 @@ pub ruleset pushes = (push-full, push-room)
 module _ (values : List ℕ) (k : ℕ) (s r : Machine) where
   pub get-missing : s .top - s .base ≤ k → r ≡ stoppedBy cannotPerform s → OnValues (Get k) values values s r
   unfolding operate
-  get-missing few is = cannot (Get k) values s r is (λ m places output h. rw (operate, word-missing values (s .base) (s .top - s .base) k few))
+  get-missing few is = cannot (Get k) values s r is (λ m returns output h. rw (operate, word-missing values (s .base) (s .top - s .base) k few))
 
   -- a word found is pushed
   pub get-found :
@@ -118,7 +118,7 @@ module _ (values : List ℕ) (k : ℕ) (s r : Machine) where
       → OnValues (Get k) values values′ s r
   unfolding operate
   get-found values′ there pushed =
-      record { does = λ m places output h. rw (operate, word-found values (s .base) (s .top - s .base) k there) (pushed .does m places output h) }
+      record { does = λ m returns output h. rw (operate, word-found values (s .base) (s .top - s .base) k there) (pushed .does m returns output h) }
 
 pub ruleset gets = (get-missing, get-found)
 
@@ -127,7 +127,7 @@ pub ruleset gets = (get-missing, get-found)
 module _ (values : List ℕ) (s r : Machine) where
   pub add-missing : s .top - s .base < 2 → r ≡ stoppedBy cannotPerform s → OnValues Add values values s r
   unfolding operate
-  add-missing few is = cannot Add values s r is (λ m places output h. two-missing values (s .base) (s .top) _ few)
+  add-missing few is = cannot Add values s r is (λ m returns output h. two-missing values (s .base) (s .top) _ few)
 
   pub add-two :
       (x : ℕ)
@@ -141,7 +141,7 @@ module _ (values : List ℕ) (s r : Machine) where
   add-two x sound lent there sum is =
       let topped = sound .topped in
       stays-set Add values s r (s .top - 2) (s .top - 1) x sound lent is (omega arith) (omega arith) (omega arith)
-      (λ m places output h. two-taken values (s .base) (s .top) _ (omega arith) ∙ rw sum)
+      (λ m returns output h. two-taken values (s .base) (s .top) _ (omega arith) ∙ rw sum)
 
 pub ruleset adds = (add-missing, add-two)
 
@@ -150,7 +150,7 @@ pub ruleset adds = (add-missing, add-two)
 module _ (values : List ℕ) (a : ℕ) (s t : Machine) where
   pub ifnot-missing : s .top ≤ s .base → t ≡ stoppedBy cannotPerform s → OnValues (Ifnot a) values values s t
   unfolding operate
-  ifnot-missing few is = cannot (Ifnot a) values s t is (λ m places output h. one-missing values (s .base) (s .top) _ few)
+  ifnot-missing few is = cannot (Ifnot a) values s t is (λ m returns output h. one-missing values (s .base) (s .top) _ few)
 
   module _ (sound : Sound s) (there : s .base < s .top) (is : t ≡ nextTo (s .top - 1) s) where
     pub ifnot-goes :
@@ -161,14 +161,14 @@ module _ (values : List ℕ) (a : ℕ) (s t : Machine) where
     ifnot-goes some-number =
         let topped = sound .topped in
         stays (Ifnot a) values values s _ a (s .top - 1) sound (rw is) (omega arith) (omega arith) refl
-        (λ m places output h. one-taken values (s .base) (s .top) _ there ∙ rw (ne-eqb _ _ some-number))
+        (λ m returns output h. one-taken values (s .base) (s .top) _ there ∙ rw (ne-eqb _ _ some-number))
 
     pub ifnot-stays : getD values (s .top - 1) 0 ≡ 0 → OnValues (Ifnot a) values values s t
     unfolding operate
     ifnot-stays zero-there =
         let topped = sound .topped in
         stays (Ifnot a) values values s t (s .address + 1) (s .top - 1) sound is (omega arith) (omega arith) refl
-        (λ m places output h. one-taken values (s .base) (s .top) _ there ∙ rw (eq-eqb _ _ zero-there, add-one))
+        (λ m returns output h. one-taken values (s .base) (s .top) _ there ∙ rw (eq-eqb _ _ zero-there, add-one))
 
 pub ruleset ifnots = (ifnot-missing, ifnot-goes, ifnot-stays)
 
@@ -177,7 +177,7 @@ pub ruleset ifnots = (ifnot-missing, ifnot-goes, ifnot-stays)
 module _ (values : List ℕ) (s r : Machine) where
   pub slide-missing : s .top - s .base < 2 → r ≡ stoppedBy cannotPerform s → OnValues Slide values values s r
   unfolding operate
-  slide-missing few is = cannot Slide values s r is (λ m places output h. two-missing values (s .base) (s .top) _ few)
+  slide-missing few is = cannot Slide values s r is (λ m returns output h. two-missing values (s .base) (s .top) _ few)
 
   pub slide-two :
       Sound s
@@ -189,7 +189,7 @@ module _ (values : List ℕ) (s r : Machine) where
   slide-two sound lent there is =
       let topped = sound .topped in
       stays-set Slide values s r (s .top - 2) (s .top - 1) _ sound lent is (omega arith) (omega arith) (omega arith)
-      (λ m places output h. two-taken values (s .base) (s .top) _ (omega arith))
+      (λ m returns output h. two-taken values (s .base) (s .top) _ (omega arith))
 
 pub ruleset slides = (slide-missing, slide-two)
 
@@ -199,7 +199,7 @@ module _ (s r : Machine) where
   pub drop-missing : s .top ≤ s .base → r ≡ stoppedBy cannotPerform s → OnNumbers Drop s r
   unfolding operate
   drop-missing few is =
-      on-numbers Drop s r (λ values. cannot Drop values s r is (λ m places output h. one-missing values (s .base) (s .top) _ few))
+      on-numbers Drop s r (λ values. cannot Drop values s r is (λ m returns output h. one-missing values (s .base) (s .top) _ few))
 
   pub drop-top : Sound s → s .base < s .top → r ≡ nextTo (s .top - 1) s → OnNumbers Drop s r
   unfolding operate
@@ -208,6 +208,6 @@ module _ (s r : Machine) where
       on-numbers Drop s r
       (λ values.
       stays Drop values values s r (s .address + 1) (s .top - 1) sound is (omega arith) (omega arith) refl
-      (λ m places output h. one-taken values (s .base) (s .top) _ there ∙ rw add-one))
+      (λ m returns output h. one-taken values (s .base) (s .top) _ there ∙ rw add-one))
 
 pub ruleset drops = (drop-missing, drop-top)

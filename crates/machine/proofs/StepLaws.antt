@@ -19,8 +19,8 @@ use Rattle.meaning.specs.Instructions.{Instruction, instructionBytes, mostInstr
 use Rattle.meaning.specs.Instructions.{Push, Get, Add, Ifnot, Jump, Slide, Drop, LeafTag, NodeTag, WriteNumber, ReadTag, ReadNumber, Call, Return}
 use Rattle.meaning.specs.Performing.{Setting, State, refuses, operate, perform, step}
 use Rattle.machine.specs.declared.Machine.{Machine}
-use Rattle.machine.specs.Held.{stateOf, Held, Sound, limitOf, stoppedBy, jumpTo}
-use Rattle.machine.specs.Does.{Does, OnNumbers, OnValues, WritesTag, OnOutput, FromInput, OnInput, OnPlaces, FromPlaces, Performs, Steps}
+use Rattle.machine.specs.Inner.States.{stateOf, Held, Sound, limitOf, stoppedBy, jumpTo}
+use Rattle.machine.specs.Inner.Effects.{Does, OnNumbers, OnValues, WritesTag, OnOutput, FromInput, OnInput, OnReturns, FromReturns, Performs, Steps}
 use Rattle.machine.proofs.Doing.{held-moved, refused-so, goes-so}
 
 -- ---- the operation that an opcode names
@@ -35,7 +35,7 @@ performs-none m s i e = rw (perform, e)
 
 -- ---- `step`
 
-module _ (i input values places output : List ℕ) (s r : Machine) where
+module _ (i input values returns output : List ℕ) (s r : Machine) where
   -- the instruction's opcode, byte 1, operand and number
   abbrev x : ℕ
   x = getD i 0 0
@@ -50,8 +50,8 @@ module _ (i input values places output : List ℕ) (s r : Machine) where
   number = numberAt 4 i 4
 
   -- the instruction of these bytes leaves these buffers
-  abbrev pub Leaves : (values′ places′ output′ : List ℕ) → Type 0
-  Leaves values′ places′ output′ = Performs (recordAt i 0) input values places output values′ places′ output′ s r
+  abbrev pub Leaves : (values′ returns′ output′ : List ℕ) → Type 0
+  Leaves values′ returns′ output′ = Performs (recordAt i 0) input values returns output values′ returns′ output′ s r
 
   -- the operation at the opcode's place
   placed : (k : ℕ) → x ≡ k → operationOf (recordAt i 0) ≡ nth (operations b operand number) k
@@ -60,98 +60,98 @@ module _ (i input values places output : List ℕ) (s r : Machine) where
 
   -- the instruction does what its operation does
   as-named :
-      (op : Operation) (values′ places′ output′ : List ℕ)
+      (op : Operation) (values′ returns′ output′ : List ℕ)
       → operationOf (recordAt i 0) ≡ some op
       → ((m : Setting)
       → m .input ≡ input
-      → Held m values places output s
-      → Does m (operate m (stateOf values places output s) op) values places output values′ places′ output′ s r)
-      → Leaves values′ places′ output′
-  as-named op values′ places′ output′ e d =
-      record { does = λ m given h. rw (performs-named m (stateOf values places output s) _ op e) (d m given h) }
+      → Held m values returns output s
+      → Does m (operate m (stateOf values returns output s) op) values returns output values′ returns′ output′ s r)
+      → Leaves values′ returns′ output′
+  as-named op values′ returns′ output′ e d =
+      record { does = λ m given h. rw (performs-named m (stateOf values returns output s) _ op e) (d m given h) }
 
   on-values :
       (op : Operation) (values′ : List ℕ)
       → operationOf (recordAt i 0) ≡ some op
       → OnValues op values values′ s r
-      → Leaves values′ places output
-  on-values op values′ e d = as-named op values′ places output e (λ m given h. d .does m places output h)
+      → Leaves values′ returns output
+  on-values op values′ e d = as-named op values′ returns output e (λ m given h. d .does m returns output h)
 
-  pub pushes : (n : ℕ) (values′ : List ℕ) → x ≡ 0 → n ≡ number → OnValues (Push n) values values′ s r → Leaves values′ places output
+  pub pushes : (n : ℕ) (values′ : List ℕ) → x ≡ 0 → n ≡ number → OnValues (Push n) values values′ s r → Leaves values′ returns output
   unfolding operations nth
   pushes n values′ e is d = on-values (Push n) values′ (placed 0 e ∙ ap (λ k. some (Push k)) (sym is)) d
 
-  pub gets : (o : ℕ) (values′ : List ℕ) → x ≡ 1 → o ≡ operand → OnValues (Get o) values values′ s r → Leaves values′ places output
+  pub gets : (o : ℕ) (values′ : List ℕ) → x ≡ 1 → o ≡ operand → OnValues (Get o) values values′ s r → Leaves values′ returns output
   unfolding operations nth
   gets o values′ e is d = on-values (Get o) values′ (placed 1 e ∙ ap (λ k. some (Get k)) (sym is)) d
 
-  pub adds : (values′ : List ℕ) → x ≡ 2 → OnValues Add values values′ s r → Leaves values′ places output
+  pub adds : (values′ : List ℕ) → x ≡ 2 → OnValues Add values values′ s r → Leaves values′ returns output
   unfolding operations nth
   adds values′ e d = on-values Add values′ (placed 2 e) d
 
-  pub ifnots : (o : ℕ) → x ≡ 3 → o ≡ operand → OnValues (Ifnot o) values values s r → Leaves values places output
+  pub ifnots : (o : ℕ) → x ≡ 3 → o ≡ operand → OnValues (Ifnot o) values values s r → Leaves values returns output
   unfolding operations nth
   ifnots o e is d = on-values (Ifnot o) values (placed 3 e ∙ ap (λ k. some (Ifnot k)) (sym is)) d
 
-  pub jumps : (o : ℕ) → x ≡ 4 → o ≡ operand → Sound s → r ≡ jumpTo o s → Leaves values places output
+  pub jumps : (o : ℕ) → x ≡ 4 → o ≡ operand → Sound s → r ≡ jumpTo o s → Leaves values returns output
   unfolding operations nth operate
   jumps o e is sound jumped =
-      as-named (Jump o) values places output (placed 4 e ∙ ap (λ k. some (Jump k)) (sym is)) (λ m given h. rw jumped
+      as-named (Jump o) values returns output (placed 4 e ∙ ap (λ k. some (Jump k)) (sym is)) (λ m given h. rw jumped
       (let held =
-      held-moved m values places output values output s o (s .top) (s .read) (s .written) h refl refl
+      held-moved m values returns output values output s o (s .top) (s .read) (s .written) h refl refl
       (h .based) (h .topped) (h .read-there) (h .written-there) in
-      goes-so m _ values places output values places output s (jumpTo o s) refl (sound .going) held refl refl refl refl))
+      goes-so m _ values returns output values returns output s (jumpTo o s) refl (sound .going) held refl refl refl refl))
 
-  pub slides : (values′ : List ℕ) → x ≡ 5 → OnValues Slide values values′ s r → Leaves values′ places output
+  pub slides : (values′ : List ℕ) → x ≡ 5 → OnValues Slide values values′ s r → Leaves values′ returns output
   unfolding operations nth
   slides values′ e d = on-values Slide values′ (placed 5 e) d
 
-  pub drops : x ≡ 6 → OnNumbers Drop s r → Leaves values places output
+  pub drops : x ≡ 6 → OnNumbers Drop s r → Leaves values returns output
   unfolding operations nth
-  drops e d = as-named Drop values places output (placed 6 e) (λ m given h. d .does m values places output h)
+  drops e d = as-named Drop values returns output (placed 6 e) (λ m given h. d .does m values returns output h)
 
-  pub writes-leaf : (output′ : List ℕ) → x ≡ 7 → WritesTag leafTag output output′ s r → Leaves values places output′
+  pub writes-leaf : (output′ : List ℕ) → x ≡ 7 → WritesTag leafTag output output′ s r → Leaves values returns output′
   unfolding operations nth operate
-  writes-leaf output′ e d = as-named LeafTag values places output′ (placed 7 e) (λ m given h. d .does m values places h)
+  writes-leaf output′ e d = as-named LeafTag values returns output′ (placed 7 e) (λ m given h. d .does m values returns h)
 
-  pub writes-node : (output′ : List ℕ) → x ≡ 8 → WritesTag nodeTag output output′ s r → Leaves values places output′
+  pub writes-node : (output′ : List ℕ) → x ≡ 8 → WritesTag nodeTag output output′ s r → Leaves values returns output′
   unfolding operations nth operate
-  writes-node output′ e d = as-named NodeTag values places output′ (placed 8 e) (λ m given h. d .does m values places h)
+  writes-node output′ e d = as-named NodeTag values returns output′ (placed 8 e) (λ m given h. d .does m values returns h)
 
-  pub writes-number : (output′ : List ℕ) → x ≡ 9 → OnOutput WriteNumber values output output′ s r → Leaves values places output′
+  pub writes-number : (output′ : List ℕ) → x ≡ 9 → OnOutput WriteNumber values output output′ s r → Leaves values returns output′
   unfolding operations nth
-  writes-number output′ e d = as-named WriteNumber values places output′ (placed 9 e) (λ m given h. d .does m places h)
+  writes-number output′ e d = as-named WriteNumber values returns output′ (placed 9 e) (λ m given h. d .does m returns h)
 
-  pub reads-tag : (o : ℕ) → x ≡ 10 → o ≡ operand → OnInput (ReadTag o) input s r → Leaves values places output
+  pub reads-tag : (o : ℕ) → x ≡ 10 → o ≡ operand → OnInput (ReadTag o) input s r → Leaves values returns output
   unfolding operations nth
   reads-tag o e is d =
-      as-named (ReadTag o) values places output (placed 10 e ∙ ap (λ k. some (ReadTag k)) (sym is))
-      (λ m given h. d .does values .does m places output given h)
+      as-named (ReadTag o) values returns output (placed 10 e ∙ ap (λ k. some (ReadTag k)) (sym is))
+      (λ m given h. d .does values .does m returns output given h)
 
-  pub reads-number : (values′ : List ℕ) → x ≡ 11 → FromInput ReadNumber input values values′ s r → Leaves values′ places output
+  pub reads-number : (values′ : List ℕ) → x ≡ 11 → FromInput ReadNumber input values values′ s r → Leaves values′ returns output
   unfolding operations nth
-  reads-number values′ e d = as-named ReadNumber values′ places output (placed 11 e) (λ m given h. d .does m places output given h)
+  reads-number values′ e d = as-named ReadNumber values′ returns output (placed 11 e) (λ m given h. d .does m returns output given h)
 
-  pub calls : (o : ℕ) (places′ : List ℕ) → x ≡ 12 → o ≡ operand → OnPlaces (Call o b) places places′ s r → Leaves values places′ output
+  pub calls : (o : ℕ) (returns′ : List ℕ) → x ≡ 12 → o ≡ operand → OnReturns (Call o b) returns returns′ s r → Leaves values returns′ output
   unfolding operations nth
-  calls o places′ e is d =
-      as-named (Call o b) values places′ output (placed 12 e ∙ ap (λ k. some (Call k b)) (sym is)) (λ m given h. d .does m values output h)
+  calls o returns′ e is d =
+      as-named (Call o b) values returns′ output (placed 12 e ∙ ap (λ k. some (Call k b)) (sym is)) (λ m given h. d .does m values output h)
 
-  pub returns : (values′ : List ℕ) → x ≡ 13 → FromPlaces (Return b) places values values′ s r → Leaves values′ places output
+  pub returned-so : (values′ : List ℕ) → x ≡ 13 → FromReturns (Return b) returns values values′ s r → Leaves values′ returns output
   unfolding operations nth
-  returns values′ e d = as-named (Return b) values′ places output (placed 13 e) (λ m given h. d .does m output h)
+  returned-so values′ e d = as-named (Return b) values′ returns output (placed 13 e) (λ m given h. d .does m output h)
 
   -- any other opcode
   pub names-none :
       x ≢ 0 → x ≢ 1 → x ≢ 2 → x ≢ 3 → x ≢ 4 → x ≢ 5 → x ≢ 6 → x ≢ 7 → x ≢ 8 → x ≢ 9 → x ≢ 10 → x ≢ 11 → x ≢ 12 → x ≢ 13
       → r ≡ stoppedBy cannotPerform s
-      → Leaves values places output
+      → Leaves values returns output
   unfolding operationOf recordAt operations
   names-none n0 n1 n2 n3 n4 n5 n6 n7 n8 n9 n10 n11 n12 n13 is =
       let from-7 : 7 ≤ x = but 6 x (but 5 x (but 4 x (but 3 x (but 2 x (but 1 x (but 0 x (omega arith) n0) n1) n2) n3) n4) n5) n6 in
       let from-14 : 14 ≤ x = but 13 x (but 12 x (but 11 x (but 10 x (but 9 x (but 8 x (but 7 x from-7 n7) n8) n9) n10) n11) n12) n13 in
       let unnamed : operationOf (recordAt i 0) ≡ none = none-past (operations b operand number) x from-14 in
-      record { does = λ m given h. refused-so m _ values places output s r cannotPerform is (performs-none m _ _ unnamed) (omega arith) h }
+      record { does = λ m given h. refused-so m _ values returns output s r cannotPerform is (performs-none m _ _ unnamed) (omega arith) h }
 
 -- ---- `turn`
 
@@ -179,24 +179,24 @@ steps-none : (m : Setting) (s : State) → m .holds (s .address) ≡ none → st
 unfolding step
 steps-none m s e = rw (step, e)
 
-module _ (code input values places output : List ℕ) (limit : ℕ) (s r : Machine) (limited : limit ≡ limitOf (length code)) where
-  pub turns-past : limit ≤ s .address → r ≡ stoppedBy cannotPerform s → Steps code input values places output values places output s r
+module _ (code input values returns output : List ℕ) (limit : ℕ) (s r : Machine) (limited : limit ≡ limitOf (length code)) where
+  pub turns-past : limit ≤ s .address → r ≡ stoppedBy cannotPerform s → Steps code input values returns output values returns output s r
   turns-past h is =
       let none-held : heldBy code (s .address) ≡ none = not-there code (s .address) (omega arith) in
       record {
         does = λ m holds i held.
-            refused-so m _ values places output s r cannotPerform is (steps-none m _ (ap (λ f. f (s .address)) holds ∙ none-held)) (omega arith) held;
+            refused-so m _ values returns output s r cannotPerform is (steps-none m _ (ap (λ f. f (s .address)) holds ∙ none-held)) (omega arith) held;
       }
 
   pub turns-there :
-      (i : Instruction) (values′ places′ output′ : List ℕ)
+      (i : Instruction) (values′ returns′ output′ : List ℕ)
       → s .address < limit
       → i ≡ recordAt code (s .address)
-      → Performs i input values places output values′ places′ output′ s r
-      → Steps code input values places output values′ places′ output′ s r
-  turns-there i values′ places′ output′ h fetched performs =
+      → Performs i input values returns output values′ returns′ output′ s r
+      → Steps code input values returns output values′ returns′ output′ s r
+  turns-there i values′ returns′ output′ h fetched performs =
       let this-held : heldBy code (s .address) ≡ some i = there code (s .address) (omega arith) ∙ ap some (sym fetched) in
       record {
-        does = λ m holds given held. rw (steps-held m (stateOf values places output s) i (ap (λ f. f (s .address)) holds ∙ this-held))
+        does = λ m holds given held. rw (steps-held m (stateOf values returns output s) i (ap (λ f. f (s .address)) holds ∙ this-held))
             (performs .does m given held);
       }

@@ -1,4 +1,2 @@
 -- What the machine's numbers and the lent words stand for, and what its functions do.
-pub mod Held
-pub mod Does
-pub mod Told
+pub mod Inner

@@ -9,10 +9,10 @@ ghost use Rattle.formats.specs.Records.{recordAt};
 ghost use Rattle.meaning.specs.Instructions.{instructionBytes, Push, Get, Add, Ifnot, Slide, Drop, WriteNumber, ReadTag, ReadNumber, Call, Return};
 ghost use Rattle.meaning.specs.Performing.{numberKept};
 ghost use Rattle.meaning.specs.Running.{valueWords, returnWords, noneDone, streamRun};
-ghost use Rattle.refusal.specs.Number.{number};
-ghost use Rattle.machine.specs.Held.{frameOf, Sound, Going, Lent, limitOf, stoppedBy, nextTo, jumpTo, left};
-ghost use Rattle.machine.specs.Does.{OnNumbers, OnValues, WritesTag, OnOutput, FromInput, OnInput, OnPlaces, FromPlaces, Performs, Steps};
-ghost use Rattle.machine.specs.Told.{answered, refusalNumber, Tells, Performed};
+ghost use Rattle.refusal.specs.Inner.Numbers.{number};
+ghost use Rattle.machine.specs.Inner.States.{frameOf, Sound, Going, Lent, limitOf, stoppedBy, nextTo, jumpTo, left};
+ghost use Rattle.machine.specs.Inner.Effects.{OnNumbers, OnValues, WritesTag, OnOutput, FromInput, OnInput, OnReturns, FromReturns, Performs, Steps};
+ghost use Rattle.machine.specs.Inner.Answers.{runAnswer, refusalNumber, Reports, Performed};
 
 // Words that the value stack may hold, and those of the return places; one place is never used, since the first frame has none.
 const VALUE_WORDS: usize = 16384;
@@ -293,10 +293,10 @@ fn read_number(s: Machine, values: &mut [u32], input: &[u8]) -> Machine
 }
 
 // 12 call: the arguments are the new frame's first words.
-fn call(s: Machine, entry: u16, arguments: u8, places: &mut [u64]) -> Machine
+fn call(s: Machine, entry: u16, arguments: u8, returns: &mut [u64]) -> Machine
     requires { ⌜ Sound s ⌝ }
-    requires { ⌜ returnWords ≤ length (now places) ⌝ }
-    ensures { λ r. ⌜ OnPlaces (Call entry arguments) (now (places .entry)) (now (places .exit)) s r ⌝ }
+    requires { ⌜ returnWords ≤ length (now returns) ⌝ }
+    ensures { λ r. ⌜ OnReturns (Call entry arguments) (now (returns .entry)) (now (returns .exit)) s r ⌝ }
 {
     let arguments = arguments as usize;
     let saved = s.saved;
@@ -306,8 +306,8 @@ fn call(s: Machine, entry: u16, arguments: u8, places: &mut [u64]) -> Machine
     if MOST_SAVED <= saved {
         return stopped(s, TOO_MANY_CALLS);
     }
-    places[saved] = (s.address + 1) as u64;
-    places[saved + 1] = s.base as u64;
+    returns[saved] = (s.address + 1) as u64;
+    returns[saved + 1] = s.base as u64;
     let mut r = jump(s, entry);
     r.base = s.top - arguments;
     r.saved = saved + 2;
@@ -315,9 +315,9 @@ fn call(s: Machine, entry: u16, arguments: u8, places: &mut [u64]) -> Machine
 }
 
 // The frame is left with its words cut here; where it is the first one, the run has ended.
-fn leave(s: Machine, top: usize, places: &[u64]) -> Machine
-    requires { ⌜ s .saved ≤ length (now places) ⌝ }
-    ensures { λ r. ⌜ r ≡ left (now (places .entry)) top s ⌝ }
+fn leave(s: Machine, top: usize, returns: &[u64]) -> Machine
+    requires { ⌜ s .saved ≤ length (now returns) ⌝ }
+    ensures { λ r. ⌜ r ≡ left (now (returns .entry)) top s ⌝ }
 {
     let saved = s.saved;
     let mut r = s;
@@ -326,23 +326,23 @@ fn leave(s: Machine, top: usize, places: &[u64]) -> Machine
         r.stop = ENDED;
         return r;
     }
-    r.address = places[saved - 2] as usize;
-    r.base = places[saved - 1] as usize;
+    r.address = returns[saved - 2] as usize;
+    r.base = returns[saved - 1] as usize;
     r.saved = saved - 2;
     r
 }
 
 // 13 return, with no word or one kept.
-fn give_back(s: Machine, kept: u8, values: &mut [u32], places: &[u64]) -> Machine
+fn give_back(s: Machine, kept: u8, values: &mut [u32], returns: &[u64]) -> Machine
     requires { ⌜ Sound s ⌝ }
     requires { ⌜ valueWords ≤ length (now values) ⌝ }
-    requires { ⌜ s .saved ≤ length (now places) ⌝ }
-    ensures { λ r. ⌜ FromPlaces (Return kept) (now (places .entry)) (now (values .entry)) (now (values .exit)) s r ⌝ }
+    requires { ⌜ s .saved ≤ length (now returns) ⌝ }
+    ensures { λ r. ⌜ FromReturns (Return kept) (now (returns .entry)) (now (values .entry)) (now (values .exit)) s r ⌝ }
 {
     let base = s.base;
     let top = s.top;
     if kept == 0 {
-        return leave(s, base, places);
+        return leave(s, base, returns);
     }
     if kept != 1 {
         return stopped(s, CANNOT_PERFORM);
@@ -351,7 +351,7 @@ fn give_back(s: Machine, kept: u8, values: &mut [u32], places: &[u64]) -> Machin
         return stopped(s, CANNOT_PERFORM);
     }
     values[base] = values[top - 1];
-    leave(s, base + 1, places)
+    leave(s, base + 1, returns)
 }
 
 // One instruction performed, by its opcode: an arm reads only the fields that it uses.
@@ -361,12 +361,12 @@ fn step(
     input: &[u8],
     output: &mut [u8],
     values: &mut [u32],
-    places: &mut [u64],
+    returns: &mut [u64],
 ) -> Machine
     requires { ⌜ Sound s ⌝ }
     requires { ⌜ instructionBytes ≤ length (now i) ⌝ }
-    requires { ⌜ Lent s (now input) (now output) (now values) (now places) ⌝ }
-    ensures { λ r. ⌜ Performs (recordAt (now (i .entry)) 0) (now (input .entry)) (now (values .entry)) (now (places .entry)) (now (output .entry)) (now (values .exit)) (now (places .exit)) (now (output .exit)) s r ⌝ }
+    requires { ⌜ Lent s (now input) (now output) (now values) (now returns) ⌝ }
+    ensures { λ r. ⌜ Performs (recordAt (now (i .entry)) 0) (now (input .entry)) (now (values .entry)) (now (returns .entry)) (now (output .entry)) (now (values .exit)) (now (returns .exit)) (now (output .exit)) s r ⌝ }
 {
     let opcode = i[0];
     match opcode {
@@ -382,8 +382,8 @@ fn step(
         9 => write_number(s, values, output),
         10 => read_tag(s, operand_of(i), input),
         11 => read_number(s, values, input),
-        12 => call(s, operand_of(i), i[1], places),
-        13 => give_back(s, i[1], values, places),
+        12 => call(s, operand_of(i), i[1], returns),
+        13 => give_back(s, i[1], values, returns),
         _ => stopped(s, CANNOT_PERFORM),
     }
 }
@@ -407,18 +407,18 @@ fn turn(
     input: &[u8],
     output: &mut [u8],
     values: &mut [u32],
-    places: &mut [u64],
+    returns: &mut [u64],
 ) -> Machine
     requires { ⌜ Going s ⌝ }
     requires { ⌜ limit ≡ limitOf (length (now code)) ⌝ }
-    requires { ⌜ Lent s (now input) (now output) (now values) (now places) ⌝ }
-    ensures { λ r. ⌜ Steps (now (code .entry)) (now (input .entry)) (now (values .entry)) (now (places .entry)) (now (output .entry)) (now (values .exit)) (now (places .exit)) (now (output .exit)) s r ⌝ }
+    requires { ⌜ Lent s (now input) (now output) (now values) (now returns) ⌝ }
+    ensures { λ r. ⌜ Steps (now (code .entry)) (now (input .entry)) (now (values .entry)) (now (returns .entry)) (now (output .entry)) (now (values .exit)) (now (returns .exit)) (now (output .exit)) s r ⌝ }
 {
     let address = s.address;
     if limit <= address {
         return stopped(s, CANNOT_PERFORM);
     }
-    step(s, fetch(code, address), input, output, values, places)
+    step(s, fetch(code, address), input, output, values, returns)
 }
 
 // The refusal that a stop's number names.
@@ -447,10 +447,10 @@ fn number_kept(s: Machine, values: &[u32]) -> u32
 }
 
 // The answer of a run that stops here, with so many units before.
-fn tell(s: Machine, units: u64, values: &[u32]) -> Answer
+fn report(s: Machine, units: u64, values: &[u32]) -> Answer
     requires { ⌜ s .top ≤ length (now values) ⌝ }
     requires { ⌜ units + 1 < 2 ^ 64 ⌝ }
-    ensures { λ r. ⌜ Tells (now (values .entry)) units s r ⌝ }
+    ensures { λ r. ⌜ Reports (now (values .entry)) units s r ⌝ }
 {
     let stop = s.stop;
     if stop == ENDED {
@@ -473,7 +473,7 @@ fn tell(s: Machine, units: u64, values: &[u32]) -> Answer
 
 // The answer where work words are missing.
 fn too_short() -> Answer
-    ensures { λ r. ⌜ answered r ≡ noneDone ⌝ }
+    ensures { λ r. ⌜ runAnswer r ≡ noneDone ⌝ }
 {
     Answer {
         verdict: Verdict::Refused(Refusal::SpaceTooShort, 0),
@@ -489,13 +489,13 @@ fn run(
     fuel: u64,
     output: &mut [u8],
     values: &mut [u32],
-    places: &mut [u64],
+    returns: &mut [u64],
     code: &[u8],
     input: &[u8],
 ) -> Answer
     requires { ⌜ valueWords ≤ length (now values) ⌝ }
-    requires { ⌜ returnWords ≤ length (now places) ⌝ }
-    ensures { λ r. ⌜ Performed (streamRun (now (code .entry)) (now (input .entry)) (now (output .entry)) fuel (length (now (values .entry))) (length (now (places .entry)))) (now (output .exit)) (now (values .entry)) (now (values .exit)) (now (places .entry)) (now (places .exit)) r ⌝ }
+    requires { ⌜ returnWords ≤ length (now returns) ⌝ }
+    ensures { λ r. ⌜ Performed (streamRun (now (code .entry)) (now (input .entry)) (now (output .entry)) fuel (length (now (values .entry))) (length (now (returns .entry)))) (now (output .exit)) (now (values .entry)) (now (values .exit)) (now (returns .entry)) (now (returns .exit)) r ⌝ }
 {
     let limit = limit(code.len());
     let mut s = Machine {
@@ -508,9 +508,9 @@ fn run(
         written: 0,
     };
     for units in 0..fuel {
-        s = turn(s, limit, code, input, output, values, places);
+        s = turn(s, limit, code, input, output, values, returns);
         if s.stop != GOES_ON {
-            return tell(s, units, values);
+            return report(s, units, values);
         }
     }
     Answer {
@@ -528,17 +528,17 @@ pub fn perform(
     fuel: u64,
     output: &mut [u8],
     values: &mut [u32],
-    places: &mut [u64],
+    returns: &mut [u64],
     code: &[u8],
     input: &[u8],
 ) -> Answer
-    ensures { λ r. ⌜ Performed (streamRun (now (code .entry)) (now (input .entry)) (now (output .entry)) fuel (length (now (values .entry))) (length (now (places .entry)))) (now (output .exit)) (now (values .entry)) (now (values .exit)) (now (places .entry)) (now (places .exit)) r ⌝ }
+    ensures { λ r. ⌜ Performed (streamRun (now (code .entry)) (now (input .entry)) (now (output .entry)) fuel (length (now (values .entry))) (length (now (returns .entry)))) (now (output .exit)) (now (values .entry)) (now (values .exit)) (now (returns .entry)) (now (returns .exit)) r ⌝ }
 {
     if values.len() < VALUE_WORDS {
         return too_short();
     }
-    if places.len() < RETURN_WORDS {
+    if returns.len() < RETURN_WORDS {
         return too_short();
     }
-    run(fuel, output, values, places, code, input)
+    run(fuel, output, values, returns, code, input)
 }

@@ -13,7 +13,7 @@ use Rattle.formats.specs.Programs.{Function, Program}
 use Rattle.rules.specs.Printed.{Term}
 use Rattle.meaning.specs.Evaluation.{Value}
 use Rattle.meaning.specs.OpenCalls.{Outcome, evaluation}
-use Rattle.meaning.specs.Reductions.{IsValue, an-integer, a-tree, Leads, none-made, one-made, treeTerm, valueTerm, applied}
+use Rattle.meaning.specs.Reductions.{IsValue, an-integer, a-tree, Leads, none-made, one-made, treeTerm, valueTerm, programOn}
 use Rattle.meaning.specs.Meaning.{Goes, Taken, ValueReached, Agrees}
 use Rattle.meaning.proofs.Outcomes.{Ended, given, stopped, ended}
 use Rattle.meaning.proofs.Proper.{ProperProgram}
@@ -70,7 +70,7 @@ module _ (program : Program) (first : Function) (t : Tree) (proper : ProperProgr
     reached : ValueReached M
     evaluated : Taken program t (reached .value)
 
-  ended-or-on : {k : ℕ} {M : Term} → Leads program k (applied first t) M → EndsAt M ⊎ Goes program M
+  ended-or-on : {k : ℕ} {M : Term} → Leads program k (programOn first t) M → EndsAt M ⊎ Goes program M
   ended-or-on {k} {M} d = by-outcome (ended (evaluation program k t)) refl
     where
       by-outcome : {o : Outcome Value} → Ended o → evaluation program k t ≡ o → EndsAt M ⊎ Goes program M
@@ -83,7 +83,7 @@ module _ (program : Program) (first : Function) (t : Tree) (proper : ProperProgr
           ]
       by-outcome (stopped n why r u) e = inr (longer-on d (stop-makes program proper first t is-first k n why r e .leads))
 
-  value-ended : {k : ℕ} {M : Term} → Leads program k (applied first t) M → IsValue M → EndsAt M
+  value-ended : {k : ℕ} {M : Term} → Leads program k (programOn first t) M → IsValue M → EndsAt M
   value-ended d v = elim (ended-or-on d) [ inl end ↦ end | inr on ↦ absurd (at-end program _ _ v (on .reduces)) ]
 
   pub agrees : Agrees program first t
@@ -96,5 +96,5 @@ module _ (program : Program) (first : Function) (t : Tree) (proper : ProperProgr
     progress = λ k M d. elim (ended-or-on d) [ inl end ↦ inl (rw (end .reached .is-term) (value-is (end .reached .value))) | inr on ↦ inr on ];
     endless = λ never k.
         let end = held program t proper .endless never k in
-        makes-fewer k (stop-makes program proper first t is-first k (end .expressions) _ (end .place) (end .stopped) .leads);
+        makes-fewer k (stop-makes program proper first t is-first k (end .expressions) _ (end .position) (end .stopped) .leads);
   }

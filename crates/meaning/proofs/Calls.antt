@@ -13,9 +13,9 @@ use Rattle.formats.specs.Refusals.{spaceTooShort, fuelUsedUp}
 use Rattle.formats.specs.Results.{Result, refusal}
 use Rattle.formats.specs.Written.{written}
 use Rattle.formats.proofs.Results.{done-not}
-use Rattle.formats.proofs.Written.{front-written, behind-written, wrote}
+use Rattle.formats.proofs.Written.{front-written, after-written, wrote}
 use Rattle.meaning.specs.Performing.{Setting, State, start, wordsBelow, standing, opened}
-use Rattle.meaning.specs.Running.{Stop, ended, refused, Run, run, outcomeOf, numberTold, valueWords, returnWords, ofCode, ranTo, tooShort, streamRun}
+use Rattle.meaning.specs.Running.{Stop, ended, refused, Run, run, outcomeOf, numberReported, valueWords, returnWords, ofCode, ranTo, tooShort, streamRun}
 use Rattle.meaning.specs.StreamRun.{writtenBy, Within, Runs, Calls}
 use Rattle.meaning.proofs.Inputs.{run-same}
 
@@ -26,21 +26,21 @@ module _ (s vs : List ℕ) (fits : length vs ≤ length s) where
   first-written = rw zero-add at (front-written s 0 vs (rw zero-add fits))
 
   first-untouched : drop (length vs) (written s 0 vs) ≡ drop (length vs) s
-  first-untouched = rw zero-add at (behind-written s 0 vs (rw zero-add fits))
+  first-untouched = rw zero-add at (after-written s 0 vs (rw zero-add fits))
 
 -- ---- outcomes
 
 -- What a refusal as its outcome says of a stop where so many bytes were read.
-record Refuses (why place read : ℕ) (w : Stop) : Type 0 where
+record Refuses (why position read : ℕ) (w : Stop) : Type 0 where
   stops : w ≡ refused why
-  there : place ≡ read
-  none : numberTold w ≡ 0
+  there : position ≡ read
+  none : numberReported w ≡ 0
 
 -- it says so of every stop
-refuses-so : (w : Stop) (why place read : ℕ) → outcomeOf w read ≡ refusal why place → Refuses why place read w
-unfolding outcomeOf numberTold
-refuses-so (ended number) why place read e = done-not refl e
-refuses-so (refused number) why place read e = record { stops = cc; there = cc; none = refl }
+refuses-so : (w : Stop) (why position read : ℕ) → outcomeOf w read ≡ refusal why position → Refuses why position read w
+unfolding outcomeOf numberReported
+refuses-so (ended number) why position read e = done-not refl e
+refuses-so (refused number) why position read e = record { stops = cc; there = cc; none = refl }
 
 -- ---- calls
 
@@ -49,9 +49,9 @@ calls-short : (output : List ℕ) → Calls output (λ input fuel. tooShort outp
 calls-short output =
     record {
       within-fuel = λ input fuel. zero-le;
-      fuel-used = λ input fuel place e. absurd (not-used place e);
-      at-read = λ input fuel why place e. cc;
-      no-number = λ input fuel why place e. refl;
+      fuel-used = λ input fuel position e. absurd (not-used position e);
+      at-read = λ input fuel why position e. cc;
+      no-number = λ input fuel why position e. refl;
       read-there = λ input fuel. zero-le;
       written-fits = λ input fuel. zero-le;
       same-length = λ input fuel. refl;
@@ -63,8 +63,8 @@ calls-short output =
       same-input = λ input other fuel e. refl;
     }
   where
-    not-used : (place : ℕ) → _≡_ {A = Result (Unit {0})} (refusal spaceTooShort 0) (refusal fuelUsedUp place) → ⊥
-    not-used place e = let z : spaceTooShort ≡ fuelUsedUp = cc in omega arith
+    not-used : (position : ℕ) → _≡_ {A = Result (Unit {0})} (refusal spaceTooShort 0) (refusal fuelUsedUp position) → ⊥
+    not-used position e = let z : spaceTooShort ≡ fuelUsedUp = cc in omega arith
 
 -- A call that runs.
 module _ (runs : (m : Setting) (s : State) → Runs m s) (code output : List ℕ) where
@@ -81,10 +81,10 @@ module _ (runs : (m : Setting) (s : State) → Runs m s) (code output : List ℕ
 
   -- its refusals
   refuses-ran :
-      (input : List ℕ) (fuel why place : ℕ)
-      → outcomeOf (ran input fuel .stop) (ran input fuel .last .read) ≡ refusal why place
-      → Refuses why place (ran input fuel .last .read) (ran input fuel .stop)
-  refuses-ran input fuel why place e = refuses-so (ran input fuel .stop) why place (ran input fuel .last .read) e
+      (input : List ℕ) (fuel why position : ℕ)
+      → outcomeOf (ran input fuel .stop) (ran input fuel .last .read) ≡ refusal why position
+      → Refuses why position (ran input fuel .last .read) (ran input fuel .stop)
+  refuses-ran input fuel why position e = refuses-so (ran input fuel .stop) why position (ran input fuel .last .read) e
 
   -- what it has written is what the run has
   pub written-ran : (input : List ℕ) (fuel : ℕ) → writtenBy (ranTo output (ran input fuel)) ≡ ran input fuel .last .output
@@ -93,7 +93,7 @@ module _ (runs : (m : Setting) (s : State) → Runs m s) (code output : List ℕ
   -- it stays the same with more fuel, if it is refused for another reason or not at all
   stays-ran :
       (input : List ℕ) (fuel more : ℕ)
-      → ((place : ℕ) → outcomeOf (ran input fuel .stop) (ran input fuel .last .read) ≢ refusal fuelUsedUp place)
+      → ((position : ℕ) → outcomeOf (ran input fuel .stop) (ran input fuel .last .read) ≢ refusal fuelUsedUp position)
       → fuel ≤ more
       → ranTo output (ran input more) ≡ ranTo output (ran input fuel)
   unfolding outcomeOf
@@ -105,16 +105,16 @@ module _ (runs : (m : Setting) (s : State) → Runs m s) (code output : List ℕ
   calls-ran =
       record {
         within-fuel = λ input fuel. runs (setting input) start .within-fuel fuel;
-        fuel-used = λ input fuel place e. runs (setting input) start .fuel-used fuel (refuses-ran input fuel fuelUsedUp place e .stops);
-        at-read = λ input fuel why place e. refuses-ran input fuel why place e .there;
-        no-number = λ input fuel why place e. refuses-ran input fuel why place e .none;
+        fuel-used = λ input fuel position e. runs (setting input) start .fuel-used fuel (refuses-ran input fuel fuelUsedUp position e .stops);
+        at-read = λ input fuel why position e. refuses-ran input fuel why position e .there;
+        no-number = λ input fuel why position e. refuses-ran input fuel why position e .none;
         read-there = λ input fuel. within input fuel .read;
         written-fits = λ input fuel. within input fuel .written;
         same-length = λ input fuel. wrote output 0 (ran input fuel .last .output) .same-length;
         untouched = λ input fuel. first-untouched output (ran input fuel .last .output) (within input fuel .written);
         reads-on = λ input fuel more h. runs (setting input) start .grows fuel more h .reads;
         writes-on = λ input fuel more h. rw (written-ran input fuel, written-ran input more) (runs (setting input) start .grows fuel more h .writes);
-        ended-stays = λ input fuel more e h. stays-ran input fuel more (λ place used. done-not e used) h;
+        ended-stays = λ input fuel more e h. stays-ran input fuel more (λ position used. done-not e used) h;
         stays = stays-ran;
         same-input = λ input other fuel e. ap (ranTo output) (run-same runs (setting input) other fuel start e);
       }

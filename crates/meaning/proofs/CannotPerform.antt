@@ -12,7 +12,7 @@ use borrow.Author.Tests.{ltb-true, ltb-false, leb-true, leb-false}
 use lib.Dec.{lit<, leb, ltb}
 use lib.ListN.{length}
 use Rattle.formats.specs.Refusals.{inputEnded, notATag, outputFull, tooManyCalls, cannotPerform}
-use Rattle.formats.specs.Tokens.{labelBytes, Tag, ended, aLeaf, aNode, other, tagAt}
+use Rattle.formats.specs.Tokens.{labelBytes, Tag, noByte, aLeaf, aNode, other, tagAt}
 use Rattle.formats.specs.Numbers.{bytesOf, numberOf, numberAt}
 use Rattle.formats.specs.Records.{fields, bytesOfRecord, recordAt, nth}
 use Rattle.formats.proofs.Numbers.{length-bytesOf}
@@ -21,13 +21,13 @@ use Rattle.formats.proofs.Tokens.{Look, past, at-other, look}
 use Rattle.meaning.specs.Levels.{atLevel}
 use Rattle.meaning.specs.Instructions.{Instruction, Operation, Push, Get, Add, Ifnot, Jump, Slide, Drop, LeafTag, NodeTag, WriteNumber, ReadTag, ReadNumber, Call, Return, heldBy, operations, operationOf, instructionOf}
 use Rattle.meaning.specs.Performing.{Setting, Caller, State, wordsBelow, standing, opened, Step, goes, ends, refuses}
-use Rattle.meaning.specs.Performing.{holding, one, two, room, push, write, byTag, readNumber, call, kept, numberKept, leave, operate, perform, step}
+use Rattle.meaning.specs.Performing.{holding, one, two, room, pushWord, write, onTag, takeNumber, openCall, kept, numberKept, leave, operate, perform, step}
 use Rattle.meaning.specs.Running.{ofCode}
 use Rattle.meaning.specs.CannotPerform.{wordsNeeded, wordsAdded, Fetches, fetched, CannotPerform, no-instruction, no-operation, return-byte, missing-words, surplus-words}
 use Rattle.meaning.specs.Stopping.{Prevented, no-tag, no-label, no-such-tag, no-room-for-leaf, no-room-for-node, no-room-for-number, all-open, Refused, prevented, ReturnsFirst, none-kept, one-kept}
 use Rattle.meaning.proofs.Levels.{level-found, level-below}
 
--- ---- what becomes of an instruction, and whether C holds: it is refused with 19 where C holds, and nowhere else. A number of which R holds is another
+-- ---- The outcome of an instruction, and whether C holds: it is refused with 19 where C holds, and nowhere else. A number of which R holds is another
 -- refusal's, one of which E holds is the run's, which ends
 
 pub data Exactly (C : Type 0) (R E : ℕ → Type 0) : Step → Type 0 where
@@ -170,15 +170,15 @@ module _ (m : Setting) (s : State) where
       (λ e. let below = ltb-true (standing s) (m .mostWords) e in h (λ some-added. omega arith))
       (λ e. let full = ltb-false (standing s) (m .mostWords) e in surplus (omega arith) (omega arith))
 
-  exactly-push : (op : Operation) (x : ℕ) → wordsAdded op ≡ 1 → byteIn op ≤ 1 → wordsNeeded op ≤ length (s .frame) → Performs op (push m x s)
-  unfolding push
+  exactly-push : (op : Operation) (x : ℕ) → wordsAdded op ≡ 1 → byteIn op ≤ 1 → wordsNeeded op ≤ length (s .frame) → Performs op (pushWord m x s)
+  unfolding pushWord
   exactly-push op x adds small enough = exactly-room op _ adds (λ fits. going (can op small enough fits))
 
   -- a word of the frame, if there is one
   exactly-get :
       (k : ℕ) (found : Option ℕ)
       → atLevel (s .frame) k ≡ found
-      → Performs (Get k) (elim found [ some x ↦ push m x s | none ↦ refuses cannotPerform ])
+      → Performs (Get k) (elim found [ some x ↦ pushWord m x s | none ↦ refuses cannotPerform ])
   unfolding wordsNeeded wordsAdded byteIn
   exactly-get k (some x) e = exactly-push (Get k) x refl (omega arith) (level-below (s .frame) k e)
   exactly-get k none e = stuck (missing (by-count (decLe (suc k) (length (s .frame)))))
@@ -197,20 +197,20 @@ module _ (m : Setting) (s : State) where
   exactly-write bytes words full h =
       exactly-or (leb (length (s .output) + length bytes) (m .space)) _ _ (going h) (λ e. refused {number = outputFull} (full (leb-false _ _ e)) (omega arith) h)
 
-  exactly-number : (Cannot ReadNumber → ⊥) → Performs ReadNumber (readNumber m s)
-  unfolding readNumber
+  exactly-number : (Cannot ReadNumber → ⊥) → Performs ReadNumber (takeNumber m s)
+  unfolding takeNumber
   exactly-number h =
       exactly-or (leb (s .read + labelBytes) (length (m .input))) _ _ (going h) (λ e. refused {number = inputEnded} (no-label (leb-false _ _ e)) (omega arith) h)
 
-  exactly-call : (entry n : ℕ) → (Cannot (Call entry n) → ⊥) → Performs (Call entry n) (call m entry n s)
-  unfolding call
+  exactly-call : (entry n : ℕ) → (Cannot (Call entry n) → ⊥) → Performs (Call entry n) (openCall m entry n s)
+  unfolding openCall
   exactly-call entry n h =
       exactly-or (ltb (opened s) (m .mostOpen)) _ _ (going h) (λ e. refused {number = tooManyCalls} (all-open (ltb-false _ _ e)) (omega arith) h)
 
   -- a tag read
-  exactly-tag : (g : Tag) (a : ℕ) → Look (m .input) (s .read) g → (Cannot (ReadTag a) → ⊥) → Performs (ReadTag a) (byTag g a s)
-  unfolding byTag
-  exactly-tag ended a (past ends-before) h = refused {number = inputEnded} (no-tag ends-before) (omega arith) h
+  exactly-tag : (g : Tag) (a : ℕ) → Look (m .input) (s .read) g → (Cannot (ReadTag a) → ⊥) → Performs (ReadTag a) (onTag g a s)
+  unfolding onTag
+  exactly-tag noByte a (past ends-before) h = refused {number = inputEnded} (no-tag ends-before) (omega arith) h
   exactly-tag aLeaf a l h = going h
   exactly-tag aNode a l h = going h
   exactly-tag other a (at-other there no-leaf no-node) h = refused {number = notATag} (no-such-tag there no-leaf no-node) (omega arith) h
@@ -357,7 +357,7 @@ both-apply :
     refusal-of ReadNumber 16384 0 ∷ refusal-of ReadNumber 16383 0 ∷ refusal-of WriteNumber 0 0 ∷ refusal-of WriteNumber 1 0 ∷ refusal-of (Call 0 1) 0 1023
     ∷ refusal-of (Call 0 1) 1 1023 ∷ []
     ≡ 19 ∷ 15 ∷ 19 ∷ 17 ∷ 19 ∷ 18 ∷ []
-unfolding refusal-of numberIn alone standing-at waiting step perform operate heldBy operationOf operations instructionOf nth recordAt bytesOfRecord bytesOf numberOf numberAt standing wordsBelow opened one room write readNumber call zero-words
+unfolding refusal-of numberIn alone standing-at waiting step perform operate heldBy operationOf operations instructionOf nth recordAt bytesOfRecord bytesOf numberOf numberAt standing wordsBelow opened one room write takeNumber openCall zero-words
 both-apply = refl
 
 -- a derivation by each rule

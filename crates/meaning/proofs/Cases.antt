@@ -10,8 +10,8 @@ use Rattle.formats.specs.Tokens.{tagOf, tagAt}
 use Rattle.formats.specs.Written.{written}
 use Rattle.meaning.specs.Instructions.{Instruction, Operation, Push, Get, Add, Ifnot, Jump, Slide, Drop, LeafTag, NodeTag, WriteNumber, ReadTag, ReadNumber, Call, Return, heldBy, operations, operationOf, instructionOf}
 use Rattle.meaning.specs.Levels.{atLevel}
-use Rattle.meaning.specs.Performing.{Setting, start, goes, ends, refuses, holding, wordsBelow, standing, opened, one, two, room, push, write, byTag, readNumber, call, kept, numberKept, leave, operate, perform, step}
-use Rattle.meaning.specs.Running.{ofCode, Ran, Run, run, unitsOf, outcomeOf, numberTold, streamRun, valueWords, returnWords}
+use Rattle.meaning.specs.Performing.{Setting, start, goes, ends, refuses, holding, wordsBelow, standing, opened, one, two, room, pushWord, write, onTag, takeNumber, openCall, kept, numberKept, leave, operate, perform, step}
+use Rattle.meaning.specs.Running.{ofCode, Ran, Run, run, unitsOf, outcomeOf, numberReported, streamRun, valueWords, returnWords}
 
 -- A code's bytes.
 codeOf : List Operation → List ℕ
@@ -155,9 +155,9 @@ at-ends =
 cases : List Row
 cases = worked ++ (performed-well ++ (not-performed ++ at-ends))
 
-as-told : map ranOn cases ≡ map (λ r. r .gives) cases
-unfolding streamRun run step perform operate heldBy operationOf operations instructionOf nth recordAt flat bytesOfRecord bytesOf numberOf numberAt sum32 tagAt tagOf written standing wordsBelow opened atLevel one two room push write byTag readNumber call kept numberKept leave outcomeOf numberTold cases worked performed-well not-performed at-ends grow grow-operations two-leaves grown blank codeOf ranOn ended-with refused-with ends-with stuck on-grow bare
-as-told = refl
+as-reported : map ranOn cases ≡ map (λ r. r .gives) cases
+unfolding streamRun run step perform operate heldBy operationOf operations instructionOf nth recordAt flat bytesOfRecord bytesOf numberOf numberAt sum32 tagAt tagOf written standing wordsBelow opened atLevel one two room pushWord write onTag takeNumber openCall kept numberKept leave outcomeOf numberReported cases worked performed-well not-performed at-ends grow grow-operations two-leaves grown blank codeOf ranOn ended-with refused-with ends-with stuck on-grow bare
+as-reported = refl
 
 -- ---- the limits, on a machine that has room for 2 words and 2 open calls
 
@@ -186,7 +186,7 @@ limits = map stops
 within-limits :
     limits
     ≡ done 3 ∷ refusal 19 2 ∷ refusal 19 2 ∷ refusal 19 2 ∷ refusal 15 1 ∷ refusal 19 3 ∷ done 3 ∷ refusal 18 1 ∷ refusal 19 1 ∷ refusal 19 1 ∷ []
-unfolding streamRun run step perform operate heldBy operationOf operations instructionOf nth recordAt flat bytesOfRecord bytesOf numberOf numberAt sum32 tagAt tagOf written standing wordsBelow opened atLevel one two room push write byTag readNumber call kept numberKept leave outcomeOf numberTold limits stops small codeOf
+unfolding streamRun run step perform operate heldBy operationOf operations instructionOf nth recordAt flat bytesOfRecord bytesOf numberOf numberAt sum32 tagAt tagOf written standing wordsBelow opened atLevel one two room pushWord write onTag takeNumber openCall kept numberKept leave outcomeOf numberReported limits stops small codeOf
 within-limits = refl
 
 -- ---- the limit of 16,384 words
@@ -197,10 +197,10 @@ replicate (suc n) = 0 ∷ replicate n
 
 -- What a push is refused with, or 0, where so many words stand.
 pushed-on : ℕ → ℕ
-pushed-on n = elim (push (ofCode [] [] 0) 1 (holding (replicate n) start)) [ goes t ↦ 0 | ends number ↦ 0 | refuses number ↦ number ]
+pushed-on n = elim (pushWord (ofCode [] [] 0) 1 (holding (replicate n) start)) [ goes t ↦ 0 | ends number ↦ 0 | refuses number ↦ number ]
 
 full-stack : map pushed-on (16383 ∷ 16384 ∷ []) ≡ 0 ∷ 19 ∷ []
-unfolding push room standing wordsBelow pushed-on replicate
+unfolding pushWord room standing wordsBelow pushed-on replicate
 full-stack = refl
 
 -- ---- the limit of 4,128 instructions
@@ -212,7 +212,7 @@ long = codeOf (Jump 4127 ∷ []) ++ (replicate 33008 ++ codeOf (LeafTag ∷ Retu
 -- 01, Instructions: "an address from 4,128 up .. holds no instruction and gives 19", also where 8
 -- bytes of the buffer stand there. That at 4,127 is performed.
 long-buffer : streamRun long [] (blank 6) 20 valueWords returnWords ≡ refused-with 19 2 0 (1 ∷ []) (blank 5)
-unfolding streamRun run step perform operate heldBy operationOf operations instructionOf nth recordAt flat bytesOfRecord bytesOf numberOf numberAt written write kept numberKept leave outcomeOf numberTold long replicate blank codeOf refused-with
+unfolding streamRun run step perform operate heldBy operationOf operations instructionOf nth recordAt flat bytesOfRecord bytesOf numberOf numberAt written write kept numberKept leave outcomeOf numberReported long replicate blank codeOf refused-with
 long-buffer = refl
 
 -- ---- fields that an operation does not use
@@ -243,7 +243,7 @@ others-set =
     ∷ []
 
 unused-fields : map ranOn others-set ≡ map (λ r. r .gives) others-set
-unfolding streamRun run step perform operate heldBy operationOf operations nth recordAt flat bytesOfRecord bytesOf numberOf numberAt sum32 tagAt tagOf written standing wordsBelow opened atLevel one two room push write byTag readNumber call kept numberKept leave outcomeOf numberTold others-set with-others grow-operations two-leaves grown blank ranOn ended-with refused-with ends-with bare
+unfolding streamRun run step perform operate heldBy operationOf operations nth recordAt flat bytesOfRecord bytesOf numberOf numberAt sum32 tagAt tagOf written standing wordsBelow opened atLevel one two room pushWord write onTag takeNumber openCall kept numberKept leave outcomeOf numberReported others-set with-others grow-operations two-leaves grown blank ranOn ended-with refused-with ends-with bare
 unused-fields = refl
 
 -- ---- the refusals of a call in their order
@@ -266,5 +266,5 @@ first-refusal :
     ∷ lending 16385 2049 (codeOf (Return 0 ∷ [])) 1
     ∷ []
     ≡ stuck 13 0 ∷ stuck 13 0 ∷ stuck 13 0 ∷ stuck 13 0 ∷ stuck 14 0 ∷ stuck 19 0 ∷ ends-with 1 0 ∷ ends-with 1 0 ∷ []
-unfolding streamRun run step perform operate heldBy operationOf operations instructionOf nth recordAt flat bytesOfRecord bytesOf numberOf numberAt written kept numberKept leave outcomeOf numberTold lending blank codeOf ended-with refused-with ends-with stuck
+unfolding streamRun run step perform operate heldBy operationOf operations instructionOf nth recordAt flat bytesOfRecord bytesOf numberOf numberAt written kept numberKept leave outcomeOf numberReported lending blank codeOf ended-with refused-with ends-with stuck
 first-refusal = refl

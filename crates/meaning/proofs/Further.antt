@@ -10,12 +10,12 @@ use Rattle.formats.specs.Tokens.{Tree, leaf, node}
 use Rattle.formats.specs.Records.{nth}
 use Rattle.formats.specs.Programs.{Expr, const, var, add, ifZero, letIn, leafOf, nodeOf, caseOf, call, Args, noArgs, arg, Function, Program}
 use Rattle.meaning.specs.Evaluation.{Value, number, Environment, treeNamed, resultNumber}
-use Rattle.meaning.specs.OpenCalls.{Outcome, gives, stops, begins, next, treeOr, Handler, evaluate, evaluateArgs, called, evaluation}
+use Rattle.meaning.specs.OpenCalls.{Outcome, gives, stops, begins, followedBy, treeOr, Handler, evaluate, evaluateArgs, called, evaluation}
 use Rattle.meaning.specs.Meaning.{Further, the-same, goes-on, both-begin}
 
 -- where what follows goes further, so does an outcome with what follows
-same-next : {A B : Type 0} {f g : A → Outcome B} (o : Outcome A) → ((x : A) → Further (f x) (g x)) → Further (next o f) (next o g)
-unfolding next
+same-next : {A B : Type 0} {f g : A → Outcome B} (o : Outcome A) → ((x : A) → Further (f x) (g x)) → Further (followedBy o f) (followedBy o g)
+unfolding followedBy
 same-next (gives x) follows = follows x
 same-next (stops why r) follows = the-same
 same-next (begins o) follows = both-begin (same-next o follows)
@@ -25,8 +25,8 @@ further-next :
     {A B : Type 0} {o p : Outcome A} {f g : A → Outcome B}
     → Further o p
     → ((x : A) → Further (f x) (g x))
-    → Further (next o f) (next p g)
-unfolding next
+    → Further (followedBy o f) (followedBy p g)
+unfolding followedBy
 further-next {o = o} the-same follows = same-next o follows
 further-next goes-on follows = goes-on
 further-next (both-begin d) follows = both-begin (further-next d follows)

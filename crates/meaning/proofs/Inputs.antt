@@ -15,10 +15,10 @@ use lib.Seq.{getD-take, take-take, take-nil}
 use Rattle.formats.specs.Numbers.{numberOf, numberAt}
 use Rattle.formats.specs.Refusals.{inputEnded, cannotPerform}
 use Rattle.formats.specs.Results.{refusal}
-use Rattle.formats.specs.Tokens.{labelBytes, Tag, ended, aLeaf, aNode, other, tagOf, tagAt}
+use Rattle.formats.specs.Tokens.{labelBytes, Tag, noByte, aLeaf, aNode, other, tagOf, tagAt}
 use Rattle.meaning.specs.Instructions.{Operation, Push, Get, Add, Ifnot, Jump, Slide, Drop, LeafTag, NodeTag, WriteNumber, ReadTag, ReadNumber, Call, Return, operationOf}
-use Rattle.meaning.specs.Performing.{Setting, State, next, holding, reading, standing, Step, goes, ends, refuses, room, push, write, byTag, readNumber, call, operate, perform, step}
-use Rattle.meaning.specs.Running.{Run, after, stopped, ended as returned, refused, run, answerOf, outcomeOf}
+use Rattle.meaning.specs.Performing.{Setting, State, toNext, holding, reading, standing, Step, goes, ends, refuses, room, pushWord, write, onTag, takeNumber, openCall, operate, perform, step}
+use Rattle.meaning.specs.Running.{Run, afterPerforming, stopped, ended as returned, refused, run, answerOf, outcomeOf}
 use Rattle.meaning.specs.StreamRun.{lookedAt, restsOn, Runs}
 
 -- ---- buffers with the same opening
@@ -30,18 +30,18 @@ drop-take (suc p) n [] = rw suc-add (sym (take-nil n))
 drop-take (suc p) n (x ∷ s) = rw suc-add (drop-take p n s)
 
 module _ (a b : List ℕ) where
-  -- what the opening tells is the same of both: ..
-  told : {A : Type 0} (j : ℕ) (f g : List ℕ → A) → ((s : List ℕ) → f (take j s) ≡ g s) → take j a ≡ take j b → g a ≡ g b
-  told j f g tells e = sym (tells a) ∙ ap f e ∙ tells b
+  -- what the opening reports is the same of both: ..
+  reported : {A : Type 0} (j : ℕ) (f g : List ℕ → A) → ((s : List ℕ) → f (take j s) ≡ g s) → take j a ≡ take j b → g a ≡ g b
+  reported j f g reports e = sym (reports a) ∙ ap f e ∙ reports b
 
   -- .. a shorter opening,
   opens-less : (j k : ℕ) → j ≤ k → take k a ≡ take k b → take j a ≡ take j b
-  opens-less j k h = told k (take j) (take j) (λ s. take-take j k s h)
+  opens-less j k h = reported k (take j) (take j) (λ s. take-take j k s h)
 
   -- .. whether there are so many bytes,
   same-whole : (j : ℕ) → take j a ≡ take j b → leb j (length a) ≡ leb j (length b)
   same-whole j e =
-      let both : min j (length a) ≡ min j (length b) = told j length (λ s. min j (length s)) (length-take j) e in
+      let both : min j (length a) ≡ min j (length b) = reported j length (λ s. min j (length s)) (length-take j) e in
       elim (decLe j (length a)) [
         | yes h ↦ le-leb j (length a) h ∙ sym (le-leb j (length b) (omega arith))
         | no h ↦ lt-leb j (length a) (omega arith) ∙ sym (lt-leb j (length b) (omega arith))
@@ -51,16 +51,16 @@ module _ (a b : List ℕ) where
   same-tag : (p : ℕ) → take (suc p) a ≡ take (suc p) b → tagAt a p ≡ tagAt b p
   unfolding tagAt
   same-tag p e =
-      ap₂ (λ t b. elim t [ true ↦ tagOf b | false ↦ ended ])
+      ap₂ (λ t b. elim t [ true ↦ tagOf b | false ↦ noByte ])
       (same-whole (suc p) e)
-      (told (suc p) (λ s. getD s p 0) (λ s. getD s p 0) (λ s. getD-take (suc p) s p 0 (le-refl _)) e)
+      (reported (suc p) (λ s. getD s p 0) (λ s. getD s p 0) (λ s. getD-take (suc p) s p 0 (le-refl _)) e)
 
   same-number : (width p : ℕ) → take (p + width) a ≡ take (p + width) b → numberAt width a p ≡ numberAt width b p
   unfolding numberAt
   same-number width p e =
       ap₂ (λ t bs. elim t [ true ↦ numberOf bs | false ↦ 0 ])
       (same-whole (p + width) e)
-      (told (p + width) (drop p) (λ s. take width (drop p s)) (drop-take p width) e)
+      (reported (p + width) (drop p) (λ s. take width (drop p s)) (drop-take p width) e)
 
 -- ---- one step
 
@@ -75,20 +75,20 @@ rests s (ends number) = s .read
 rests s (refuses number) = s .read + lookedAt (refusal number (s .read))
 
 -- to look at a tag is to rest on it, whatever it is ..
-tag-rests : (g : Tag) (a : ℕ) (s : State) → suc (s .read) ≤ rests s (byTag g a s)
-unfolding byTag lookedAt
-tag-rests ended a s = omega arith
+tag-rests : (g : Tag) (a : ℕ) (s : State) → suc (s .read) ≤ rests s (onTag g a s)
+unfolding onTag lookedAt
+tag-rests noByte a s = omega arith
 tag-rests aLeaf a s = omega arith
 tag-rests aNode a s = omega arith
 tag-rests other a s = omega arith
 
 -- A number read, if it is whole.
 abbrev numberRead : State → Bool → ℕ → Step
-numberRead s whole x = elim whole [ true ↦ goes (next (reading labelBytes (holding (x ∷ s .frame) s))) | false ↦ refuses inputEnded ]
+numberRead s whole x = elim whole [ true ↦ goes (toNext (reading labelBytes (holding (x ∷ s .frame) s))) | false ↦ refuses inputEnded ]
 
 -- .. and so with a number
-number-rests : (m : Setting) (s : State) → s .read + labelBytes ≤ rests s (readNumber m s)
-unfolding readNumber lookedAt
+number-rests : (m : Setting) (s : State) → s .read + labelBytes ≤ rests s (takeNumber m s)
+unfolding takeNumber lookedAt
 number-rests m s = either (leb (s .read + labelBytes) (length (m .input))) (numberAt labelBytes (m .input) (s .read))
   where
     either : (whole : Bool) (x : ℕ) → s .read + labelBytes ≤ rests s (numberRead s whole x)
@@ -101,13 +101,13 @@ module _ (m : Setting) (input : List ℕ) (s : State) where
   Same this that = take (rests s this) input ≡ take (rests s this) (m .input) → that ≡ this
 
   -- a number read
-  read-same : Same (readNumber m s) (readNumber (given input m) s)
-  unfolding readNumber
+  read-same : Same (takeNumber m s) (takeNumber (given input m) s)
+  unfolding takeNumber
   read-same e =
       let agree = opens-less input (m .input) (s .read + labelBytes) _ (number-rests m s) e in
       ap₂ (numberRead s) (same-whole input (m .input) (s .read + labelBytes) agree) (same-number input (m .input) labelBytes (s .read) agree)
 
-  -- steps behind a test, and behind what may be none
+  -- steps after a test, and after what may be none
   same-test :
       (b : Bool) (this that : Step)
       → Same this that
@@ -124,7 +124,7 @@ module _ (m : Setting) (input : List ℕ) (s : State) where
 
   -- no other operation looks at the input
   operate-same : (op : Operation) → Same (operate m s op) (operate (given input m) s op)
-  unfolding operate room push write call
+  unfolding operate room pushWord write openCall
   operate-same (Push x) e = refl
   operate-same (Get k) e = refl
   operate-same Add e = refl
@@ -137,8 +137,8 @@ module _ (m : Setting) (input : List ℕ) (s : State) where
   operate-same WriteNumber e = refl
   operate-same (ReadTag a) e =
       let agree = opens-less input (m .input) (suc (s .read)) _ (tag-rests (tagAt (m .input) (s .read)) a s) e in
-      ap (λ g. byTag g a s) (same-tag input (m .input) (s .read) agree)
-  operate-same ReadNumber e = same-test (ltb (standing s) (m .mostWords)) (readNumber m s) (readNumber (given input m) s) read-same e
+      ap (λ g. onTag g a s) (same-tag input (m .input) (s .read) agree)
+  operate-same ReadNumber e = same-test (ltb (standing s) (m .mostWords)) (takeNumber m s) (takeNumber (given input m) s) read-same e
   operate-same (Call entry n) e = refl
   operate-same (Return k) e = refl
 
@@ -151,12 +151,12 @@ module _ (m : Setting) (input : List ℕ) (s : State) where
 
 -- ---- runs
 
--- A run from what becomes of its first instruction on, with the fuel left behind it.
+-- A run from the outcome of its first instruction on, with the fuel left after it.
 abbrev onward : Setting → ℕ → State → Step → Run
 onward m fuel s this =
     elim this [
-      | goes t ↦ after (s .address) (run m fuel t)
-      | ends number ↦ after (s .address) (stopped s (returned number))
+      | goes t ↦ afterPerforming (s .address) (run m fuel t)
+      | ends number ↦ afterPerforming (s .address) (stopped s (returned number))
       | refuses number ↦ stopped s (refused number)
     ]
 
@@ -165,7 +165,7 @@ module _ (runs : (m : Setting) (s : State) → Runs m s) (m : Setting) (input : 
   abbrev pub SameRun : Run → Run → Type 0
   SameRun this that = take (restsOn (answerOf this)) input ≡ take (restsOn (answerOf this)) (m .input) → that ≡ this
 
-  -- a run is the same if its first step and the run behind it are
+  -- a run is the same if its first step and the run after it are
   onward-same :
       (fuel : ℕ) (s : State) (this that : Step)
       → ((t : State) → SameRun (run m fuel t) (run (given input m) fuel t))
@@ -174,7 +174,7 @@ module _ (runs : (m : Setting) (s : State) → Runs m s) (m : Setting) (input : 
   unfolding run outcomeOf lookedAt
   onward-same fuel s (goes t) that rest same e =
       let grown : t .read ≤ restsOn (answerOf (run m fuel t)) = omega (arith, runs m t .grows 0 fuel zero-le .reads) in
-      ap (onward (given input m) fuel s) (same (opens-less input (m .input) _ _ grown e)) ∙ ap (after (s .address)) (rest t e)
+      ap (onward (given input m) fuel s) (same (opens-less input (m .input) _ _ grown e)) ∙ ap (afterPerforming (s .address)) (rest t e)
   onward-same fuel s (ends number) that rest same e =
       ap (onward (given input m) fuel s) (same (opens-less input (m .input) _ _ (le-add-right (s .read) 0) e))
   onward-same fuel s (refuses number) that rest same e = ap (onward (given input m) fuel s) (same e)

@@ -5,7 +5,7 @@ use Rattle.meaning.proofs.Proper.{proper}
 use Rattle.meaning.proofs.OpenCalls.{of-sort, held}
 use Rattle.meaning.proofs.OneWay.{one-way, at-end, one-function}
 use Rattle.meaning.proofs.Agrees.{agrees}
-use Rattle.meaning.proofs.SourceRun.{cut, source-runs, behind-tree}
+use Rattle.meaning.proofs.SourceRun.{cut, source-runs, after-tree}
 
 pub meaning : Meaning
 meaning = record {
@@ -27,5 +27,5 @@ meaning = record {
     agrees = λ first t p. agrees program first t (proper program p);
   };
   source-runs = source-runs;
-  behind-tree = behind-tree;
+  after-tree = after-tree;
 }

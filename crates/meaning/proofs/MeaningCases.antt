@@ -1,4 +1,4 @@
--- Closed cases of what a program means, proved by computation. Each row of a table is a program, a tree, and what becomes of it.
+-- Closed cases of what a program means, proved by computation. Each row of a table is a program, a tree, and the outcome of it.
 use Prim.Native.Nat.{ℕ, suc}
 use mathlib.Core.List.{List, [], _∷_, _++_, map}
 use mathlib.Core.Option.{Option·some-injective}
@@ -13,7 +13,7 @@ use Rattle.rules.proofs.Cases.{numbered, treed, taking, programOf, on, with-one
 use Rattle.meaning.specs.Levels.{atLevel}
 use Rattle.meaning.specs.Running.{mostCalls}
 use Rattle.meaning.specs.Evaluation.{Value, number, tree, Environment, picked, inCall, branch, inBranch, Takes, Const, Var, Add, IfZero, Let, Leaf, Node, Case, Call, no-more, one-more, ifZeroUnits, caseUnits, counted, unitsIn, resultNumber}
-use Rattle.meaning.specs.OpenCalls.{Outcome, gives, stops, begins, next, numberOr, treeOr, resultTree, evaluate, evaluateArgs, firstRecord, called, evaluation, within}
+use Rattle.meaning.specs.OpenCalls.{Outcome, gives, stops, begins, followedBy, numberOr, treeOr, resultTree, evaluate, evaluateArgs, firstRecord, called, evaluation, withFuel}
 
 -- ---- programs
 
@@ -39,26 +39,26 @@ two-leaves = node (leaf 5) (leaf 7)
 -- ---- the evaluation held to a number of open calls
 
 -- What it comes to, and how many expressions begin.
-data Told : Type 0 where
-  value : ℕ → Value → Told
-  stop : ℕ → ℕ → ℕ → Told
+data Reported : Type 0 where
+  value : ℕ → Value → Reported
+  stop : ℕ → ℕ → ℕ → Reported
 
-told-from : ℕ → Outcome Value → Told
-told-from n (gives v) = value n v
-told-from n (stops why r) = stop n why r
-told-from n (begins o) = told-from (suc n) o
+reported-from : ℕ → Outcome Value → Reported
+reported-from n (gives v) = value n v
+reported-from n (stops why r) = stop n why r
+reported-from n (begins o) = reported-from (suc n) o
 
 record Row : Type 0 where
   runs : Program
   calls : ℕ
   on : Tree
-  tells : Told
+  reports : Reported
 
-row : Program → ℕ → Tree → Told → Row
-row runs calls on tells = record { runs = runs; calls = calls; on = on; tells = tells }
+row : Program → ℕ → Tree → Reported → Row
+row runs calls on reports = record { runs = runs; calls = calls; on = on; reports = reports }
 
-evaluated : Row → Told
-evaluated r = told-from 0 (evaluation (r .runs) (r .calls) (r .on))
+evaluated : Row → Reported
+evaluated r = reported-from 0 (evaluation (r .runs) (r .calls) (r .on))
 
 -- Grow on T begins 14 expressions and opens 2 calls at once. The swapped program gives labels 7 and 5. Sum gives −2147483648. Call 0 on 0 is stopped at
 -- 1,024, at its only Call.
@@ -73,8 +73,8 @@ worked =
     ∷ []
 
 -- A number-valued function 0 with this body, on T, with one call open; and what it gives.
-in-number : Expr → Told → Row
-in-number body tells = row (programOf (numbered body ∷ [])) 1 two-leaves tells
+in-number : Expr → Reported → Row
+in-number body reports = row (programOf (numbered body ∷ [])) 1 two-leaves reports
 
 of-number : Expr → ℕ → ℕ → Row
 of-number body n i = in-number body (value n (number i))
@@ -126,21 +126,21 @@ each-stop =
 cases : List Row
 cases = worked ++ (each-kind ++ each-stop)
 
-as-told : map evaluated cases ≡ map (λ r. r .tells) cases
-unfolding evaluation called evaluate evaluateArgs next resultNumber resultTree numberOr treeOr atLevel sum32 nth firstRecord total signatureOf size prefix prefixes numbered treed programOf on with-two on-two grow swap again sum two-leaves told-from row evaluated worked in-number of-number of-tree each-kind each-stop cases
-as-told = refl
+as-reported : map evaluated cases ≡ map (λ r. r .reports) cases
+unfolding evaluation called evaluate evaluateArgs followedBy resultNumber resultTree numberOr treeOr atLevel sum32 nth firstRecord total signatureOf size prefix prefixes numbered treed programOf on with-two on-two grow swap again sum two-leaves reported-from row evaluated worked in-number of-number of-tree each-kind each-stop cases
+as-reported = refl
 
 -- Grow on T with fuel for 14 expressions, and for 13; Call 0 on 0 with fuel for 1,024, and for 1,023.
 fuelled :
-    map (told-from 0)
-    (within 14 (evaluation grow mostCalls two-leaves)
-    ∷ within 13 (evaluation grow mostCalls two-leaves)
-    ∷ within 1024 (evaluation again mostCalls two-leaves)
-    ∷ within 1023 (evaluation again mostCalls two-leaves)
-    ∷ within 0 (evaluation grow mostCalls two-leaves)
+    map (reported-from 0)
+    (withFuel 14 (evaluation grow mostCalls two-leaves)
+    ∷ withFuel 13 (evaluation grow mostCalls two-leaves)
+    ∷ withFuel 1024 (evaluation again mostCalls two-leaves)
+    ∷ withFuel 1023 (evaluation again mostCalls two-leaves)
+    ∷ withFuel 0 (evaluation grow mostCalls two-leaves)
     ∷ [])
     ≡ value 14 (tree (node (leaf 6) (leaf 8))) ∷ stop 13 14 0 ∷ stop 1024 18 2 ∷ stop 1023 14 0 ∷ stop 0 14 0 ∷ []
-unfolding within evaluation called evaluate evaluateArgs next resultNumber resultTree numberOr treeOr atLevel sum32 nth firstRecord total signatureOf size prefix prefixes numbered programOf on grow again two-leaves told-from
+unfolding withFuel evaluation called evaluate evaluateArgs followedBy resultNumber resultTree numberOr treeOr atLevel sum32 nth firstRecord total signatureOf size prefix prefixes numbered programOf on grow again two-leaves reported-from
 fuelled = refl
 
 -- ---- derivations by hand

@@ -1,7 +1,7 @@
 -- Reductions go one way: a term reduces to at most one other, a value to none.
 --
--- The contexts fix the order in which a term's parts reduce. So a function finds the place where a term may reduce: in its first part, else in its
--- second, else the whole term; a value has none. By cases on the context, where a redex stands in its hole, that place is the hole. So a term is a
+-- The contexts fix the order in which a term's parts reduce. So a function finds the position where a term may reduce: in its first part, else in its
+-- second, else the whole term; a value has none. By cases on the context, where a redex stands in its hole, that position is the hole. So a term is a
 -- redex in a context in one way only, and a redex becomes one term only.
 use Prim.Native.Nat.{zero, suc}
 use mathlib.Core.List.{[], _∷_}
@@ -9,59 +9,59 @@ use mathlib.Core.Option.{Option, none, some, Option·some-injective, Option·non
 use mathlib.Core.Path.{_≡_, refl, sym, ap, fun-ext, _∙_}
 use Rattle.formats.specs.Records.{nth}
 use Rattle.formats.specs.Programs.{Function, Program}
-use Rattle.rules.specs.Printed.{Name, number, tree, function, Term, int, lam, name, app, plus, fix, leaf, node, case, let-01, ifZero-01}
+use Rattle.rules.specs.Printed.{Name, numberName, treeName, functionName, Term, int, lam, name, app, plus, fix, leafTerm, nodeTerm, case, let-01, ifZero-01}
 use Rattle.meaning.specs.Reductions.{TreeValue, leaf-value, node-value, IsValue, an-integer, an-abstraction, a-tree}
 use Rattle.meaning.specs.Reductions.{sameName, only, substitute, fixes, fixing}
 use Rattle.meaning.specs.Reductions.{Redex, Es-Plus, Es-App, Es-App-let, Es-Fix, Es-Case1, Es-Case2, IfZero-zero, IfZero-other}
 use Rattle.meaning.specs.Reductions.{Context, hole, app-left, app-right, plus-left, plus-right, in-leaf, node-left, node-right, in-case, in-let, in-test, plug}
 use Rattle.meaning.specs.Reductions.{Reduces, in-context}
 
--- ---- the place where a term reduces
+-- ---- the position where a term reduces
 
--- a part of a term, and the term with another part in its place
-record Place : Type 0 where
+-- a part of a term, and the term with another part in its position
+record Location : Type 0 where
   part : Term
   around : Term → Term
 
 -- the whole term, with nothing around
-whole : Term → Option Place
+whole : Term → Option Location
 whole M = some (record { part = M; around = λ L. L })
 
--- the place in a part, with what stands around that part; where the part has none, another
-inside : Option Place → (Term → Term) → Option Place → Option Place
+-- the position in a part, with what stands around that part; where the part has none, another
+inside : Option Location → (Term → Term) → Option Location → Option Location
 inside none around other = other
 inside (some p) around other = some (record { part = p .part; around = λ L. around (p .around L) })
 
 -- the only place where a term may reduce, whether or not a redex stands there
-place : Term → Option Place
-place (int i) = none
-place (lam x M) = none
-place (name x) = none
-place (app M N) = inside (place M) (λ L. app L N) (inside (place N) (app M) (whole (app M N)))
-place (plus M N) = inside (place M) (λ L. plus L N) (inside (place N) (plus M) (whole (plus M N)))
-place (fix f M) = whole (fix f M)
-place (leaf M) = inside (place M) leaf none
-place (node M N) = inside (place M) (λ L. node L N) (inside (place N) (node M) none)
-place (case M x M₁ x₁ x₂ M₂) = inside (place M) (λ L. case L x M₁ x₁ x₂ M₂) (whole (case M x M₁ x₁ x₂ M₂))
-place (let-01 x M N) = inside (place M) (λ L. let-01 x L N) (whole (let-01 x M N))
-place (ifZero-01 M M₁ M₂) = inside (place M) (λ L. ifZero-01 L M₁ M₂) (whole (ifZero-01 M M₁ M₂))
+position : Term → Option Location
+position (int i) = none
+position (lam x M) = none
+position (name x) = none
+position (app M N) = inside (position M) (λ L. app L N) (inside (position N) (app M) (whole (app M N)))
+position (plus M N) = inside (position M) (λ L. plus L N) (inside (position N) (plus M) (whole (plus M N)))
+position (fix f M) = whole (fix f M)
+position (leafTerm M) = inside (position M) leafTerm none
+position (nodeTerm M N) = inside (position M) (λ L. nodeTerm L N) (inside (position N) (nodeTerm M) none)
+position (case M x M₁ x₁ x₂ M₂) = inside (position M) (λ L. case L x M₁ x₁ x₂ M₂) (whole (case M x M₁ x₁ x₂ M₂))
+position (let-01 x M N) = inside (position M) (λ L. let-01 x L N) (whole (let-01 x M N))
+position (ifZero-01 M M₁ M₂) = inside (position M) (λ L. ifZero-01 L M₁ M₂) (whole (ifZero-01 M M₁ M₂))
 
 -- a value has none: first a tree value, then any
-place-tree : {M : Term} → TreeValue M → place M ≡ none
-unfolding place inside
+place-tree : {M : Term} → TreeValue M → position M ≡ none
+unfolding position inside
 place-tree leaf-value = refl
 place-tree (node-value v w) = rw (place-tree v, place-tree w)
 
-place-value : {M : Term} → IsValue M → place M ≡ none
-unfolding place
+place-value : {M : Term} → IsValue M → position M ≡ none
+unfolding position
 place-value an-integer = refl
 place-value an-abstraction = refl
 place-value (a-tree v) = place-tree v
 
 module _ {program : Program} where
   -- a redex's place is the whole of it
-  place-redex : {M N : Term} → Redex program M N → place M ≡ whole M
-  unfolding place inside
+  place-redex : {M N : Term} → Redex program M N → position M ≡ whole M
+  unfolding position inside
   place-redex Es-Plus = refl
   place-redex (Es-App w) = rw (place-value w)
   place-redex (Es-App-let (Es-App w)) = rw (place-value w)
@@ -72,8 +72,8 @@ module _ {program : Program} where
   place-redex IfZero-other = refl
 
   -- with a redex in the hole of a context, it is the hole
-  place-plug : {M N : Term} → Redex program M N → (E : Context) → place (plug E M) ≡ some (record { part = M; around = plug E })
-  unfolding place inside whole plug
+  place-plug : {M N : Term} → Redex program M N → (E : Context) → position (plug E M) ≡ some (record { part = M; around = plug E })
+  unfolding position inside whole plug
   place-plug r hole = place-redex r
   place-plug r (app-left E N) = rw (place-plug r E)
   place-plug r (app-right x N E) = rw (place-plug r E)
@@ -100,15 +100,15 @@ module _ (program : Program) where
   redex-one-way IfZero-zero IfZero-zero = refl
   redex-one-way IfZero-other IfZero-other = refl
 
-  -- a term reduces to at most one other: its place tells the redex and what stands around
+  -- a term reduces to at most one other: its position reports the redex and what stands around
   pub one-way : (M N N′ : Term) → Reduces program M N → Reduces program M N′ → N ≡ N′
   one-way M N N′ (in-context {M = L} {N = K} E r) d = same d refl
     where
       same : {P Q : Term} → Reduces program P Q → M ≡ P → N ≡ Q
       same (in-context {M = L′} E′ r′) e =
-          let one-place = Option·some-injective _ _ (sym (place-plug r E) ∙ ap place e ∙ place-plug r′ E′) in
-          let one-redex : L ≡ L′ = ap (λ p. p .part) one-place in
-          ap (λ p. p .around K) one-place ∙ ap (plug E′) (redex-one-way r (rw one-redex r′))
+          let one-position = Option·some-injective _ _ (sym (place-plug r E) ∙ ap position e ∙ place-plug r′ E′) in
+          let one-redex : L ≡ L′ = ap (λ p. p .part) one-position in
+          ap (λ p. p .around K) one-position ∙ ap (plug E′) (redex-one-way r (rw one-redex r′))
 
   -- a value does not reduce
   pub at-end : (M N : Term) → IsValue M → Reduces program M N → ⊥
@@ -120,12 +120,12 @@ module _ (program : Program) where
   pub one-function :
       (f : Function) (M : Term)
       → program .functions ≡ f ∷ []
-      → Redex program (fix (function 0) M) (substitute (only (function 0) (fix (function 0) M)) M)
+      → Redex program (fix (functionName 0) M) (substitute (only (functionName 0) (fix (functionName 0) M)) M)
   unfolding nth fixes fixing only sameName
   one-function f M e = rw (← fun-ext one-name) Es-Fix
     where
-      one-name : (x : Name) → fixing program (function 0) M x ≡ only (function 0) (fix (function 0) M) x
-      one-name (number k) = refl
-      one-name (tree k) = refl
-      one-name (function zero) = refl
-      one-name (function (suc b)) = rw e
+      one-name : (x : Name) → fixing program (functionName 0) M x ≡ only (functionName 0) (fix (functionName 0) M) x
+      one-name (numberName k) = refl
+      one-name (treeName k) = refl
+      one-name (functionName zero) = refl
+      one-name (functionName (suc b)) = rw e

@@ -20,7 +20,7 @@ use Rattle.formats.specs.Records.{nth}
 use Rattle.formats.specs.Programs.{Expr, ifZero, caseOf, Args, Every, Sort, Function, Program}
 use Rattle.meaning.specs.Evaluation.{Value, number, Environment, treeNamed, withNumber, withTrees, inCall, picked, branch, inBranch, resultNumber}
 use Rattle.meaning.specs.Evaluation.{Takes, Const, Var, Add, IfZero, Let, Leaf, Node, Case, Call, TakesArgs, no-more, one-more, Ends}
-use Rattle.meaning.specs.OpenCalls.{Outcome, gives, after, next, numberOr, treeOr, resultTree, evaluate, evaluateArgs, called, evaluation}
+use Rattle.meaning.specs.OpenCalls.{Outcome, gives, afterBegun, followedBy, numberOr, treeOr, resultTree, evaluate, evaluateArgs, called, evaluation}
 use Rattle.meaning.specs.Meaning.{EndsWithin, OfSort, TooMany, HeldTo}
 use Rattle.meaning.proofs.Levels.{level-found}
 use Rattle.meaning.proofs.Outcomes.{after-more, next-after, ComesTo, given, stopped, comes-more, comes-begins, comes-next, comes-value, gives-not}
@@ -34,35 +34,35 @@ use Rattle.meaning.proofs.Proper.{proper-call, proper-none, proper-arg,
 -- ---- from the rules to the function
 
 module _ (program : Program) where
-  -- What a derivation tells: where as many calls may be open as its bound says, or more, the function gives its value.
-  abbrev Told : (E : Environment) (e : Expr) (o n : ℕ) (v : Value) → Type 0
-  Told E e o n v = (k r : ℕ) → o ≤ suc k → evaluate (called program k) E r e ≡ after n (gives v)
+  -- What a derivation reports: where as many calls may be open as its bound says, or more, the function gives its value.
+  abbrev Reported : (E : Environment) (e : Expr) (o n : ℕ) (v : Value) → Type 0
+  Reported E e o n v = (k r : ℕ) → o ≤ suc k → evaluate (called program k) E r e ≡ afterBegun n (gives v)
 
-  abbrev ToldArgs : (E : Environment) (xs : Args) (o n : ℕ) (before numbers : List ℕ) → Type 0
-  ToldArgs E xs o n before numbers = (k r : ℕ) → o ≤ suc k → evaluateArgs (called program k) E r xs before ≡ after n (gives numbers)
+  abbrev ReportedArgs : (E : Environment) (xs : Args) (o n : ℕ) (before numbers : List ℕ) → Type 0
+  ReportedArgs E xs o n before numbers = (k r : ℕ) → o ≤ suc k → evaluateArgs (called program k) E r xs before ≡ afterBegun n (gives numbers)
 
   -- a call gives what its function's body gives; the body's bound is not 0, since it is above the nesting of Call rules
-  told-call :
+  reported-call :
       (b : ℕ) (f : Function) (numbers : List ℕ) (u : Tree) (o n : ℕ) (v : Value)
       → nth (program .functions) b ≡ some f
       → Takes program (inCall numbers u) (f .body) o n v
-      → Told (inCall numbers u) (f .body) o n v
+      → Reported (inCall numbers u) (f .body) o n v
       → (k r : ℕ)
       → o ≤ k
-      → called program k r b numbers u ≡ after n (gives v)
+      → called program k r b numbers u ≡ afterBegun n (gives v)
   unfolding called
-  told-call b f numbers u o n v is-function d t zero r h = absurd (omega (arith, least-open program _ _ o n v d o .0 d))
-  told-call b f numbers u o n v is-function d t (suc k) r h = rw (is-function, called) (t k _ h)
+  reported-call b f numbers u o n v is-function d t zero r h = absurd (omega (arith, least-open program _ _ o n v d o .0 d))
+  reported-call b f numbers u o n v is-function d t (suc k) r h = rw (is-function, called) (t k _ h)
 
-  -- each derivation tells so
-  told : {E : Environment} {e : Expr} {o n : ℕ} {v : Value} → Takes program E e o n v → Told E e o n v
-  unfolding evaluate after next numberOr treeOr resultNumber resultTree picked branch inBranch
-  told d = elim d as (λ E e o n v d. Told E e o n v) (λ E xs o n before numbers d. ToldArgs E xs o n before numbers) [
+  -- each derivation reports so
+  reported : {E : Environment} {e : Expr} {o n : ℕ} {v : Value} → Takes program E e o n v → Reported E e o n v
+  unfolding evaluate afterBegun followedBy numberOr treeOr resultNumber resultTree picked branch inBranch
+  reported d = elim d as (λ E e o n v d. Reported E e o n v) (λ E xs o n before numbers d. ReportedArgs E xs o n before numbers) [
     | Const ↦ λ k r h. refl
     | Var named ↦ λ k r h. simp named
     | Add (d₁ → t₁) (d₂ → t₂) ↦ λ k r h. simp (t₁, t₂, next-after, after-more)
     | IfZero {E} {t = e} {zero-part = z} {other-part = w} {o} {n} {m} {i} {v} (d₁ → t₁) (d₂ → t₂) ↦
-        let by-number : (i : ℕ) → Told E e o n (number i) → Told E (picked i z w) o m v → Told E (ifZero e z w) o (suc (n + m)) v = elim [
+        let by-number : (i : ℕ) → Reported E e o n (number i) → Reported E (picked i z w) o m v → Reported E (ifZero e z w) o (suc (n + m)) v = elim [
           | zero ↦ λ t₁ t₂ k r h. simp (t₁, t₂, next-after, after-more)
           | suc i ↦ λ t₁ t₂ k r h. simp (t₁, t₂, next-after, after-more)
         ] in
@@ -71,21 +71,21 @@ module _ (program : Program) where
     | Leaf (d → t) ↦ λ k r h. simp (t, next-after)
     | Node (d₁ → t₁) (d₂ → t₂) ↦ λ k r h. simp (t₁, t₂, next-after, after-more)
     | Case {E} {a} {p} {q} {o} {n} {t = u} {v} named (d → t) ↦
-        let by-tree : (u : Tree) → treeNamed E a ≡ some u → Told (inBranch u E) (branch u p q) o n v → Told E (caseOf a p q) o (suc n) v = elim [
+        let by-tree : (u : Tree) → treeNamed E a ≡ some u → Reported (inBranch u E) (branch u p q) o n v → Reported E (caseOf a p q) o (suc n) v = elim [
           | leaf x ↦ λ named t k r h. simp (named, t)
           | node left right ↦ λ named t k r h. simp (named, t)
         ] in
         by-tree u named t
     | Call {b = b} {o = o} {m = m} {numbers = numbers} {t = u} {f = f} {v = v} (ds → ts) named is-function (d → t) ↦ λ k r h.
-        simp (ts, named, told-call b f numbers u o m v is-function d t k r (omega arith), next-after, after-more)
+        simp (ts, named, reported-call b f numbers u o m v is-function d t k r (omega arith), next-after, after-more)
     | no-more ↦ λ k r h. refl
     | one-more (d → t) (ds → ts) ↦ λ k r h. simp (t, ts, next-after, after-more)
   ]
 
   -- and that of the whole
-  told-end : (u : Tree) (o n : ℕ) (v : Value) → Ends program u o n v → evaluation program o u ≡ after n (gives v)
+  reported-end : (u : Tree) (o n : ℕ) (v : Value) → Ends program u o n v → evaluation program o u ≡ afterBegun n (gives v)
   unfolding evaluation
-  told-end u o n v ends = told-call 0 (ends .first) [] u o n v (ends .is-first) (ends .takes) (told (ends .takes)) o 0 (omega arith)
+  reported-end u o n v ends = reported-call 0 (ends .first) [] u o n v (ends .is-first) (ends .takes) (reported (ends .takes)) o 0 (omega arith)
 
 -- ---- from the function to the rules
 
@@ -129,7 +129,7 @@ module _ (program : Program) (k : ℕ) where
 
   -- an expression that pass one takes is known so, if the calls in it are
   known : KnownCalls → {g n : ℕ} {s : Sort} {e : Expr} → Proper (program .functions) g n s e → KnownUnder g n s e
-  unfolding evaluate after next numberOr treeOr resultNumber resultTree picked branch inBranch
+  unfolding evaluate afterBegun followedBy numberOr treeOr resultNumber resultTree picked branch inBranch
   known calls d = elim d as (λ g n s e d. KnownUnder g n s e) (λ g n count xs d. KnownArgs g n count xs) [
     | proper-const {i = i} small ↦ λ E numbers trees r. given 1 i (Const, λ fit. small)
     | proper-var {a = a} bound ↦ λ E numbers trees r.
@@ -180,7 +180,7 @@ module _ (program : Program) (k : ℕ) where
 
 -- calls are known so: where none may be opened, they stop; else the body is an expression that pass one takes
 known-calls : (program : Program) → ProperProgram program → (k : ℕ) → KnownCalls program k
-unfolding called after
+unfolding called afterBegun
 known-calls program proper zero b f numbers u r is-function = stopped 0 tooManyCalls r refl
 known-calls program proper (suc k) b f numbers u r is-function =
     rw (is-function, called)
@@ -207,7 +207,7 @@ module _ (program : Program) (t : Tree) (proper : ProperProgram program) where
   ends-so : (o : ℕ) {p : Outcome Value} → KnownEnd o p → evaluation program o t ≡ p → EndsWithin program t o ⊎ TooMany program t o
   ends-so o (given n x ends) e = inl (record { expressions = n; value = valueOf (first .sort) x; ends = ends .0 })
   ends-so o (stopped n why r is) e =
-      inr (record { expressions = n; place = r; stopped = rw is at e; is-call = at-call program t o n why r e })
+      inr (record { expressions = n; position = r; stopped = rw is at e; is-call = at-call program t o n why r e })
 
   -- a value that the rules give is of function 0's sort, since the function gives it too
   pub of-sort :
@@ -218,15 +218,15 @@ module _ (program : Program) (t : Tree) (proper : ProperProgram program) where
       → OfSort (other .sort) v
   of-sort other o n v labelled also-first ends =
       let same : first ≡ other = cc is-first in
-      rw (← same) (comes-value n v (known-end o) (told-end program t o n v ends) .1 labelled)
+      rw (← same) (comes-value n v (known-end o) (reported-end program t o n v ends) .1 labelled)
 
   pub held : HeldTo program t
   held =
       record {
-        gives-value = λ o n v. (λ e. comes-value n v (known-end o) e .0, told-end program t o n v);
+        gives-value = λ o n v. (λ e. comes-value n v (known-end o) e .0, reported-end program t o n v);
         ends-or-stops = λ o. ends-so o (known-end o) refl;
         never-both = λ o n v ends many.
-            gives-not n (many .expressions) tooManyCalls (many .place) v (sym (told-end program t o n v ends) ∙ many .stopped);
+            gives-not n (many .expressions) tooManyCalls (many .position) v (sym (reported-end program t o n v ends) ∙ many .stopped);
         endless = λ never o. elim (ends-so o (known-end o) refl) [ inl within ↦ absurd (never o _ _ (within .ends)) | inr many ↦ many ];
         further = further program t;
       }

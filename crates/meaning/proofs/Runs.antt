@@ -9,22 +9,22 @@ use native.Mathlib.Omega.{arith}
 use lib.ListN.{length, length-append}
 use Rattle.formats.specs.Refusals.{fuelUsedUp}
 use Rattle.meaning.specs.Performing.{Setting, State, goes, ends, refuses, step}
-use Rattle.meaning.specs.Running.{Run, Stop, ended, refused, stopped, after, run, unitsOf}
+use Rattle.meaning.specs.Running.{Run, Stop, ended, refused, stopped, afterPerforming, run, unitsOf}
 use Rattle.meaning.specs.StreamRun.{StepRefusal, ended-there, no-tag, full, too-many, cannot, Grows, Steps, here, on, Stops, used-up, returned, stuck, afterAll, Runs}
 use Rattle.meaning.proofs.Steps.{it-goes, it-ends, it-refuses, stepped, Follows, grows-same, follows-same, follows-on, follows-step, one-step}
 
--- ---- a run by what becomes of its first instruction
+-- ---- a run by the outcome of its first instruction
 
 pub run-none : (m : Setting) (s : State) → run m 0 s ≡ stopped s (refused fuelUsedUp)
 unfolding run
 run-none m s = refl
 
-pub run-goes : (m : Setting) (fuel : ℕ) (s t : State) → step m s ≡ goes t → run m (suc fuel) s ≡ after (s .address) (run m fuel t)
+pub run-goes : (m : Setting) (fuel : ℕ) (s t : State) → step m s ≡ goes t → run m (suc fuel) s ≡ afterPerforming (s .address) (run m fuel t)
 unfolding run
 run-goes m fuel s t e = simp (run, e)
 
 pub run-ends : (m : Setting) (fuel : ℕ) (s : State) (number : ℕ) → step m s ≡ ends number
-    → run m (suc fuel) s ≡ after (s .address) (stopped s (ended number))
+    → run m (suc fuel) s ≡ afterPerforming (s .address) (stopped s (ended number))
 unfolding run
 run-ends m fuel s number e = simp (run, e)
 
@@ -38,11 +38,11 @@ run-refuses m fuel s number e = simp (run, e)
 goes-on : {m : Setting} {past : List ℕ} {s t : State} (fuel : ℕ) → Steps m past s t → run m (length past + fuel) s ≡ afterAll past (run m fuel t)
 goes-on {m} fuel d = elim d as (λ past s t d. run m (length past + fuel) s ≡ afterAll past (run m fuel t)) [
   | here {s} ↦ ap (λ k. run m k s) (zero-add fuel)
-  | on {past} {s} {t} e (d → h) ↦ ap (λ k. run m k s) (suc-add (length past) fuel) ∙ run-goes m _ s t e ∙ ap (after (s .address)) h
+  | on {past} {s} {t} e (d → h) ↦ ap (λ k. run m k s) (suc-add (length past) fuel) ∙ run-goes m _ s t e ∙ ap (afterPerforming (s .address)) h
 ]
 
 -- a step before what stops
-stops-after : {m : Setting} {fuel : ℕ} {s t : State} {r : Run} → step m s ≡ goes t → Stops m fuel t r → Stops m (suc fuel) s (after (s .address) r)
+stops-after : {m : Setting} {fuel : ℕ} {s t : State} {r : Run} → step m s ≡ goes t → Stops m fuel t r → Stops m (suc fuel) s (afterPerforming (s .address) r)
 stops-after e (used-up d h) = used-up (on e d) (ap suc h)
 stops-after e (returned d h x) = returned (on e d) (omega arith) x
 stops-after e (stuck d h x) = stuck (on e d) (omega arith) x
@@ -57,7 +57,7 @@ by-steps m (suc fuel) s =
       | it-refuses number e ↦ rw (run-refuses m fuel s number e) (stuck here (omega arith) e)
     ]
 
--- the run behind so many steps, with the fuel that is left, is the rest of the run
+-- the run after so many steps, with the fuel that is left, is the rest of the run
 rest-is :
     {m : Setting} {fuel : ℕ} {past : List ℕ} {s t : State} {r : Run} (left : ℕ)
     → Steps m past s t

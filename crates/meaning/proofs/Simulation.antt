@@ -2,7 +2,7 @@
 -- call too many, the term makes more reductions than calls may be opened.
 --
 -- The term is an expression's, with what its names stand for put in. The proof is by recursion on the calls that may be opened and, inside a body, on
--- the expression: each part is reduced in its place, and to put a value in for a name is to have it in the environment. A call makes one reduction
+-- the expression: each part is reduced in its position, and to put a value in for a name is to have it in the environment. A call makes one reduction
 -- more than its body.
 use Prim.Native.Nat.{ℕ, zero, suc, _+_}
 use mathlib.Core.List.{List, [], _∷_}
@@ -15,15 +15,15 @@ use Rattle.formats.specs.Refusals.{tooManyCalls}
 use Rattle.formats.specs.Tokens.{Tree, leaf as aLeaf, node as aNode}
 use Rattle.formats.specs.Records.{nth}
 use Rattle.formats.specs.Programs.{Expr, call, Args, noArgs, arg, Sort, Function, Program}
-use Rattle.rules.specs.Printed.{number, tree, function, Term, int, lam, name, app, case, ifZero-01, termOf, applied, lams, functionTerm}
+use Rattle.rules.specs.Printed.{numberName, treeName, functionName, Term, int, lam, name, app, case, ifZero-01, termOf, applied, lams, functionTerm}
 use Rattle.meaning.specs.Levels.{atLevel}
 use Rattle.meaning.specs.Evaluation.{Value, Environment, withNumber, withTrees, inCall, resultNumber}
-use Rattle.meaning.specs.OpenCalls.{Outcome, gives, stops, begins, after, next, numberOr, treeOr, resultTree, Handler, evaluate, evaluateArgs}
+use Rattle.meaning.specs.OpenCalls.{Outcome, gives, stops, begins, afterBegun, followedBy, numberOr, treeOr, resultTree, Handler, evaluate, evaluateArgs}
 use Rattle.meaning.specs.OpenCalls.{called, evaluation}
 use Rattle.meaning.specs.Reductions.{TreeValue, leaf-value, node-value, an-integer, a-tree, without, replaced, substitute, fixOf, fixes}
 use Rattle.meaning.specs.Reductions.{Redex, Es-Plus, Es-App, Es-App-let, Es-Fix, Es-Case1, Es-Case2, IfZero-zero, IfZero-other}
 use Rattle.meaning.specs.Reductions.{Context, hole, app-left, app-right, plus-left, plus-right, in-leaf, node-left, node-right, in-let, in-test}
-use Rattle.meaning.specs.Reductions.{plug, none-made, treeTerm, valueTerm, applied as appliedTo}
+use Rattle.meaning.specs.Reductions.{plug, none-made, treeTerm, valueTerm, programOn as appliedTo}
 use Rattle.meaning.specs.Meaning.{Makes, Reaches}
 use Rattle.meaning.proofs.Levels.{level-found}
 use Rattle.meaning.proofs.Outcomes.{ComesTo, given, stopped, comes-map, comes-begins, comes-next, comes-value, comes-stop}
@@ -54,12 +54,12 @@ module _ {program : Program} {k : ℕ} {X A : Type 0} {form : X → A} {term : A
   does-more : {L M : Term} {o : Outcome A} → Redex program L M → Does program k form term M o → Does program (suc k) form term L o
   does-more r = comes-map (λ n a. reaches-on (reaches-one r .leads)) (λ why. makes-more (reduces r))
 
-  -- a part in its place, then what comes next with its value there
+  -- a part in its position, then what comes next with its value there
   does-part :
       {Y B : Type 0} {form′ : Y → B} {term′ : B → Term} {M : Term} {o : Outcome B} (f : B → Outcome A) (E : Context)
       → Does program k form′ term′ M o
       → ((y : Y) → Does program k form term (plug E (term′ (form′ y))) (f (form′ y)))
-      → Does program k form term (plug E M) (next o f)
+      → Does program k form term (plug E M) (followedBy o f)
   does-part f E m follows = comes-next f (comes-map (λ n b. reaches-in E) (λ why. makes-in E) m) (λ n y r. does-on r (follows y))
 
   -- an IfZero goes on with the part that its number picks
@@ -82,13 +82,13 @@ module _ (program : Program) (proper : ProperProgram program) where
   app-number :
       (E : Environment) (g i : ℕ) (M : Term)
       → g ≡ length (E .numbers)
-      → Redex program (app (put E (lam (number g) M)) (int i)) (put (withNumber i E) M)
+      → Redex program (app (put E (lam (numberName g) M)) (int i)) (put (withNumber i E) M)
   unfolding substitute
   app-number E g i M g-is = rw (← put-number program proper E g i M g-is) (Es-App an-integer)
 
   app-tree :
       (numbers : List ℕ) (t : Tree) (M : Term)
-      → Redex program (app (put (bare numbers) (lam (tree 0) M)) (treeTerm t)) (put (inCall numbers t) M)
+      → Redex program (app (put (bare numbers) (lam (treeName 0) M)) (treeTerm t)) (put (inCall numbers t) M)
   unfolding substitute
   app-tree numbers t M = rw (← put-tree program proper numbers t M) (Es-App (a-tree (tree-value t)))
 
@@ -101,8 +101,8 @@ module _ (program : Program) (proper : ProperProgram program) where
       → ((x : ℕ) → Does program k form valueTerm (put (withNumber x E) M) (o x))
       → ((l r : Tree) → Does program k form valueTerm (put (withTrees l r E) N) (p l r))
       → Does program k form valueTerm
-      (case (treeTerm t) (number g) (substitute (without (number g) (environmentOf program E)) M) (tree n) (tree (suc n))
-      (substitute (without (tree n) (without (tree (suc n)) (environmentOf program E))) N))
+      (case (treeTerm t) (numberName g) (substitute (without (numberName g) (environmentOf program E)) M) (treeName n) (treeName (suc n))
+      (substitute (without (treeName n) (without (treeName (suc n)) (environmentOf program E))) N))
       (elim t [ aLeaf x ↦ o x | aNode l r ↦ p l r ])
   unfolding treeTerm
   does-case E g n M N o p (aLeaf x) g-is n-is leaf-part node-part =
@@ -111,7 +111,7 @@ module _ (program : Program) (proper : ProperProgram program) where
       does-on (reaches-one (Es-Case2 (tree-value l) (tree-value r))) (rw (put-trees program proper E n l r N n-is) (node-part l r))
 
   -- a function's name stands for its fixed point ..
-  function-named : (E : Environment) (b : ℕ) (f : Function) → nth (program .functions) b ≡ some f → put E (name (function b)) ≡ fixOf b f
+  function-named : (E : Environment) (b : ℕ) (f : Function) → nth (program .functions) b ≡ some f → put E (name (functionName b)) ≡ fixOf b f
   unfolding substitute environmentOf fixes replaced
   function-named E b f known = rw (known, fixes)
 
@@ -156,7 +156,7 @@ module _ (program : Program) (proper : ProperProgram program) where
         → Does program (suc d) (numbersOf count) (λ numbers. put (bare numbers) N) (put E (applied g n H xs)) (evaluateArgs h E r xs before)
 
     simulated : {g n : ℕ} {s : Sort} {e : Expr} → Proper (program .functions) g n s e → Simulated g n s e
-    unfolding after substitute termOf evaluate plug environmentOf replaced valueTerm treeTerm numberOr treeOr resultNumber resultTree lams functionTerm
+    unfolding afterBegun substitute termOf evaluate plug environmentOf replaced valueTerm treeTerm numberOr treeOr resultNumber resultTree lams functionTerm
     simulated p = elim p as (λ g n s e p. Simulated g n s e) (λ g n j xs p. SimulatedArgs g n j xs) [
       | proper-const i< ↦ λ E r g-is n-is. given 1 _ nothing
       | proper-var {a} a< ↦ λ E r g-is n-is.
@@ -170,7 +170,7 @@ module _ (program : Program) (proper : ProperProgram program) where
           comes-begins (does-part _ (in-test hole _ _) (ht E (suc r) g-is n-is) (λ i. does-test i (hz E _ g-is n-is) (ho E _ g-is n-is)))
       | proper-let {g} {n} {body} (p → hp) (_ → hq) ↦ λ E r g-is n-is.
           comes-begins
-          (does-part _ (in-let (number g) hole _) (hp E (suc r) g-is n-is)
+          (does-part _ (in-let (numberName g) hole _) (hp E (suc r) g-is n-is)
           (λ i.
           does-on (reaches-one (Es-App-let (app-number E g i (termOf (suc g) n body) g-is))) (hq (withNumber i E) _ (ap suc g-is) n-is)))
       | proper-leaf (p → hp) ↦ λ E r g-is n-is.
@@ -191,7 +191,7 @@ module _ (program : Program) (proper : ProperProgram program) where
           let opened = rw (← function-named E b f known) at (opens b f known) in
           rw (found .is, same)
           (comes-begins
-          (does-part _ (app-left hole _) (hs E (suc r) (name (function b)) _ [] (f .parameters) g-is n-is (zero-add (f .parameters)) opened)
+          (does-part _ (app-left hole _) (hs E (suc r) (name (functionName b)) _ [] (f .parameters) g-is n-is (zero-add (f .parameters)) opened)
           (λ numbers.
           does-more (app-tree (numbers .all) (found .entry) (termOf (f .parameters) 1 (f .body)))
           (handles r b f numbers (found .entry) known))))
@@ -209,7 +209,7 @@ module _ (program : Program) (proper : ProperProgram program) where
 
   -- calls, by recursion on how many may be opened
   handled : (d : ℕ) → Handles (called program d) d
-  unfolding called after
+  unfolding called afterBegun
   handled zero r b f numbers t known = stopped 0 tooManyCalls r (record { last = _; leads = none-made })
   handled (suc d) r b f numbers t known =
       rw (known, called) (simulated (called program d) d (handled d) (proper .bodies b f known) (inCall (numbers .all) t) _ (sym (numbers .many)) refl)
@@ -223,17 +223,17 @@ module _ (program : Program) (proper : ProperProgram program) where
         proper-call (lt-suc-self 0) is-first refl no-numbers
 
     program-does : (d : ℕ) → Does program (suc d) (valueOf (first .sort)) valueTerm (appliedTo first t) (begins (evaluation program d t))
-    unfolding appliedTo evaluation substitute termOf environmentOf replaced atLevel evaluate treeOr next
+    unfolding appliedTo evaluation substitute termOf environmentOf replaced atLevel evaluate treeOr followedBy
     program-does d =
         rw (← function-named (inCall [] t) 0 first is-first)
         (simulated (called program d) d (handled d) first-call (inCall [] t) 0 refl refl)
 
     -- where the evaluation gives a value, the reductions lead to its term
-    pub value-reached : (d n : ℕ) (v : Value) → evaluation program d t ≡ after n (gives v) → Reaches program (appliedTo first t) (valueTerm v)
-    unfolding after
+    pub value-reached : (d n : ℕ) (v : Value) → evaluation program d t ≡ afterBegun n (gives v) → Reaches program (appliedTo first t) (valueTerm v)
+    unfolding afterBegun
     value-reached d n v e = comes-value (suc n) v (program-does d) (ap begins e)
 
     -- where it stops, there are more reductions than calls may be opened
-    pub stop-makes : (d n why r : ℕ) → evaluation program d t ≡ after n (stops why r) → Makes program (suc d) (appliedTo first t)
-    unfolding after
+    pub stop-makes : (d n why r : ℕ) → evaluation program d t ≡ afterBegun n (stops why r) → Makes program (suc d) (appliedTo first t)
+    unfolding afterBegun
     stop-makes d n why r e = comes-stop (suc n) why r (program-does d) (ap begins e)

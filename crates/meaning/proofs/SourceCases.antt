@@ -6,11 +6,11 @@ use lib.ListN.{take, replicate}
 use Rattle.formats.specs.Numbers.{bytesOf, numberOf, numberAt, sum32}
 use Rattle.formats.specs.Results.{done, refusal, each}
 use Rattle.formats.specs.Written.{written}
-use Rattle.formats.specs.Tokens.{Tree, leaf, node, tokens, tagOf, tagAt, labelAt, partsAt, byTag, treeAt, firstTree}
+use Rattle.formats.specs.Tokens.{Tree, leaf, node, tokens, tagOf, tagAt, labelAt, branchesAt, treeByTag, treeAt, firstTree}
 use Rattle.formats.specs.Records.{bytesOfRecord, flat, recordAt, fieldsOf, kinds, nth, kindOf, same, below, nodeRecord}
 use Rattle.formats.specs.Programs.{const, prefix, prefixes, size, sortNumber, signatureRecord, arityOf, total, signatureOf, Program, nodes, headerRecord, headerOf, recordsOf, flatOf, mostParameters}
 use Rattle.formats.specs.Rows.{headerFrom, headerRow, sorts, functionFrom, functionAt, functionRow, nodeAt, nodeRow, popArgs, build, exprsOf, exactlyOne, bodies, prefixRow, readProgram}
-use Rattle.formats.specs.Blocks.{wordSum, checkWord, blockBody, blockOf, blocksFrom, blocksFor, fileOf, lengthRow, zeros, usedFits, fieldsFit, usedOf, blockAt, blockRow, joined, flatIn, programIn}
+use Rattle.formats.specs.Blocks.{wordSum, checkWord, blockBody, blockOf, blocksFrom, blocksFor, fileOf, lengthRow, zeros, usedFits, fieldsFit, usedOf, blockAt, blockRow, concatenated, flatIn, programIn}
 use Rattle.formats.proofs.ProgramCases.{grow}
 use Rattle.rules.specs.Types.{isInt, isTree, fits, resultType}
 use Rattle.rules.specs.Scopes.{inside, startOf, entered, enteredArgs, enteredAll}
@@ -19,8 +19,8 @@ use Rattle.rules.proofs.Cases.{numbered, treed, programOf, on, swap}
 use Rattle.meaning.specs.Levels.{atLevel}
 use Rattle.meaning.specs.Running.{valueWords, returnWords}
 use Rattle.meaning.specs.Evaluation.{resultBytes, resultNumber}
-use Rattle.meaning.specs.OpenCalls.{next, numberOr, treeOr, resultTree, evaluate, evaluateArgs, firstRecord, called, evaluation, within}
-use Rattle.meaning.specs.SourceRun.{SourceRan, told, tellFrom, checkSource, sourceRun}
+use Rattle.meaning.specs.OpenCalls.{followedBy, numberOr, treeOr, resultTree, evaluate, evaluateArgs, firstRecord, called, evaluation, withFuel}
+use Rattle.meaning.specs.SourceRun.{SourceRan, reported, reportFrom, checkSource, sourceRun}
 use Rattle.meaning.proofs.MeaningCases.{two-leaves, again, sum}
 
 record Row : Type 0 where
@@ -44,9 +44,9 @@ ended-with : (begun bytes number : ℕ) (output : List ℕ) → SourceRan
 ended-with begun bytes number output =
     record { answer = record { outcome = done tt; begun = begun; bytesWritten = bytes; number = number }; output = output }
 
-refused-with : (why place begun : ℕ) (output : List ℕ) → SourceRan
-refused-with why place begun output =
-    record { answer = record { outcome = refusal why place; begun = begun; bytesWritten = 0; number = 0 }; output = output }
+refused-with : (why position begun : ℕ) (output : List ℕ) → SourceRan
+refused-with why position begun output =
+    record { answer = record { outcome = refusal why position; begun = begun; bytesWritten = 0; number = 0 }; output = output }
 
 -- A program's file on a tree's tokens, with the work space of 01, Work words.
 row : Program → Tree → (fuel space : ℕ) → SourceRan → Row
@@ -101,6 +101,6 @@ work-space =
 cases : List Row
 cases = worked ++ (first-refusal ++ work-space)
 
-as-told : map ran cases ≡ map (λ r. r .gives) cases
-unfolding sourceRun checkSource tellFrom told within evaluation called evaluate evaluateArgs next resultNumber resultBytes resultTree numberOr treeOr atLevel sum32 firstRecord written tokens firstTree treeAt byTag partsAt labelAt tagAt tagOf passOne passOver atEntry roomy wordsTested bareNumber typed named enteredAll entered enteredArgs inside startOf resultType isInt isTree fits programIn flatIn lengthRow blockRow blockAt usedOf fieldsFit usedFits zeros joined fileOf blocksFor blocksFrom blockOf blockBody checkWord wordSum readProgram headerRow headerFrom functionRow functionAt functionFrom sorts mostParameters nodeRow nodeAt nodeRecord kindOf kinds nth same below fieldsOf each prefixRow bodies exactlyOne exprsOf build popArgs arityOf total recordAt flat bytesOfRecord bytesOf numberAt numberOf flatOf recordsOf headerRecord headerOf signatureRecord signatureOf sortNumber nodes size prefix prefixes grow swap again sum wrong numbered treed programOf on two-leaves blank ended-with refused-with ran row bare worked first-refusal work-space cases
-as-told = refl
+as-reported : map ran cases ≡ map (λ r. r .gives) cases
+unfolding sourceRun checkSource reportFrom reported withFuel evaluation called evaluate evaluateArgs followedBy resultNumber resultBytes resultTree numberOr treeOr atLevel sum32 firstRecord written tokens firstTree treeAt treeByTag branchesAt labelAt tagAt tagOf passOne passOver atEntry roomy wordsTested bareNumber typed named enteredAll entered enteredArgs inside startOf resultType isInt isTree fits programIn flatIn lengthRow blockRow blockAt usedOf fieldsFit usedFits zeros concatenated fileOf blocksFor blocksFrom blockOf blockBody checkWord wordSum readProgram headerRow headerFrom functionRow functionAt functionFrom sorts mostParameters nodeRow nodeAt nodeRecord kindOf kinds nth same below fieldsOf each prefixRow bodies exactlyOne exprsOf build popArgs arityOf total recordAt flat bytesOfRecord bytesOf numberAt numberOf flatOf recordsOf headerRecord headerOf signatureRecord signatureOf sortNumber nodes size prefix prefixes grow swap again sum wrong numbered treed programOf on two-leaves blank ended-with refused-with ran row bare worked first-refusal work-space cases
+as-reported = refl

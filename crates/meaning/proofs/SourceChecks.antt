@@ -1,6 +1,6 @@
 -- The source run's checks before the evaluation: the program file, pass one, the work space, the tree reader. The first refusal is the answer.
 --
--- The tree reader takes the first tree whatever stands behind it. It is the only check that looks at the input, so the checks together give the same.
+-- The tree reader takes the first tree whatever stands after it. It is the only check that looks at the input, so the checks together give the same.
 use Prim.Native.Nat.{ℕ, _≤_, _<_}
 use mathlib.Core.Bool.{_&&_, and-false}
 use mathlib.Core.List.{List, _++_, append-assoc}
@@ -22,7 +22,7 @@ use Rattle.formats.proofs.ProgramFiles.{program-files}
 use Rattle.formats.proofs.Reader.{tree-reader}
 use Rattle.rules.specs.PassOne.{passOne}
 use Rattle.meaning.specs.Running.{valueWords, returnWords}
-use Rattle.meaning.specs.SourceRun.{Checked, checkSource}
+use Rattle.meaning.specs.SourceRun.{SourceInput, checkSource}
 use Rattle.meaning.specs.Meaning.{PassesOne, Passed}
 
 -- ---- the work space
@@ -47,19 +47,19 @@ module _ (values returns : ℕ) where
 
 module _ (file input : List ℕ) (values returns : ℕ) where
   -- All of them, in order.
-  abbrev pub checked : Result Checked
+  abbrev pub checked : Result SourceInput
   checked = checkSource file input values returns
 
   -- the file is refused
-  pub file-stops : (number place : ℕ) → programIn file ≡ refusal number place → checked ≡ refusal number place
+  pub file-stops : (number position : ℕ) → programIn file ≡ refusal number position → checked ≡ refusal number position
   unfolding checkSource
-  file-stops number place e = then-refused _ e
+  file-stops number position e = then-refused _ e
 
   module _ (program : Program) (holds : programIn file ≡ done program) where
     -- pass one refuses
-    pub pass-one-stops : (number place : ℕ) → passOne program ≡ refusal number place → checked ≡ refusal number place
+    pub pass-one-stops : (number position : ℕ) → passOne program ≡ refusal number position → checked ≡ refusal number position
     unfolding checkSource
-    pass-one-stops number place e = then-done _ holds ∙ then-refused _ e
+    pass-one-stops number position e = then-done _ holds ∙ then-refused _ e
 
     -- the work space is too short
     pub space-stops : passOne program ≡ done tt → (values < valueWords) ⊎ (returns < returnWords) → checked ≡ refusal spaceTooShort 0
@@ -83,7 +83,7 @@ module _ (file input : List ℕ) (values returns : ℕ) where
   passed-done program t p = tree-left program (p .holds) (p .passes) (p .value-space) (p .return-space) ∙ then-done _ (p .reads)
 
   -- what they give has passed all
-  pub done-passed : (c : Checked) → checked ≡ done c → Passed file input values returns (c .program) (c .tree)
+  pub done-passed : (c : SourceInput) → checked ≡ done c → Passed file input values returns (c .program) (c .tree)
   unfolding checkSource
   done-passed c e =
       let in-file = then-inv (programIn file) _ c e in
@@ -107,23 +107,23 @@ module _ (file input : List ℕ) (values returns : ℕ) where
       let bytes = flat-in-bytes file (flat .value) bs (flat .first) in
       record { lawful = program-files .flattens (flat .value) program bytes (flat .second) .lawful; passes = p .passes }
 
--- ---- behind the tree
+-- ---- after the tree
 
--- the tree is the same, whatever stands behind it
-tree-behind : (input rest : List ℕ) (t : Tree) → Bytes input → firstTree input ≡ done t → firstTree (input ++ rest) ≡ done t
-tree-behind input rest t bs e =
+-- the tree is the same, whatever stands after it
+tree-after : (input rest : List ℕ) (t : Tree) → Bytes input → firstTree input ≡ done t → firstTree (input ++ rest) ≡ done t
+tree-after input rest t bs e =
     let read = tree-reader .gives input t bs e in
-    let behind : List ℕ = drop (length (tokens t)) input in
-    let parts : input ≡ tokens t ++ behind = sym (take-append-drop (length (tokens t)) input) ∙ ap (λ s. s ++ behind) (read .own-bytes) in
+    let after : List ℕ = drop (length (tokens t)) input in
+    let parts : input ≡ tokens t ++ after = sym (take-append-drop (length (tokens t)) input) ∙ ap (λ s. s ++ after) (read .own-bytes) in
     ap (λ s. firstTree (s ++ rest)) parts
-    ∙ ap firstTree (append-assoc (tokens t) behind rest)
-    ∙ tree-reader .takes t (behind ++ rest) (read .labelled) (read .shallow)
+    ∙ ap firstTree (append-assoc (tokens t) after rest)
+    ∙ tree-reader .takes t (after ++ rest) (read .labelled) (read .shallow)
 
 -- so what the checks give is the same
-pub checks-behind :
+pub checks-after :
     (file input rest : List ℕ) (values returns : ℕ) (t : Tree)
     → Bytes input
     → firstTree input ≡ done t
     → checkSource file (input ++ rest) values returns ≡ checkSource file input values returns
 unfolding checkSource
-checks-behind file input rest values returns t bs e = rw (checkSource, tree-behind input rest t bs e, e)
+checks-after file input rest values returns t bs e = rw (checkSource, tree-after input rest t bs e, e)

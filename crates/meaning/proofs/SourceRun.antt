@@ -1,7 +1,7 @@
 -- What holds of every call of the source run, from what holds of the evaluation and of the reductions.
 --
--- What the checks before the evaluation refuse, the call refuses. Where they pass, it tells the evaluation's outcome, cut by the fuel. The evaluation
--- ends or stops at a call too many: n expressions begin, then there is a value or a stop. With fuel for n expressions the value or the stop is told,
+-- What the checks before the evaluation refuse, the call refuses. Where they pass, it reports the evaluation's outcome, cut by the fuel. The evaluation
+-- ends or stops at a call too many: n expressions begin, then there is a value or a stop. With fuel for n expressions the value or the stop is reported,
 -- with less 14. So each call has ended with a value that the evaluation itself gives, or it is refused: what holds of every call is shown of both.
 use Prim.Native.Nat.{ℕ, zero, suc, _+_, _^_, _≤_, _<_, zero-le}
 use mathlib.Core.List.{List, _++_}
@@ -20,24 +20,24 @@ use Rattle.formats.specs.Tokens.{Tree, firstTree}
 use Rattle.formats.specs.Programs.{Sort, numberValued, treeValued, Program}
 use Rattle.formats.proofs.Results.{done-injective, done-not, then-refused, byResult}
 use Rattle.formats.proofs.Reader.{tree-reader}
-use Rattle.formats.proofs.Written.{front-written, behind-written}
+use Rattle.formats.proofs.Written.{front-written, after-written}
 use Rattle.meaning.specs.Running.{mostCalls}
 use Rattle.meaning.specs.Evaluation.{Value, Ends, resultBytes, resultNumber}
-use Rattle.meaning.specs.OpenCalls.{Outcome, gives, stops, begins, begun, after, evaluation, within}
-use Rattle.meaning.specs.SourceRun.{SourceRan, refusedAfter, endedAfter, told, tellFrom, sourceRun}
+use Rattle.meaning.specs.OpenCalls.{Outcome, gives, stops, begins, begun, afterBegun, evaluation, withFuel}
+use Rattle.meaning.specs.SourceRun.{SourceRan, refusedAfter, endedAfter, reported, reportFrom, sourceRun}
 use Rattle.meaning.specs.Meaning.{OfSort, TooMany, Cut, Passed, EndedWith, RefusedWith, ByReductions, EndedFrom, Refuses18, SourceRuns}
 use Rattle.meaning.proofs.Outcomes.{begun-after}
 use Rattle.meaning.proofs.Proper.{ProperProgram, proper}
 use Rattle.meaning.proofs.OpenCalls.{of-sort, held}
 use Rattle.meaning.proofs.Agrees.{agrees}
 use Rattle.meaning.proofs.SourceChecks.{checked, file-stops, pass-one-stops, space-stops, tree-left}
-use Rattle.meaning.proofs.SourceChecks.{passed-done, done-passed, passed-passes, checks-behind}
+use Rattle.meaning.proofs.SourceChecks.{passed-done, done-passed, passed-passes, checks-after}
 
 -- ---- fuel
 
 -- fuel cuts an outcome short, and does nothing else
 pub cut : (o : Outcome Value) (fuel : ℕ) → Cut o fuel
-unfolding begun within after
+unfolding begun withFuel afterBegun
 cut (gives v) fuel = record { enough = λ h. refl; short = λ h. absurd (omega arith) }
 cut (stops why r) fuel = record { enough = λ h. refl; short = λ h. absurd (omega arith) }
 cut (begins o) zero = record { enough = λ h. absurd (omega arith); short = λ h. refl }
@@ -47,55 +47,55 @@ cut (begins o) (suc fuel) =
       short = λ h. ap begins (cut o fuel .short (le-of-suc-le-suc h));
     }
 
--- ---- what an outcome is told as
+-- ---- what an outcome is reported as
 
 -- expressions begun are counted with those before
-tell-after : (k n : ℕ) (o : Outcome Value) (output : List ℕ) → tellFrom k (after n o) output ≡ tellFrom (k + n) o output
-unfolding after tellFrom
-tell-after k zero o output = rw add-zero
-tell-after k (suc n) o output = tell-after (suc k) n o output ∙ ap (λ m. tellFrom m o output) (suc-add k n ∙ sym (add-suc k n))
+report-after : (k n : ℕ) (o : Outcome Value) (output : List ℕ) → reportFrom k (afterBegun n o) output ≡ reportFrom (k + n) o output
+unfolding afterBegun reportFrom
+report-after k zero o output = rw add-zero
+report-after k (suc n) o output = report-after (suc k) n o output ∙ ap (λ m. reportFrom m o output) (suc-add k n ∙ sym (add-suc k n))
 
 -- with none before
-tell-all : (n : ℕ) (o : Outcome Value) (output : List ℕ) → tellFrom 0 (after n o) output ≡ tellFrom n o output
-tell-all n o output = tell-after 0 n o output ∙ ap (λ m. tellFrom m o output) (zero-add n)
+report-all : (n : ℕ) (o : Outcome Value) (output : List ℕ) → reportFrom 0 (afterBegun n o) output ≡ reportFrom n o output
+report-all n o output = report-after 0 n o output ∙ ap (λ m. reportFrom m o output) (zero-add n)
 
 -- a value
 module _ (n : ℕ) (v : Value) (output : List ℕ) where
   -- with space for it
-  told-whole : length (resultBytes v) ≤ length output → told n v output ≡ endedAfter n v output
-  unfolding told
-  told-whole h = rw (told, le-leb _ _ h)
+  reported-whole : length (resultBytes v) ≤ length output → reported n v output ≡ endedAfter n v output
+  unfolding reported
+  reported-whole h = rw (reported, le-leb _ _ h)
 
   -- with less
-  told-short : length output < length (resultBytes v) → told n v output ≡ refusedAfter n outputFull 0 output
-  unfolding told
-  told-short h = rw (told, lt-leb _ _ h)
+  reported-short : length output < length (resultBytes v) → reported n v output ≡ refusedAfter n outputFull 0 output
+  unfolding reported
+  reported-short h = rw (reported, lt-leb _ _ h)
 
 -- an outcome where n expressions begin, cut by fuel
-module _ (o last : Outcome Value) (n fuel : ℕ) (output : List ℕ) (is : o ≡ after n last) (no-more : begun last ≡ 0) where
+module _ (o last : Outcome Value) (n fuel : ℕ) (output : List ℕ) (is : o ≡ afterBegun n last) (no-more : begun last ≡ 0) where
   -- n is their count
   begins-all : begun o ≡ n
   begins-all = ap begun is ∙ begun-after n last ∙ ap (λ m. n + m) no-more ∙ add-zero n
 
   -- with fuel for all of them
-  tell-enough : n ≤ fuel → tellFrom 0 (within fuel o) output ≡ tellFrom n last output
-  tell-enough h = ap (λ p. tellFrom 0 p output) (cut o fuel .enough (omega (arith, begins-all)) ∙ is) ∙ tell-all n last output
+  report-enough : n ≤ fuel → reportFrom 0 (withFuel fuel o) output ≡ reportFrom n last output
+  report-enough h = ap (λ p. reportFrom 0 p output) (cut o fuel .enough (omega (arith, begins-all)) ∙ is) ∙ report-all n last output
 
   -- with less
-  tell-short : fuel < n → tellFrom 0 (within fuel o) output ≡ refusedAfter fuel fuelUsedUp 0 output
-  unfolding tellFrom
-  tell-short h = ap (λ p. tellFrom 0 p output) (cut o fuel .short (omega (arith, begins-all))) ∙ tell-all fuel (stops fuelUsedUp 0) output
+  report-short : fuel < n → reportFrom 0 (withFuel fuel o) output ≡ refusedAfter fuel fuelUsedUp 0 output
+  unfolding reportFrom
+  report-short h = ap (λ p. reportFrom 0 p output) (cut o fuel .short (omega (arith, begins-all))) ∙ report-all fuel (stops fuelUsedUp 0) output
 
 -- ---- answers, field by field
 
 module _ {n : ℕ} {output : List ℕ} {ran : SourceRan} where
   -- of a refusal
-  refused-with : {number place : ℕ} → ran ≡ refusedAfter n number place output → RefusedWith n number place output ran
+  refused-with : {number position : ℕ} → ran ≡ refusedAfter n number position output → RefusedWith n number position output ran
   refused-with e = rw e (record { outcome = refl; expressions = refl; no-bytes = refl; no-number = refl; untouched = refl })
 
   -- of a value that has space
   module _ (v : Value) (space : length (resultBytes v) ≤ length output) where
-    -- its bytes stand at the output's start, and behind them all is as it was
+    -- its bytes stand at the output's start, and after them all is as it was
     ended-with : ran ≡ endedAfter n v output → EndedWith n v output ran
     ended-with e = rw e (record {
       outcome = refl;
@@ -103,7 +103,7 @@ module _ {n : ℕ} {output : List ℕ} {ran : SourceRan} where
       bytes = refl;
       number = refl;
       result = rw zero-add at (front-written output 0 (resultBytes v) (rw zero-add space));
-      rest = rw zero-add at (behind-written output 0 (resultBytes v) (rw zero-add space));
+      rest = rw zero-add at (after-written output 0 (resultBytes v) (rw zero-add space));
     })
 
     -- so the output keeps its length
@@ -113,7 +113,7 @@ module _ {n : ℕ} {output : List ℕ} {ran : SourceRan} where
         let parts : ran .output ≡ resultBytes v ++ drop k output = sym (take-append-drop k (ran .output)) ∙ ap₂ _++_ (e .result) (e .rest) in
         ap length parts ∙ length-append (resultBytes v) (drop k output) ∙ omega (arith, length-drop k output)
 
--- a value of either sort tells a number of 32 bits
+-- a value of either sort reports a number of 32 bits
 sort-fits : (s : Sort) (v : Value) → OfSort s v → resultNumber v < 2 ^ 32
 unfolding resultNumber
 sort-fits numberValued (Value.number i) fits = fits
@@ -133,9 +133,9 @@ module _ (file input output : List ℕ) (values returns : ℕ) (bs : Bytes file)
   ran fuel = sourceRun file input output fuel values returns
 
   -- what the checks refuse, it refuses
-  call-refused : (number place fuel : ℕ) → checked file input values returns ≡ refusal number place → RefusedWith 0 number place output (ran fuel)
+  call-refused : (number position fuel : ℕ) → checked file input values returns ≡ refusal number position → RefusedWith 0 number position output (ran fuel)
   unfolding sourceRun
-  call-refused number place fuel e = refused-with (rw (sourceRun, e))
+  call-refused number position fuel e = refused-with (rw (sourceRun, e))
 
   -- they pass
   module _ (program : Program) (t : Tree) (p : Passed file input values returns program t) where
@@ -143,44 +143,44 @@ module _ (file input output : List ℕ) (values returns : ℕ) (bs : Bytes file)
     proper-passed : ProperProgram program
     proper-passed = proper program (passed-passes file input values returns program t bs p)
 
-    -- the call tells the evaluation's outcome
-    call-tells : (fuel : ℕ) → ran fuel ≡ tellFrom 0 (within fuel (evaluation program mostCalls t)) output
+    -- the call reports the evaluation's outcome
+    call-reports : (fuel : ℕ) → ran fuel ≡ reportFrom 0 (withFuel fuel (evaluation program mostCalls t)) output
     unfolding sourceRun
-    call-tells fuel = rw (sourceRun, passed-done file input values returns program t p)
+    call-reports fuel = rw (sourceRun, passed-done file input values returns program t p)
 
     -- an evaluation that ends
     module _ (n : ℕ) (v : Value) (fuel : ℕ) (ends : Ends program t mostCalls n v) where
       -- gives its value
-      value-given : evaluation program mostCalls t ≡ after n (gives v)
+      value-given : evaluation program mostCalls t ≡ afterBegun n (gives v)
       value-given = held program t proper-passed .gives-value mostCalls n v .1 ends
 
-      -- which is told with fuel for it
-      value-told : n ≤ fuel → ran fuel ≡ told n v output
-      unfolding tellFrom begun
-      value-told h = call-tells fuel ∙ tell-enough _ (gives v) n fuel output value-given refl h
+      -- which is reported with fuel for it
+      value-reported : n ≤ fuel → ran fuel ≡ reported n v output
+      unfolding reportFrom begun
+      value-reported h = call-reports fuel ∙ report-enough _ (gives v) n fuel output value-given refl h
 
       -- and space
       call-ends : n ≤ fuel → length (resultBytes v) ≤ length output → EndedWith n v output (ran fuel)
-      call-ends h space = ended-with v space (value-told h ∙ told-whole n v output space)
+      call-ends h space = ended-with v space (value-reported h ∙ reported-whole n v output space)
 
       -- not with less space
       call-full : n ≤ fuel → length output < length (resultBytes v) → RefusedWith n outputFull 0 output (ran fuel)
-      call-full h less = refused-with (value-told h ∙ told-short n v output less)
+      call-full h less = refused-with (value-reported h ∙ reported-short n v output less)
 
       -- nor with less fuel
       call-short : fuel < n → RefusedWith fuel fuelUsedUp 0 output (ran fuel)
       unfolding begun
-      call-short less = refused-with (call-tells fuel ∙ tell-short _ (gives v) n fuel output value-given refl less)
+      call-short less = refused-with (call-reports fuel ∙ report-short _ (gives v) n fuel output value-given refl less)
 
     -- an evaluation that stops at a call too many
     call-stops : TooMany program t mostCalls → Refuses18 output ran
-    unfolding tellFrom begun
+    unfolding reportFrom begun
     call-stops s =
-        let last : Outcome Value = stops tooManyCalls (s .place) in
+        let last : Outcome Value = stops tooManyCalls (s .position) in
         record {
           expressions = s .expressions;
-          enough = λ fuel h. refused-with (call-tells fuel ∙ tell-enough _ last (s .expressions) fuel output (s .stopped) refl h);
-          short = λ fuel less. refused-with (call-tells fuel ∙ tell-short _ last (s .expressions) fuel output (s .stopped) refl less);
+          enough = λ fuel h. refused-with (call-reports fuel ∙ report-enough _ last (s .expressions) fuel output (s .stopped) refl h);
+          short = λ fuel less. refused-with (call-reports fuel ∙ report-short _ last (s .expressions) fuel output (s .stopped) refl less);
         }
 
   -- What a call comes to: it has ended with the value of an evaluation that ends, or it is refused.
@@ -193,7 +193,7 @@ module _ (file input output : List ℕ) (values returns : ℕ) (bs : Bytes file)
         → length (resultBytes v) ≤ length output
         → EndedWith n v output (ran fuel)
         → Answers fuel
-    is-refused : (n number place : ℕ) → n ≤ fuel → RefusedWith n number place output (ran fuel) → Answers fuel
+    is-refused : (n number position : ℕ) → n ≤ fuel → RefusedWith n number position output (ran fuel) → Answers fuel
 
   -- it comes to that where the checks pass ..
   answers-passed : (program : Program) (t : Tree) (fuel : ℕ) → Passed file input values returns program t → Answers fuel
@@ -218,16 +218,16 @@ module _ (file input output : List ℕ) (values returns : ℕ) (bs : Bytes file)
   answers fuel =
       byResult (checked file input values returns)
       (λ c e. answers-passed (c .program) (c .tree) fuel (done-passed file input values returns c e))
-      (λ number place e. is-refused 0 number place zero-le (call-refused number place fuel e))
+      (λ number position e. is-refused 0 number position zero-le (call-refused number position fuel e))
 
   -- a refusal leaves the output
   answers-untouched :
-      (number place fuel : ℕ)
+      (number position fuel : ℕ)
       → Answers fuel
-      → ran fuel .answer .outcome ≡ refusal number place
-      → RefusedWith (ran fuel .answer .begun) number place output (ran fuel)
-  answers-untouched number place fuel (has-ended program t n v p ends h space r) e = done-not (r .outcome) e
-  answers-untouched number place fuel (is-refused n why q h r) e =
+      → ran fuel .answer .outcome ≡ refusal number position
+      → RefusedWith (ran fuel .answer .begun) number position output (ran fuel)
+  answers-untouched number position fuel (has-ended program t n v p ends h space r) e = done-not (r .outcome) e
+  answers-untouched number position fuel (is-refused n why q h r) e =
       record { outcome = e; expressions = refl; no-bytes = r .no-bytes; no-number = r .no-number; untouched = r .untouched }
 
   -- a call that ended passed all, and its evaluation ended
@@ -290,12 +290,12 @@ module _ (file input output : List ℕ) (values returns : ℕ) (bs : Bytes file)
   pub source-runs : SourceRuns file input output values returns ran
   source-runs =
       record {
-        file-refused = λ number place fuel e. call-refused number place fuel (file-stops file input values returns number place e);
-        pass-one-refused = λ program number place fuel h e.
-            call-refused number place fuel (pass-one-stops file input values returns program h number place e);
+        file-refused = λ number position fuel e. call-refused number position fuel (file-stops file input values returns number position e);
+        pass-one-refused = λ program number position fuel h e.
+            call-refused number position fuel (pass-one-stops file input values returns program h number position e);
         space-too-short = λ program fuel h one short. call-refused spaceTooShort 0 fuel (space-stops file input values returns program h one short);
-        tree-refused = λ program number place fuel h one v r e.
-            call-refused number place fuel (tree-left file input values returns program h one v r ∙ then-refused _ e);
+        tree-refused = λ program number position fuel h one v r e.
+            call-refused number position fuel (tree-left file input values returns program h one v r ∙ then-refused _ e);
         ends = λ program t n v fuel p. call-ends program t p n v fuel;
         output-short = λ program t n v fuel p. call-full program t p n v fuel;
         fuel-short = λ program t n v fuel p. call-short program t p n v fuel;
@@ -304,18 +304,18 @@ module _ (file input output : List ℕ) (values returns : ℕ) (bs : Bytes file)
           | inr s ↦ call-stops program t p s
         ];
         ended-from = λ fuel. answers-from fuel (answers fuel);
-        untouched = λ number place fuel. answers-untouched number place fuel (answers fuel);
+        untouched = λ number position fuel. answers-untouched number position fuel (answers fuel);
         by-reductions = λ program t fuel p. answers-reached program t fuel p (answers fuel);
         within-fuel = λ fuel. answers-within fuel (answers fuel);
         number-fits = λ fuel bytes. answers-fits fuel bytes (answers fuel);
         same-length = λ fuel. answers-length fuel (answers fuel);
       }
 
--- the source run looks at no byte behind the tree
-pub behind-tree :
+-- the source run looks at no byte after the tree
+pub after-tree :
     (file input rest output : List ℕ) (fuel values returns : ℕ) (t : Tree)
     → Bytes input
     → firstTree input ≡ done t
     → sourceRun file (input ++ rest) output fuel values returns ≡ sourceRun file input output fuel values returns
 unfolding sourceRun
-behind-tree file input rest output fuel values returns t bs e = rw (sourceRun, checks-behind file input rest values returns t bs e)
+after-tree file input rest output fuel values returns t bs e = rw (sourceRun, checks-after file input rest values returns t bs e)

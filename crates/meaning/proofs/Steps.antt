@@ -11,17 +11,17 @@ use borrow.Author.Tests.{ltb-true, leb-true}
 use lib.ListN.{length, take, drop, length-append, length-take, length-drop}
 use Rattle.formats.specs.Numbers.{numberAt, sum32}
 use Rattle.formats.specs.Refusals.{cannotPerform}
-use Rattle.formats.specs.Tokens.{labelBytes, Tag, ended, aLeaf, aNode, other}
+use Rattle.formats.specs.Tokens.{labelBytes, Tag, noByte, aLeaf, aNode, other}
 use Rattle.formats.proofs.Tokens.{Look, at-leaf, at-node, look}
 use Rattle.meaning.specs.Instructions.{Instruction, Operation, Push, Get, Add, Ifnot, Jump, Slide, Drop, LeafTag, NodeTag, WriteNumber, ReadTag, ReadNumber, Call, Return, operationOf}
 use Rattle.meaning.specs.Levels.{atLevel}
 use Rattle.meaning.specs.Performing.{Setting, Caller, State, wordsBelow, standing, opened, Step, goes, ends, refuses, to, holding, reading, writing}
-use Rattle.meaning.specs.Performing.{one, two, room, push, write, byTag, readNumber, call, kept, leave, operate, perform, step}
+use Rattle.meaning.specs.Performing.{one, two, room, pushWord, write, onTag, takeNumber, openCall, kept, leave, operate, perform, step}
 use Rattle.meaning.specs.StreamRun.{StepRefusal, ended-there, no-tag, full, too-many, cannot, Within, Grows, OneStep}
 use Rattle.meaning.proofs.CannotPerform.{cannot-first}
 use Rattle.meaning.proofs.Stopping.{refused-exactly, ends-exactly}
 
--- what becomes of a state's instruction, with the equation kept
+-- The outcome of a state's instruction, with the equation kept
 pub data Stepped (m : Setting) (s : State) : Type 0 where
   it-goes : (t : State) → step m s ≡ goes t → Stepped m s
   it-ends : (number : ℕ) → step m s ≡ ends number → Stepped m s
@@ -133,7 +133,7 @@ module _ (P : Step → Type 0) where
   unfolding two
   holds-two words f g h = holds-one words _ g (λ x under e. holds-one under _ g (λ y rest d. h x y rest (e ∙ ap suc d)))
 
--- ---- what becomes of an instruction is sound: the next state follows, a refusal is one of the five
+-- ---- The outcome of an instruction is sound: the next state follows, a refusal is one of the five
 
 abbrev Sound : Setting → State → Step → Type 0
 Sound m s (goes t) = Follows m s t
@@ -146,8 +146,8 @@ module _ (m : Setting) (s : State) where
   unfolding room
   sound-room r h = holds-if (Sound m s) _ r _ (λ e. h (ltb-true _ _ e)) cannot
 
-  sound-push : (x : ℕ) → Sound m s (push m x s)
-  unfolding push standing
+  sound-push : (x : ℕ) → Sound m s (pushWord m x s)
+  unfolding pushWord standing
   sound-push x = sound-room _ (λ h. follows-holding m s _ (x ∷ s .frame) (λ w. omega arith))
 
   -- bytes written, with no more words in the frame
@@ -157,15 +157,15 @@ module _ (m : Setting) (s : State) where
       holds-if (Sound m s) _ _ _ (λ e. follows-on (follows-fewer m s (s .address) words h) (follows-writing m _ _ bytes (leb-true _ _ e))) full
 
   -- a tag or a number read
-  sound-tag : (g : Tag) (a : ℕ) → Look (m .input) (s .read) g → Sound m s (byTag g a s)
-  unfolding byTag
-  sound-tag ended a l = ended-there
+  sound-tag : (g : Tag) (a : ℕ) → Look (m .input) (s .read) g → Sound m s (onTag g a s)
+  unfolding onTag
+  sound-tag noByte a l = ended-there
   sound-tag aLeaf a (at-leaf there is) = follows-reading m s _ 1 (omega arith)
   sound-tag aNode a (at-node there is) = follows-reading m s a 1 (omega arith)
   sound-tag other a l = no-tag
 
-  sound-number : standing s < m .mostWords → Sound m s (readNumber m s)
-  unfolding readNumber standing
+  sound-number : standing s < m .mostWords → Sound m s (takeNumber m s)
+  unfolding takeNumber standing
   sound-number h =
       let x = numberAt labelBytes (m .input) (s .read) in
       holds-if (Sound m s) _ _ _
@@ -173,8 +173,8 @@ module _ (m : Setting) (s : State) where
       ended-there
 
   -- the arguments and the words that wait are the frame's
-  sound-call : (entry n : ℕ) → n ≤ length (s .frame) → Sound m s (call m entry n s)
-  unfolding call standing opened wordsBelow
+  sound-call : (entry n : ℕ) → n ≤ length (s .frame) → Sound m s (openCall m entry n s)
+  unfolding openCall standing opened wordsBelow
   sound-call entry n h =
       let front = length-take n (s .frame) in
       let back = length-drop n (s .frame) in

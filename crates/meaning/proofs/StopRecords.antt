@@ -14,7 +14,7 @@ use Rattle.formats.specs.Records.{Kind, Call, nth}
 use Rattle.formats.specs.Programs.{Expr, const, var, add, ifZero, letIn, leafOf, nodeOf, caseOf, call, Args, noArgs, arg, prefix, prefixes, size, total}
 use Rattle.formats.specs.Programs.{Function, signatureOf, Program, nodes}
 use Rattle.meaning.specs.Evaluation.{Value, number, Environment, treeNamed, inCall, resultNumber}
-use Rattle.meaning.specs.OpenCalls.{Outcome, gives, stops, begins, after, next, treeOr, Handler, evaluate, evaluateArgs}
+use Rattle.meaning.specs.OpenCalls.{Outcome, gives, stops, begins, afterBegun, followedBy, treeOr, Handler, evaluate, evaluateArgs}
 use Rattle.meaning.specs.OpenCalls.{firstRecord, called, evaluation}
 use Rattle.meaning.specs.Meaning.{AtCall, none-open, a-call}
 
@@ -27,7 +27,7 @@ nth-left [] ys k {x} e = absurd (Option·none-ne-some x e)
 nth-left (y ∷ xs) ys zero e = e
 nth-left (y ∷ xs) ys (suc k) e = nth-left xs ys k e
 
--- .. and the second's come behind them
+-- .. and the second's come after them
 nth-right : {A : Type 0} (xs ys : List A) (k : ℕ) → nth (xs ++ ys) (length xs + k) ≡ nth ys k
 unfolding nth
 nth-right [] ys k = rw zero-add
@@ -45,10 +45,10 @@ module _ (P : ℕ → Type 0) where
   unfolding nth
   calls-first {r} {a} {b} c = rw add-zero at (c .each 0 a b refl)
 
-  -- .. so has each Call behind the first ..
-  calls-behind : {r : ℕ} {kind : Kind} {ks : List Kind} → CallsAt r (kind ∷ ks) → CallsAt (suc r) ks
+  -- .. so has each Call after the first ..
+  calls-after : {r : ℕ} {kind : Kind} {ks : List Kind} → CallsAt r (kind ∷ ks) → CallsAt (suc r) ks
   unfolding nth
-  calls-behind c = record { each = λ k a b e. rw (suc-add, ← add-suc) (c .each (suc k) a b e) }
+  calls-after c = record { each = λ k a b e. rw (suc-add, ← add-suc) (c .each (suc k) a b e) }
 
   -- .. each in a part of them ..
   calls-parts : {r : ℕ} (us vs : List Kind) → CallsAt r (us ++ vs) → CallsAt r us × CallsAt (r + length us) vs
@@ -77,20 +77,20 @@ module _ (P : ℕ → Type 0) where
     later : {o : Outcome A} → StopsAt o → StopsAt (begins o)
 
   -- the record at which it stops has the property
-  stop-has : (n why r : ℕ) → StopsAt {A = Value} (after n (stops why r)) → P r
-  unfolding after
+  stop-has : (n why r : ℕ) → StopsAt {A = Value} (afterBegun n (stops why r)) → P r
+  unfolding afterBegun
   stop-has zero why r (at-stop h) = h
   stop-has (suc n) why r (later h) = stop-has n why r h
 
   -- what follows a value stops likewise ..
-  stops-next : {A B : Type 0} {o : Outcome A} {f : A → Outcome B} → StopsAt o → ((x : A) → StopsAt (f x)) → StopsAt (next o f)
-  unfolding next
+  stops-next : {A B : Type 0} {o : Outcome A} {f : A → Outcome B} → StopsAt o → ((x : A) → StopsAt (f x)) → StopsAt (followedBy o f)
+  unfolding followedBy
   stops-next (no-stop {x = x}) g = g x
   stops-next (at-stop h) g = at-stop h
   stops-next (later h) g = later (stops-next h g)
 
   -- .. so do two parts whose values are joined ..
-  stops-both : {o p : Outcome Value} (f : Value → Value → Value) → StopsAt o → StopsAt p → StopsAt (next o (λ x. next p (λ y. gives (f x y))))
+  stops-both : {o p : Outcome Value} (f : Value → Value → Value) → StopsAt o → StopsAt p → StopsAt (followedBy o (λ x. followedBy p (λ y. gives (f x y))))
   stops-both f h g = stops-next h (λ x. stops-next g (λ y. no-stop))
 
   -- .. the part that a number picks ..
@@ -120,26 +120,26 @@ module _ (P : ℕ → Type 0) where
       evaluate-stops E r (const i) c = later no-stop
       evaluate-stops E r (var a) c = later no-stop
       evaluate-stops E r (add p q) c =
-          let parts = calls-parts (prefix p) (prefix q) (calls-behind c) in
+          let parts = calls-parts (prefix p) (prefix q) (calls-after c) in
           later (stops-both _ (evaluate-stops E _ p (parts .0)) (evaluate-stops E _ q (parts .1)))
       evaluate-stops E r (ifZero t z o) c =
-          let parts = calls-parts (prefix t) (prefix z ++ prefix o) (calls-behind c) in
+          let parts = calls-parts (prefix t) (prefix z ++ prefix o) (calls-after c) in
           let others = calls-parts (prefix z) (prefix o) (parts .1) in
           later
           (stops-next (evaluate-stops E _ t (parts .0))
           (λ x. stops-picked (resultNumber x) (evaluate-stops E _ z (others .0)) (evaluate-stops E _ o (others .1))))
       evaluate-stops E r (letIn p body) c =
-          let parts = calls-parts (prefix p) (prefix body) (calls-behind c) in
+          let parts = calls-parts (prefix p) (prefix body) (calls-after c) in
           later (stops-next (evaluate-stops E _ p (parts .0)) (λ x. evaluate-stops _ _ body (parts .1)))
-      evaluate-stops E r (leafOf p) c = later (stops-next (evaluate-stops E _ p (calls-behind c)) (λ x. no-stop))
+      evaluate-stops E r (leafOf p) c = later (stops-next (evaluate-stops E _ p (calls-after c)) (λ x. no-stop))
       evaluate-stops E r (nodeOf p q) c =
-          let parts = calls-parts (prefix p) (prefix q) (calls-behind c) in
+          let parts = calls-parts (prefix p) (prefix q) (calls-after c) in
           later (stops-both _ (evaluate-stops E _ p (parts .0)) (evaluate-stops E _ q (parts .1)))
       evaluate-stops E r (caseOf a p q) c =
-          let parts = calls-parts (prefix p) (prefix q) (calls-behind c) in
+          let parts = calls-parts (prefix p) (prefix q) (calls-after c) in
           later (stops-branch (treeOr (treeNamed E a)) (λ x. evaluate-stops _ _ p (parts .0)) (λ left right. evaluate-stops _ _ q (parts .1)))
       evaluate-stops E r (call a b xs) c =
-          later (stops-next (args-stop E _ xs [] (calls-behind c)) (λ numbers. held r b numbers _ (calls-first c)))
+          later (stops-next (args-stop E _ xs [] (calls-after c)) (λ numbers. held r b numbers _ (calls-first c)))
 
       -- arguments whose Calls have it
       args-stop : (E : Environment) (r : ℕ) (xs : Args) (numbers : List ℕ) → CallsAt r (prefixes xs) → StopsAt (evaluateArgs h E r xs numbers)
@@ -175,7 +175,7 @@ module _ (P : ℕ → Type 0) where
     calls-held (suc calls) r b numbers t here = body-stops calls (calls-held calls) r b numbers t
 
 -- the record of a stop is that of a Call, or 0 where no call may be open
-pub at-call : (program : Program) (t : Tree) (o n why r : ℕ) → evaluation program o t ≡ after n (stops why r) → AtCall program o r
+pub at-call : (program : Program) (t : Tree) (o n why r : ℕ) → evaluation program o t ≡ afterBegun n (stops why r) → AtCall program o r
 unfolding evaluation called
 at-call program t zero n why r e = stop-has (AtCall program 0) n why r (subst (StopsAt (AtCall program 0)) e (at-stop none-open))
 at-call program t (suc o) n why r e =

@@ -1,7 +1,7 @@
 -- Laws of substitution, and the substitution that an environment stands for.
 --
 -- The terms of values have no free names, and a function's fixed point has none but functions' names, since pass one has found every name bound. So a
--- substitution that replaces no function's name leaves them as they are, and two substitutions, one behind the other, do what one does. To put a
+-- substitution that replaces no function's name leaves them as they are, and two substitutions, one after the other, do what one does. To put a
 -- value in for the name that a binder binds is then to have it in the environment.
 use Prim.Native.Nat.{ℕ, zero, suc, _+_, _<_}
 use mathlib.Core.Bool.{Bool, true, false}
@@ -16,7 +16,7 @@ use borrow.Author.Tests.{eqb-true, eqb-false}
 use Rattle.formats.specs.Tokens.{Tree, leaf as aLeaf, node as aNode}
 use Rattle.formats.specs.Records.{nth}
 use Rattle.formats.specs.Programs.{Expr, Sort, Function, Program}
-use Rattle.rules.specs.Printed.{Name, number, tree, function, Term, int, lam, name, app, plus, fix, leaf, node, case, let-01, ifZero-01}
+use Rattle.rules.specs.Printed.{Name, numberName, treeName, functionName, Term, int, lam, name, app, plus, fix, leafTerm, nodeTerm, case, let-01, ifZero-01}
 use Rattle.rules.specs.Printed.{termOf, applied, lams, functionTerm}
 use Rattle.meaning.specs.Levels.{atLevel}
 use Rattle.meaning.specs.Evaluation.{Environment, withNumber, withTrees, inCall}
@@ -34,21 +34,21 @@ kept-under false o before = before refl
 
 -- A substitution that replaces no function's name ..
 abbrev KeepsFunctions : Substitution → Type 0
-KeepsFunctions τ = (b : ℕ) → τ (function b) ≡ none
+KeepsFunctions τ = (b : ℕ) → τ (functionName b) ≡ none
 
 -- it does not under a binder either
 functions-under : (τ : Substitution) (x : Name) → KeepsFunctions τ → KeepsFunctions (without x τ)
 unfolding without
-functions-under τ x k b = kept-under (sameName x (function b)) (τ (function b)) (λ e. k b)
+functions-under τ x k b = kept-under (sameName x (functionName b)) (τ (functionName b)) (λ e. k b)
 
 -- .. and none of the names bound, where these are g number names and n tree names.
 record Keeps (g n : ℕ) (τ : Substitution) : Type 0 where
-  numbers : (k : ℕ) → k < g → τ (number k) ≡ none
-  trees : (k : ℕ) → k < n → τ (tree k) ≡ none
+  numbers : (k : ℕ) → k < g → τ (numberName k) ≡ none
+  trees : (k : ℕ) → k < n → τ (treeName k) ≡ none
   functions : KeepsFunctions τ
 
 -- under a binder of the next number, of the next tree, or of the next two trees, it replaces none of the names bound there
-keeps-number : {g n : ℕ} {τ : Substitution} → Keeps g n τ → Keeps (suc g) n (without (number g) τ)
+keeps-number : {g n : ℕ} {τ : Substitution} → Keeps g n τ → Keeps (suc g) n (without (numberName g) τ)
 unfolding without sameName
 keeps-number {g} k = record {
   numbers = λ j h. kept-under (eqb g j) _ (λ e. k .numbers j (omega (arith, eqb-false g j e)));
@@ -56,7 +56,7 @@ keeps-number {g} k = record {
   functions = k .functions;
 }
 
-keeps-tree : {g n : ℕ} {τ : Substitution} → Keeps g n τ → Keeps g (suc n) (without (tree n) τ)
+keeps-tree : {g n : ℕ} {τ : Substitution} → Keeps g n τ → Keeps g (suc n) (without (treeName n) τ)
 unfolding without sameName
 keeps-tree {n} k = record {
   numbers = k .numbers;
@@ -64,7 +64,7 @@ keeps-tree {n} k = record {
   functions = k .functions;
 }
 
-keeps-trees : {g n : ℕ} {τ : Substitution} → Keeps g n τ → Keeps g (suc (suc n)) (without (tree n) (without (tree (suc n)) τ))
+keeps-trees : {g n : ℕ} {τ : Substitution} → Keeps g n τ → Keeps g (suc (suc n)) (without (treeName n) (without (treeName (suc n)) τ))
 unfolding without sameName
 keeps-trees {n} k = record {
   numbers = k .numbers;
@@ -87,26 +87,26 @@ scoped d = elim d as (λ g n s e d. Scoped g n (termOf g n e)) (λ g n j xs d. (
   | proper-var {a} a< ↦ λ τ k. rw (k .numbers a a<)
   | proper-add (d₁ → h₁) (d₂ → h₂) ↦ λ τ k. ap₂ plus (h₁ τ k) (h₂ τ k)
   | proper-ifZero (d₁ → h₁) (d₂ → h₂) (d₃ → h₃) ↦ λ τ k. rw (h₁ τ k, h₂ τ k, h₃ τ k)
-  | proper-let {g} (d₁ → h₁) (d₂ → h₂) ↦ λ τ k. ap₂ (let-01 (number g)) (h₁ τ k) (h₂ _ (keeps-number k))
-  | proper-leaf (d → h) ↦ λ τ k. ap leaf (h τ k)
-  | proper-node (d₁ → h₁) (d₂ → h₂) ↦ λ τ k. ap₂ node (h₁ τ k) (h₂ τ k)
+  | proper-let {g} (d₁ → h₁) (d₂ → h₂) ↦ λ τ k. ap₂ (let-01 (numberName g)) (h₁ τ k) (h₂ _ (keeps-number k))
+  | proper-leaf (d → h) ↦ λ τ k. ap leafTerm (h τ k)
+  | proper-node (d₁ → h₁) (d₂ → h₂) ↦ λ τ k. ap₂ nodeTerm (h₁ τ k) (h₂ τ k)
   | proper-case {a} a< (d₁ → h₁) (d₂ → h₂) ↦ λ τ k. rw (k .trees a a<, h₁ _ (keeps-number k), h₂ _ (keeps-trees k))
-  | proper-call {a} {b} a< known same (ds → hs) ↦ λ τ k. ap₂ app (hs (name (function b)) (λ τ k. rw (k .functions b)) τ k) (rw (k .trees a a<))
+  | proper-call {a} {b} a< known same (ds → hs) ↦ λ τ k. ap₂ app (hs (name (functionName b)) (λ τ k. rw (k .functions b)) τ k) (rw (k .trees a a<))
   | proper-none ↦ λ M h. h
   | proper-arg (d → h) (ds → hs) ↦ λ M head. hs (app M _) (λ τ k. ap₂ app (head τ k) (h τ k))
 ]
 
 -- so are abstractions over a tree, and over j numbers
-scoped-lam : {g : ℕ} {M : Term} → Scoped g 1 M → Scoped g 0 (lam (tree 0) M)
+scoped-lam : {g : ℕ} {M : Term} → Scoped g 1 M → Scoped g 0 (lam (treeName 0) M)
 unfolding substitute
-scoped-lam h τ k = ap (lam (tree 0)) (h _ (keeps-tree k))
+scoped-lam h τ k = ap (lam (treeName 0)) (h _ (keeps-tree k))
 
 scoped-lams : {M : Term} (j g : ℕ) → Scoped (g + j) 0 M → Scoped g 0 (lams g j M)
 unfolding substitute lams
 scoped-lams zero g h τ k = h τ (rw add-zero k)
 scoped-lams (suc j) g h τ k =
     let shift : suc g + j ≡ g + suc j = omega arith in
-    ap (lam (number g)) (scoped-lams j (suc g) (rw shift h) _ (keeps-number k))
+    ap (lam (numberName g)) (scoped-lams j (suc g) (rw shift h) _ (keeps-number k))
 
 -- A term with no free names but functions'.
 abbrev Closed : Term → Type 0
@@ -116,17 +116,17 @@ Closed W = (τ : Substitution) → KeepsFunctions τ → substitute τ W ≡ W
 tree-closed : (t : Tree) → Closed (treeTerm t)
 unfolding substitute treeTerm
 tree-closed (aLeaf x) τ k = refl
-tree-closed (aNode l r) τ k = ap₂ node (tree-closed l τ k) (tree-closed r τ k)
+tree-closed (aNode l r) τ k = ap₂ nodeTerm (tree-closed l τ k) (tree-closed r τ k)
 
 -- .. and functions' fixed points
 fix-closed : (program : Program) → ProperProgram program → (b : ℕ) (f : Function) → nth (program .functions) b ≡ some f → Closed (fixOf b f)
 unfolding substitute fixOf functionTerm
 fix-closed program proper b f known τ k =
-    ap (fix (function b))
+    ap (fix (functionName b))
     (scoped-lams (f .parameters) 0 (rw zero-add (scoped-lam (scoped (proper .bodies b f known)))) _
-    (record { numbers = λ j h. absurd (omega arith); trees = λ j h. absurd (omega arith); functions = functions-under τ (function b) k }))
+    (record { numbers = λ j h. absurd (omega arith); trees = λ j h. absurd (omega arith); functions = functions-under τ (functionName b) k }))
 
--- ---- one substitution behind another
+-- ---- one substitution after another
 
 -- What a name is replaced by, where the first gives one thing and the second another: what the first gives stays, since it is closed.
 data Joined : Option Term → Option Term → Option Term → Type 0 where
@@ -162,8 +162,8 @@ joined (name x) {σ} {τ} {ρ} j = in-the-end (j .names x) refl
 joined (app M N) j = ap₂ app (joined M j) (joined N j)
 joined (plus M N) j = ap₂ plus (joined M j) (joined N j)
 joined (fix f M) j = ap (fix f) (joined M (joins-under f j))
-joined (leaf M) j = ap leaf (joined M j)
-joined (node M N) j = ap₂ node (joined M j) (joined N j)
+joined (leafTerm M) j = ap leafTerm (joined M j)
+joined (nodeTerm M N) j = ap₂ nodeTerm (joined M j) (joined N j)
 joined (case L x M x₁ x₂ N) j = rw (joined L j, joined M (joins-under x j), joined N (joins-under x₁ (joins-under x₂ j)))
 joined (let-01 x M N) j = ap₂ (let-01 x) (joined M j) (joined N (joins-under x j))
 joined (ifZero-01 L M N) j = rw (joined L j, joined M j, joined N j)
@@ -172,9 +172,9 @@ joined (ifZero-01 L M N) j = rw (joined L j, joined M j, joined N j)
 
 -- What an environment's names and the functions' names are replaced by.
 unfoldable pub environmentOf : Program → Environment → Substitution
-environmentOf program E (number k) = Option·map int (atLevel (E .numbers) k)
-environmentOf program E (tree k) = Option·map treeTerm (atLevel (E .trees) k)
-environmentOf program E (function b) = fixes program (function b)
+environmentOf program E (numberName k) = Option·map int (atLevel (E .numbers) k)
+environmentOf program E (treeName k) = Option·map treeTerm (atLevel (E .trees) k)
+environmentOf program E (functionName b) = fixes program (functionName b)
 
 -- A call's numbers, before its tree is named.
 abbrev pub bare : List ℕ → Environment
@@ -184,11 +184,11 @@ bare numbers = record { numbers = numbers; trees = [] }
 pub unfolded :
     (program : Program) (b : ℕ) (f : Function)
     → nth (program .functions) b ≡ some f
-    → fixing program (function b) (functionTerm f) ≡ environmentOf program (bare [])
+    → fixing program (functionName b) (functionTerm f) ≡ environmentOf program (bare [])
 unfolding environmentOf fixing fixes fixOf sameName atLevel
-unfolded program b f known = fun-ext (λ z. elim z [ number k ↦ refl | tree k ↦ refl | function c ↦ by-test c (eqb b c) refl ])
+unfolded program b f known = fun-ext (λ z. elim z [ numberName k ↦ refl | treeName k ↦ refl | functionName c ↦ by-test c (eqb b c) refl ])
   where
-    by-test : (c : ℕ) (same : Bool) → eqb b c ≡ same → _≡_ {A = Option Term} (elim same [ true ↦ some (fixOf b f) | false ↦ fixes program (function c) ]) (fixes program (function c))
+    by-test : (c : ℕ) (same : Bool) → eqb b c ≡ same → _≡_ {A = Option Term} (elim same [ true ↦ some (fixOf b f) | false ↦ fixes program (functionName c) ]) (fixes program (functionName c))
     by-test c true e = rw (← eqb-true b c e) (rw (known, fixes))
     by-test c false e = refl
 
@@ -220,11 +220,11 @@ module _ (program : Program) (proper : ProperProgram program) where
   -- so does all that an environment puts in
   stays : (E : Environment) (z : Name) → Joined (environmentOf program E z) none (environmentOf program E z)
   unfolding environmentOf fixes substitute
-  stays E (number k) = named-stays int (λ i τ k. refl) (atLevel (E .numbers) k)
-  stays E (tree k) = named-stays treeTerm tree-closed (atLevel (E .trees) k)
-  stays E (function b) = of-function (nth (program .functions) b) refl
+  stays E (numberName k) = named-stays int (λ i τ k. refl) (atLevel (E .numbers) k)
+  stays E (treeName k) = named-stays treeTerm tree-closed (atLevel (E .trees) k)
+  stays E (functionName b) = of-function (nth (program .functions) b) refl
     where
-      of-function : (o : Option Function) → nth (program .functions) b ≡ o → Joined (fixes program (function b)) none (fixes program (function b))
+      of-function : (o : Option Function) → nth (program .functions) b ≡ o → Joined (fixes program (functionName b)) none (fixes program (functionName b))
       of-function none known = rw (fixes, known) by-second
       of-function (some f) known = rw (fixes, known) (by-first (fix-closed program proper b f known))
 
@@ -232,30 +232,30 @@ module _ (program : Program) (proper : ProperProgram program) where
   pub put-number :
       (E : Environment) (g i : ℕ) (M : Term)
       → g ≡ length (E .numbers)
-      → substitute (only (number g) (int i)) (substitute (without (number g) (environmentOf program E)) M)
+      → substitute (only (numberName g) (int i)) (substitute (without (numberName g) (environmentOf program E)) M)
       ≡ substitute (environmentOf program (withNumber i E)) M
   unfolding environmentOf substitute only without sameName
   put-number E g i M e = joined M (record {
     functions = λ b. refl;
     names = λ z. elim z [
-      | number k ↦ joined-newest int (λ i τ k. refl) i (E .numbers) g k e
-      | tree k ↦ stays E (tree k)
-      | function b ↦ stays E (function b)
+      | numberName k ↦ joined-newest int (λ i τ k. refl) i (E .numbers) g k e
+      | treeName k ↦ stays E (treeName k)
+      | functionName b ↦ stays E (functionName b)
     ];
   })
 
   -- so is a call's tree ..
   pub put-tree :
       (numbers : List ℕ) (t : Tree) (M : Term)
-      → substitute (only (tree 0) (treeTerm t)) (substitute (without (tree 0) (environmentOf program (bare numbers))) M)
+      → substitute (only (treeName 0) (treeTerm t)) (substitute (without (treeName 0) (environmentOf program (bare numbers))) M)
       ≡ substitute (environmentOf program (inCall numbers t)) M
   unfolding environmentOf only without sameName
   put-tree numbers t M = joined M (record {
     functions = λ b. refl;
     names = λ z. elim z [
-      | number k ↦ stays (bare numbers) (number k)
-      | tree k ↦ joined-newest treeTerm tree-closed t [] 0 k refl
-      | function b ↦ stays (bare numbers) (function b)
+      | numberName k ↦ stays (bare numbers) (numberName k)
+      | treeName k ↦ joined-newest treeTerm tree-closed t [] 0 k refl
+      | functionName b ↦ stays (bare numbers) (functionName b)
     ];
   })
 
@@ -263,15 +263,15 @@ module _ (program : Program) (proper : ProperProgram program) where
   pub put-trees :
       (E : Environment) (n : ℕ) (l r : Tree) (M : Term)
       → n ≡ length (E .trees)
-      → substitute (both (tree n) (treeTerm l) (tree (suc n)) (treeTerm r))
-      (substitute (without (tree n) (without (tree (suc n)) (environmentOf program E))) M)
+      → substitute (both (treeName n) (treeTerm l) (treeName (suc n)) (treeTerm r))
+      (substitute (without (treeName n) (without (treeName (suc n)) (environmentOf program E))) M)
       ≡ substitute (environmentOf program (withTrees l r E)) M
   unfolding environmentOf only both without sameName
   put-trees E n l r M e = joined M (record {
     functions = λ b. refl;
     names = λ z. elim z [
-      | number k ↦ stays E (number k)
-      | tree k ↦
+      | numberName k ↦ stays E (numberName k)
+      | treeName k ↦
           joined-at (eqb n k) (treeTerm l)
           (λ left. let is = eqb-true n k left in rw (level-older r k (l ∷ E .trees) (omega arith), level-newest l k (E .trees) (omega arith)))
           (λ not-left.
@@ -281,6 +281,6 @@ module _ (program : Program) (proper : ProperProgram program) where
           let not-r = eqb-false (suc n) k not-right in
           rw (level-older r k (l ∷ E .trees) (omega arith), level-older l k (E .trees) (omega arith))
           (named-stays treeTerm tree-closed (atLevel (E .trees) k))))
-      | function b ↦ stays E (function b)
+      | functionName b ↦ stays E (functionName b)
     ];
   })

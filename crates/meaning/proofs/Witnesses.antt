@@ -15,12 +15,12 @@ use Rattle.formats.proofs.ProgramCases.{grow, grow-lawful}
 use Rattle.rules.specs.Types.{isInt, isTree, fits, resultType}
 use Rattle.rules.specs.Scopes.{inside, startOf, entered, enteredArgs, enteredAll}
 use Rattle.rules.specs.PassOne.{named, typed, bareNumber, wordsTested, roomy, atEntry, passOver, passOne}
-use Rattle.rules.specs.PassTwo.{order}
+use Rattle.rules.specs.PassTwo.{bothPasses}
 use Rattle.rules.proofs.Cases.{numbered, treed, programOf, on, grow-passes, swap, swap-lawful, swap-verdicts}
 use Rattle.meaning.specs.Levels.{atLevel}
 use Rattle.meaning.specs.Evaluation.{Value, tree, Ends, resultNumber}
-use Rattle.meaning.specs.OpenCalls.{gives, stops, begins, after, next, numberOr, treeOr, resultTree, evaluate, evaluateArgs, firstRecord, called, evaluation}
-use Rattle.meaning.specs.Reductions.{valueTerm, applied}
+use Rattle.meaning.specs.OpenCalls.{gives, stops, begins, afterBegun, followedBy, numberOr, treeOr, resultTree, evaluate, evaluateArgs, firstRecord, called, evaluation}
+use Rattle.meaning.specs.Reductions.{valueTerm, programOn}
 use Rattle.meaning.specs.Meaning.{PassesOne, Endless, Reaches}
 use Rattle.meaning.proofs.Outcomes.{gives-not}
 use Rattle.meaning.proofs.Meaning.{meaning}
@@ -34,13 +34,13 @@ record Witness (program : Program) (calls begun : ℕ) (v : Value) : Type 0 wher
   first : Function
   is-first : nth (program .functions) 0 ≡ some first
   ends : Ends program two-leaves calls begun v
-  leads : Reaches program (applied first two-leaves) (valueTerm v)
+  leads : Reaches program (programOn first two-leaves) (valueTerm v)
 
 -- by the theorem, from what the evaluation held to so many calls gives
 witness : (program : Program) (calls begun : ℕ) (v : Value) (first : Function)
     → PassesOne program
     → nth (program .functions) 0 ≡ some first
-    → evaluation program calls two-leaves ≡ after begun (gives v)
+    → evaluation program calls two-leaves ≡ afterBegun begun (gives v)
     → Witness program calls begun v
 witness program calls begun v first passes is-first gives-it =
     let ends = meaning .held program two-leaves passes .gives-value calls begun v .0 gives-it in
@@ -54,13 +54,13 @@ witness program calls begun v first passes is-first gives-it =
 
 -- Grow, which passes both passes
 grow-witness : Witness grow 2 14 (tree (node (leaf 6) (leaf 8)))
-unfolding order evaluation called evaluate evaluateArgs next after resultNumber resultTree numberOr treeOr atLevel sum32 nth firstRecord total signatureOf size prefix prefixes grow two-leaves
+unfolding bothPasses evaluation called evaluate evaluateArgs followedBy afterBegun resultNumber resultTree numberOr treeOr atLevel sum32 nth firstRecord total signatureOf size prefix prefixes grow two-leaves
 grow-witness =
     witness grow 2 14 _ _ (record { lawful = grow-lawful; passes = then-inv (passOne grow) _ tt grow-passes .first }) refl refl
 
 -- its parts exchanged, which pass two refuses
 swap-witness : Witness swap 2 10 (tree (node (leaf 7) (leaf 5)))
-unfolding evaluation called evaluate evaluateArgs next after resultNumber resultTree numberOr treeOr atLevel nth firstRecord total signatureOf size prefix prefixes swap treed programOf on two-leaves
+unfolding evaluation called evaluate evaluateArgs followedBy afterBegun resultNumber resultTree numberOr treeOr atLevel nth firstRecord total signatureOf size prefix prefixes swap treed programOf on two-leaves
 swap-witness = witness swap 2 10 _ _ (record { lawful = swap-lawful; passes = swap-verdicts .0 }) refl refl
 
 -- ---- one that is endless
@@ -82,11 +82,11 @@ again-passes = record {
 -- a call of it where so many may be open
 record Stopped (calls r : ℕ) (t : Tree) : Type 0 where
   at-call : ℕ
-  stopped : called again calls r 0 [] t ≡ after calls (stops tooManyCalls at-call)
+  stopped : called again calls r 0 [] t ≡ afterBegun calls (stops tooManyCalls at-call)
 
 -- stops, however many
 again-stops : (calls r : ℕ) (t : Tree) → Stopped calls r t
-unfolding called evaluate evaluateArgs next after nth atLevel treeOr again numbered programOf on
+unfolding called evaluate evaluateArgs followedBy afterBegun nth atLevel treeOr again numbered programOf on
 again-stops zero r t = record { at-call = r; stopped = refl }
 again-stops (suc calls) r t =
     let deeper = again-stops calls _ t in

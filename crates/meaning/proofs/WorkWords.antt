@@ -21,8 +21,8 @@ module _ (before : ℕ → Bool) (outcome : Result (Unit {0})) where
     same-number e = cc
 
     -- refused by the run itself
-    pub run-refused : (number place : ℕ) → outcome ≡ refusal number place → before number ≡ false → WorkWords before outcome values values′ returns returns′
-    run-refused number place e late =
+    pub run-refused : (number position : ℕ) → outcome ≡ refusal number position → before number ≡ false → WorkWords before outcome values values′ returns returns′
+    run-refused number position e late =
         record {
           values-length = lv;
           returns-length = lr;

@@ -14,13 +14,13 @@ use Rattle.formats.specs.Tokens.{Tree, Labelled, firstTree}
 use Rattle.formats.specs.Records.{Call, nth}
 use Rattle.formats.specs.Programs.{Expr, Sort, numberValued, treeValued, Function, Program, nodes, Lawful}
 use Rattle.formats.specs.Blocks.{programIn}
-use Rattle.rules.specs.Printed.{Term, fix, function}
+use Rattle.rules.specs.Printed.{Term, fix, functionName}
 use Rattle.rules.specs.PassOne.{passOne}
 use Rattle.meaning.specs.Running.{valueWords, returnWords, mostCalls}
 use Rattle.meaning.specs.Evaluation.{Value, number, tree, Environment, Takes, Ends, resultBytes, resultNumber, rulesIn, unitsIn, nestingIn}
-use Rattle.meaning.specs.OpenCalls.{Outcome, gives, stops, begins, begun, after, evaluation, within}
+use Rattle.meaning.specs.OpenCalls.{Outcome, gives, stops, begins, begun, afterBegun, evaluation, withFuel}
 use Rattle.meaning.specs.SourceRun.{SourceRan, sourceRun}
-use Rattle.meaning.specs.Reductions.{IsValue, only, substitute, Redex, Reduces, Leads, valueTerm, applied}
+use Rattle.meaning.specs.Reductions.{IsValue, only, substitute, Redex, Reduces, Leads, valueTerm, programOn}
 
 -- A program within the limits of "Program file" that passes pass one. Pass two is not asked for.
 pub record PassesOne (program : Program) : Type 0 where
@@ -92,9 +92,9 @@ pub data AtCall (program : Program) : ℕ → ℕ → Type 0 where
 -- Stopped at a call too many, after so many expressions begun.
 pub record TooMany (program : Program) (t : Tree) (o : ℕ) : Type 0 where
   pub expressions : ℕ
-  pub place : ℕ
-  pub stopped : evaluation program o t ≡ after expressions (stops tooManyCalls place)
-  pub is-call : AtCall program o place
+  pub position : ℕ
+  pub stopped : evaluation program o t ≡ afterBegun expressions (stops tooManyCalls position)
+  pub is-call : AtCall program o position
 
 -- The second is the first, or goes on where the first stops at a call too many.
 pub data Further {A : Type 0} : Outcome A → Outcome A → Type 0 where
@@ -104,7 +104,7 @@ pub data Further {A : Type 0} : Outcome A → Outcome A → Type 0 where
 
 pub record HeldTo (program : Program) (t : Tree) : Type 0 where
   -- the function gives a value exactly where the evaluation ends within the bound
-  pub gives-value : (o n : ℕ) (v : Value) → (evaluation program o t ≡ after n (gives v)) ↔ Ends program t o n v
+  pub gives-value : (o n : ℕ) (v : Value) → (evaluation program o t ≡ afterBegun n (gives v)) ↔ Ends program t o n v
   -- the evaluation ends within the bound, or a call is one too many, and never both
   pub ends-or-stops : (o : ℕ) → EndsWithin program t o ⊎ TooMany program t o
   pub never-both : (o n : ℕ) (v : Value) → Ends program t o n v → TooMany program t o → ⊥
@@ -115,8 +115,8 @@ pub record HeldTo (program : Program) (t : Tree) : Type 0 where
 
 -- Fuel looked at before each expression cuts an evaluation short, and does nothing else.
 pub record Cut (o : Outcome Value) (fuel : ℕ) : Type 0 where
-  pub enough : begun o ≤ fuel → within fuel o ≡ o
-  pub short : fuel < begun o → within fuel o ≡ after fuel (stops fuelUsedUp 0)
+  pub enough : begun o ≤ fuel → withFuel fuel o ≡ o
+  pub short : fuel < begun o → withFuel fuel o ≡ afterBegun fuel (stops fuelUsedUp 0)
 
 -- ---- the reductions
 
@@ -149,14 +149,14 @@ pub record ValueReached (M : Term) : Type 0 where
 -- The program, whose function 0 is `first`, applied to the tree.
 pub record Agrees (program : Program) (first : Function) (t : Tree) : Type 0 where
   -- the evaluation gives the value v exactly where the reductions lead to v
-  pub leads : (o n : ℕ) (v : Value) → Ends program t o n v → Reaches program (applied first t) (valueTerm v)
-  pub taken : (v : Value) → Reaches program (applied first t) (valueTerm v) → Taken program t v
+  pub leads : (o n : ℕ) (v : Value) → Ends program t o n v → Reaches program (programOn first t) (valueTerm v)
+  pub taken : (v : Value) → Reaches program (programOn first t) (valueTerm v) → Taken program t v
   -- the reductions lead to no other values than numbers and trees
-  pub values : (k : ℕ) (M : Term) → Leads program k (applied first t) M → IsValue M → ValueReached M
+  pub values : (k : ℕ) (M : Term) → Leads program k (programOn first t) M → IsValue M → ValueReached M
   -- each term that they lead to is a value or reduces
-  pub progress : (k : ℕ) (M : Term) → Leads program k (applied first t) M → IsValue M ⊎ Goes program M
+  pub progress : (k : ℕ) (M : Term) → Leads program k (programOn first t) M → IsValue M ⊎ Goes program M
   -- where the evaluation is endless, so are the reductions
-  pub endless : Endless program t → (k : ℕ) → Makes program k (applied first t)
+  pub endless : Endless program t → (k : ℕ) → Makes program k (programOn first t)
 
 pub record Reductions (program : Program) : Type 0 where
   -- a term reduces to at most one other
@@ -167,7 +167,7 @@ pub record Reductions (program : Program) : Type 0 where
   pub one-function :
       (f : Function) (M : Term)
       → program .functions ≡ f ∷ []
-      → Redex program (fix (function 0) M) (substitute (only (function 0) (fix (function 0) M)) M)
+      → Redex program (fix (functionName 0) M) (substitute (only (functionName 0) (fix (functionName 0) M)) M)
   pub agrees : (first : Function) (t : Tree) → PassesOne program → nth (program .functions) 0 ≡ some first → Agrees program first t
 
 -- ---- the source run
@@ -190,8 +190,8 @@ pub record EndedWith (n : ℕ) (v : Value) (output : List ℕ) (ran : SourceRan)
   pub rest : drop (length (resultBytes v)) (ran .output) ≡ drop (length (resultBytes v)) output
 
 -- A call that was refused.
-pub record RefusedWith (n number place : ℕ) (output : List ℕ) (ran : SourceRan) : Type 0 where
-  pub outcome : ran .answer .outcome ≡ refusal number place
+pub record RefusedWith (n number position : ℕ) (output : List ℕ) (ran : SourceRan) : Type 0 where
+  pub outcome : ran .answer .outcome ≡ refusal number position
   pub expressions : ran .answer .begun ≡ n
   pub no-bytes : ran .answer .bytesWritten ≡ 0
   pub no-number : ran .answer .number ≡ 0
@@ -205,7 +205,7 @@ pub record ByReductions (program : Program) (t : Tree) (output : List ℕ) (ran 
   pub ends : Ends program t mostCalls expressions value
   pub first : Function
   pub is-first : nth (program .functions) 0 ≡ some first
-  pub leads : Reaches program (applied first t) (valueTerm value)
+  pub leads : Reaches program (programOn first t) (valueTerm value)
 
 -- What a call that ended came from: all that comes before the evaluation passed, the evaluation ended, and fuel and output were enough.
 pub record EndedFrom (file input output : List ℕ) (values returns fuel : ℕ) (ran : SourceRan) : Type 0 where
@@ -228,12 +228,12 @@ pub record Refuses18 (output : List ℕ) (call : ℕ → SourceRan) : Type 0 whe
 -- Calls of the source run, each with its fuel, and with one file, one input, one output and one work space.
 pub record SourceRuns (file input output : List ℕ) (values returns : ℕ) (call : ℕ → SourceRan) : Type 0 where
   -- what comes before the evaluation, the first refusal first
-  pub file-refused : (number place fuel : ℕ) → programIn file ≡ refusal number place → RefusedWith 0 number place output (call fuel)
+  pub file-refused : (number position fuel : ℕ) → programIn file ≡ refusal number position → RefusedWith 0 number position output (call fuel)
   pub pass-one-refused :
-      (program : Program) (number place fuel : ℕ)
+      (program : Program) (number position fuel : ℕ)
       → programIn file ≡ done program
-      → passOne program ≡ refusal number place
-      → RefusedWith 0 number place output (call fuel)
+      → passOne program ≡ refusal number position
+      → RefusedWith 0 number position output (call fuel)
   pub space-too-short :
       (program : Program) (fuel : ℕ)
       → programIn file ≡ done program
@@ -241,13 +241,13 @@ pub record SourceRuns (file input output : List ℕ) (values returns : ℕ) (cal
       → (values < valueWords) ⊎ (returns < returnWords)
       → RefusedWith 0 spaceTooShort 0 output (call fuel)
   pub tree-refused :
-      (program : Program) (number place fuel : ℕ)
+      (program : Program) (number position fuel : ℕ)
       → programIn file ≡ done program
       → passOne program ≡ done tt
       → valueWords ≤ values
       → returnWords ≤ returns
-      → firstTree input ≡ refusal number place
-      → RefusedWith 0 number place output (call fuel)
+      → firstTree input ≡ refusal number position
+      → RefusedWith 0 number position output (call fuel)
   -- the evaluation ends within 1,024 open calls: fuel for all its expressions and space for its result, or 17, or 14 before that
   pub ends :
       (program : Program) (t : Tree) (n : ℕ) (v : Value) (fuel : ℕ)
@@ -277,11 +277,11 @@ pub record SourceRuns (file input output : List ℕ) (values returns : ℕ) (cal
       → Refuses18 output call
   -- a call ends in no other case than that of `ends`: its program passed pass one, and so did all else before the evaluation, which ended
   pub ended-from : (fuel : ℕ) → call fuel .answer .outcome ≡ done tt → EndedFrom file input output values returns fuel (call fuel)
-  -- every refusal leaves the output, and tells neither bytes nor a number
+  -- every refusal leaves the output, and reports neither bytes nor a number
   pub untouched :
-      (number place fuel : ℕ)
-      → call fuel .answer .outcome ≡ refusal number place
-      → RefusedWith (call fuel .answer .begun) number place output (call fuel)
+      (number position fuel : ℕ)
+      → call fuel .answer .outcome ≡ refusal number position
+      → RefusedWith (call fuel .answer .begun) number position output (call fuel)
   -- what a call gives, the evaluation and the reductions give
   pub by-reductions :
       (program : Program) (t : Tree) (fuel : ℕ)
@@ -303,8 +303,8 @@ pub record Meaning : Type 0 where
       (file input output : List ℕ) (values returns : ℕ)
       → Bytes file
       → SourceRuns file input output values returns (λ fuel. sourceRun file input output fuel values returns)
-  -- the source run looks at no byte behind the tree
-  pub behind-tree :
+  -- the source run looks at no byte after the tree
+  pub after-tree :
       (file input rest output : List ℕ) (fuel values returns : ℕ) (t : Tree)
       → Bytes input
       → firstTree input ≡ done t

@@ -24,15 +24,15 @@ begun (stops why r) = 0
 begun (begins o) = suc (begun o)
 
 -- So many expressions begin first.
-unfoldable pub after : {A : Type 0} → ℕ → Outcome A → Outcome A
-after zero o = o
-after (suc n) o = begins (after n o)
+unfoldable pub afterBegun : {A : Type 0} → ℕ → Outcome A → Outcome A
+afterBegun zero o = o
+afterBegun (suc n) o = begins (afterBegun n o)
 
 -- A value goes on to what follows; a stop stays.
-unfoldable pub next : {A B : Type 0} → Outcome A → (A → Outcome B) → Outcome B
-next (gives x) f = f x
-next (stops why r) f = stops why r
-next (begins o) f = begins (next o f)
+unfoldable pub followedBy : {A B : Type 0} → Outcome A → (A → Outcome B) → Outcome B
+followedBy (gives x) f = f x
+followedBy (stops why r) f = stops why r
+followedBy (begins o) f = begins (followedBy o f)
 
 -- What the rows of the file and pass one rule out is given a value too: an unbound name, a tree where a number is wanted or a number where a tree is, a
 -- function that is not there.
@@ -60,31 +60,31 @@ unfoldable mutual
   evaluate h E r (var a) = begins (gives (number (numberOr (numberNamed E a))))
   evaluate h E r (add p q) =
       begins
-      (next (evaluate h E (suc r) p) (λ x. next (evaluate h E (suc r + size p) q) (λ y. gives (number (sum32 (resultNumber x) (resultNumber y))))))
+      (followedBy (evaluate h E (suc r) p) (λ x. followedBy (evaluate h E (suc r + size p) q) (λ y. gives (number (sum32 (resultNumber x) (resultNumber y))))))
   evaluate h E r (ifZero t z o) =
       begins
-      (next (evaluate h E (suc r) t) (λ x. elim (resultNumber x) [
+      (followedBy (evaluate h E (suc r) t) (λ x. elim (resultNumber x) [
         | zero ↦ evaluate h E (suc r + size t) z
         | suc i ↦ evaluate h E (suc r + size t + size z) o
       ]))
   evaluate h E r (letIn p body) =
-      begins (next (evaluate h E (suc r) p) (λ x. evaluate h (withNumber (resultNumber x) E) (suc r + size p) body))
-  evaluate h E r (leafOf p) = begins (next (evaluate h E (suc r) p) (λ x. gives (tree (leaf (resultNumber x)))))
+      begins (followedBy (evaluate h E (suc r) p) (λ x. evaluate h (withNumber (resultNumber x) E) (suc r + size p) body))
+  evaluate h E r (leafOf p) = begins (followedBy (evaluate h E (suc r) p) (λ x. gives (tree (leaf (resultNumber x)))))
   evaluate h E r (nodeOf p q) =
       begins
-      (next (evaluate h E (suc r) p) (λ x. next (evaluate h E (suc r + size p) q) (λ y. gives (tree (node (resultTree x) (resultTree y))))))
+      (followedBy (evaluate h E (suc r) p) (λ x. followedBy (evaluate h E (suc r + size p) q) (λ y. gives (tree (node (resultTree x) (resultTree y))))))
   evaluate h E r (caseOf a p q) =
       begins
       (elim (treeOr (treeNamed E a)) [
         | leaf x ↦ evaluate h (withNumber x E) (suc r) p
         | node left right ↦ evaluate h (withTrees left right E) (suc r + size p) q
       ])
-  evaluate h E r (call a b xs) = begins (next (evaluateArgs h E (suc r) xs []) (λ numbers. h r b numbers (treeOr (treeNamed E a))))
+  evaluate h E r (call a b xs) = begins (followedBy (evaluateArgs h E (suc r) xs []) (λ numbers. h r b numbers (treeOr (treeNamed E a))))
 
-  -- A Call's arguments from record r on, behind the numbers found before.
+  -- A Call's arguments from record r on, after the numbers found before.
   pub evaluateArgs : Handler → Environment → ℕ → Args → List ℕ → Outcome (List ℕ)
   evaluateArgs h E r noArgs numbers = gives numbers
-  evaluateArgs h E r (arg x xs) numbers = next (evaluate h E r x) (λ v. evaluateArgs h E (r + size x) xs (resultNumber v ∷ numbers))
+  evaluateArgs h E r (arg x xs) numbers = followedBy (evaluate h E r x) (λ v. evaluateArgs h E (r + size x) xs (resultNumber v ∷ numbers))
 
 -- A function's first node.
 unfoldable pub firstRecord : Program → ℕ → ℕ
@@ -106,8 +106,8 @@ unfoldable pub evaluation : Program → ℕ → Tree → Outcome Value
 evaluation program calls t = called program calls 0 0 [] t
 
 -- 01, The source run: "The source run's fuel is expressions begun, looked at before each".
-unfoldable pub within : {A : Type 0} → ℕ → Outcome A → Outcome A
-within fuel (gives x) = gives x
-within fuel (stops why r) = stops why r
-within zero (begins o) = stops fuelUsedUp 0
-within (suc fuel) (begins o) = begins (within fuel o)
+unfoldable pub withFuel : {A : Type 0} → ℕ → Outcome A → Outcome A
+withFuel fuel (gives x) = gives x
+withFuel fuel (stops why r) = stops why r
+withFuel zero (begins o) = stops fuelUsedUp 0
+withFuel (suc fuel) (begins o) = begins (withFuel fuel o)

@@ -7,7 +7,7 @@ use lib.ListN.{length, take, drop}
 use lib.Dec.{leb, ltb, eqb}
 use Rattle.formats.specs.Numbers.{bytesOf, numberAt, sum32}
 use Rattle.formats.specs.Refusals.{inputEnded, notATag, outputFull, tooManyCalls, cannotPerform}
-use Rattle.formats.specs.Tokens.{leafTag, nodeTag, labelBytes, Tag, ended, aLeaf, aNode, other, tagAt}
+use Rattle.formats.specs.Tokens.{leafTag, nodeTag, labelBytes, Tag, noByte, aLeaf, aNode, other, tagAt}
 use Rattle.meaning.specs.Levels.{atLevel}
 use Rattle.meaning.specs.Instructions.{Instruction, Operation, Push, Get, Add, Ifnot, Jump, Slide, Drop, LeafTag, NodeTag, WriteNumber, ReadTag, ReadNumber, Call, Return, operationOf}
 
@@ -55,7 +55,7 @@ standing s = length (s .frame) + wordsBelow (s .callers)
 unfoldable pub opened : State → ℕ
 opened s = suc (length (s .callers))
 
--- What becomes of an instruction. 01, Fuel and units: "A refused instruction counts nothing and
+-- The outcome of an instruction. 01, Fuel and units: "A refused instruction counts nothing and
 -- changes nothing." 01, The answer of a stream run: "The run ends at the return of the first frame.
 -- Its answer gives .. the number (0 for a tree ..)".
 pub data Step : Type 0 where
@@ -70,8 +70,8 @@ abbrev pub to : ℕ → State → State
 to a s = record { address = a; frame = s .frame; callers = s .callers; read = s .read; output = s .output }
 
 -- Goes on at the next address.
-abbrev pub next : State → State
-next s = to (suc (s .address)) s
+abbrev pub toNext : State → State
+toNext s = to (suc (s .address)) s
 
 -- With these words in the frame.
 abbrev pub holding : List ℕ → State → State
@@ -81,7 +81,7 @@ holding words s = record { address = s .address; frame = words; callers = s .cal
 abbrev pub reading : ℕ → State → State
 reading bytes s = record { address = s .address; frame = s .frame; callers = s .callers; read = s .read + bytes; output = s .output }
 
--- With these bytes written behind the others.
+-- With these bytes written after the others.
 abbrev pub writing : List ℕ → State → State
 writing bytes s = record { address = s .address; frame = s .frame; callers = s .callers; read = s .read; output = s .output ++ bytes }
 
@@ -112,31 +112,31 @@ unfoldable pub room : Setting → State → Step → Step
 room m s then = elim (ltb (standing s) (m .mostWords)) [ true ↦ then | false ↦ refuses cannotPerform ]
 
 -- A word pushed.
-unfoldable pub push : Setting → ℕ → State → Step
-push m x s = room m s (goes (next (holding (x ∷ s .frame) s)))
+unfoldable pub pushWord : Setting → ℕ → State → Step
+pushWord m x s = room m s (goes (toNext (holding (x ∷ s .frame) s)))
 
 -- 01, Opcodes: "17 output full". 01, Notation: "Four bytes are read or written together or none."
 unfoldable pub write : Setting → List ℕ → State → Step
-write m bytes s = elim (leb (length (s .output) + length bytes) (m .space)) [ true ↦ goes (next (writing bytes s)) | false ↦ refuses outputFull ]
+write m bytes s = elim (leb (length (s .output) + length bytes) (m .space)) [ true ↦ goes (toNext (writing bytes s)) | false ↦ refuses outputFull ]
 
 -- 01, Opcodes: "leaf goes on, node goes to operand"; "15 input ended, 16 byte not 1 or 2".
-unfoldable pub byTag : Tag → ℕ → State → Step
-byTag ended a s = refuses inputEnded
-byTag aLeaf a s = goes (next (reading 1 s))
-byTag aNode a s = goes (to a (reading 1 s))
-byTag other a s = refuses notATag
+unfoldable pub onTag : Tag → ℕ → State → Step
+onTag noByte a s = refuses inputEnded
+onTag aLeaf a s = goes (toNext (reading 1 s))
+onTag aNode a s = goes (to a (reading 1 s))
+onTag other a s = refuses notATag
 
 -- The four bytes of a number, pushed.
-unfoldable pub readNumber : Setting → State → Step
-readNumber m s =
+unfoldable pub takeNumber : Setting → State → Step
+takeNumber m s =
     elim (leb (s .read + labelBytes) (length (m .input))) [
-      | true ↦ goes (next (reading labelBytes (holding (numberAt labelBytes (m .input) (s .read) ∷ s .frame) s)))
+      | true ↦ goes (toNext (reading labelBytes (holding (numberAt labelBytes (m .input) (s .read) ∷ s .frame) s)))
       | false ↦ refuses inputEnded
     ]
 
 -- 01, Opcodes: "call (operand: entry; byte 1: arguments, the new frame's first words)".
-unfoldable pub call : Setting → ℕ → ℕ → State → Step
-call m entry n s =
+unfoldable pub openCall : Setting → ℕ → ℕ → State → Step
+openCall m entry n s =
     elim (ltb (opened s) (m .mostOpen)) [
       | true ↦ goes (calling entry (take n (s .frame)) (drop n (s .frame)) s)
       | false ↦ refuses tooManyCalls
@@ -165,19 +165,19 @@ leave (c ∷ cs) words s = goes (returning words c cs s)
 -- One line for each opcode, 0 to 13. 01, Instructions that cannot be performed: "At one instruction
 -- 19 comes before 15 to 18".
 unfoldable pub operate : Setting → State → Operation → Step
-operate m s (Push x) = push m x s
-operate m s (Get k) = elim (atLevel (s .frame) k) [ some x ↦ push m x s | none ↦ refuses cannotPerform ]
-operate m s Add = two (s .frame) (λ q p rest. goes (next (holding (sum32 p q ∷ rest) s)))
+operate m s (Push x) = pushWord m x s
+operate m s (Get k) = elim (atLevel (s .frame) k) [ some x ↦ pushWord m x s | none ↦ refuses cannotPerform ]
+operate m s Add = two (s .frame) (λ q p rest. goes (toNext (holding (sum32 p q ∷ rest) s)))
 operate m s (Ifnot a) = one (s .frame) (λ x rest. goes (to (elim (eqb x 0) [ true ↦ suc (s .address) | false ↦ a ]) (holding rest s)))
 operate m s (Jump a) = goes (to a s)
-operate m s Slide = two (s .frame) (λ x under rest. goes (next (holding (x ∷ rest) s)))
-operate m s Drop = one (s .frame) (λ x rest. goes (next (holding rest s)))
+operate m s Slide = two (s .frame) (λ x under rest. goes (toNext (holding (x ∷ rest) s)))
+operate m s Drop = one (s .frame) (λ x rest. goes (toNext (holding rest s)))
 operate m s LeafTag = write m (leafTag ∷ []) s
 operate m s NodeTag = write m (nodeTag ∷ []) s
 operate m s WriteNumber = one (s .frame) (λ x rest. write m (bytesOf labelBytes x) (holding rest s))
-operate m s (ReadTag a) = byTag (tagAt (m .input) (s .read)) a s
-operate m s ReadNumber = room m s (readNumber m s)
-operate m s (Call entry n) = elim (leb n (length (s .frame))) [ true ↦ call m entry n s | false ↦ refuses cannotPerform ]
+operate m s (ReadTag a) = onTag (tagAt (m .input) (s .read)) a s
+operate m s ReadNumber = room m s (takeNumber m s)
+operate m s (Call entry n) = elim (leb n (length (s .frame))) [ true ↦ openCall m entry n s | false ↦ refuses cannotPerform ]
 operate m s (Return k) = elim (kept k (s .frame)) [ some words ↦ leave (s .callers) words s | none ↦ refuses cannotPerform ]
 
 -- On its fields. 01, Instructions that cannot be performed: "19 .. (opcode ..)".

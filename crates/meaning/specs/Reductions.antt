@@ -9,15 +9,15 @@ use Rattle.formats.specs.Numbers.{sum32}
 use Rattle.formats.specs.Tokens.{Tree, leaf as aLeaf, node as aNode}
 use Rattle.formats.specs.Records.{nth}
 use Rattle.formats.specs.Programs.{Function, Program}
-use Rattle.rules.specs.Printed.{Name, number, tree, function, Term, int, lam, name, app, plus, fix, leaf, node, case, let-01, ifZero-01, functionTerm}
+use Rattle.rules.specs.Printed.{Name, numberName, treeName, functionName, Term, int, lam, name, app, plus, fix, leafTerm, nodeTerm, case, let-01, ifZero-01, functionTerm}
 use Rattle.meaning.specs.Evaluation.{Value}
 
 -- ---- values
 
 -- 000, Figure 3: "V (tree values) ::= leaf i | node V₁ V₂".
 pub data TreeValue : Term → Type 0 where
-  leaf-value : {i : ℕ} → TreeValue (leaf (int i))
-  node-value : {V₁ V₂ : Term} → TreeValue V₁ → TreeValue V₂ → TreeValue (node V₁ V₂)
+  leaf-value : {i : ℕ} → TreeValue (leafTerm (int i))
+  node-value : {V₁ V₂ : Term} → TreeValue V₁ → TreeValue V₂ → TreeValue (nodeTerm V₁ V₂)
 
 -- 000, Figure 3: "W (values) ::= i | λx.M | V".
 pub data IsValue : Term → Type 0 where
@@ -32,15 +32,15 @@ abbrev pub Substitution : Type 0
 Substitution = Name → Option Term
 
 unfoldable pub sameName : Name → Name → Bool
-sameName (number j) (number k) = eqb j k
-sameName (tree j) (tree k) = eqb j k
-sameName (function j) (function k) = eqb j k
-sameName (number j) (tree k) = false
-sameName (number j) (function k) = false
-sameName (tree j) (number k) = false
-sameName (tree j) (function k) = false
-sameName (function j) (number k) = false
-sameName (function j) (tree k) = false
+sameName (numberName j) (numberName k) = eqb j k
+sameName (treeName j) (treeName k) = eqb j k
+sameName (functionName j) (functionName k) = eqb j k
+sameName (numberName j) (treeName k) = false
+sameName (numberName j) (functionName k) = false
+sameName (treeName j) (numberName k) = false
+sameName (treeName j) (functionName k) = false
+sameName (functionName j) (numberName k) = false
+sameName (functionName j) (treeName k) = false
 
 -- W/x
 unfoldable pub only : Name → Term → Substitution
@@ -67,8 +67,8 @@ substitute σ (name x) = replaced x (σ x)
 substitute σ (app M₁ M₂) = app (substitute σ M₁) (substitute σ M₂)
 substitute σ (plus M₁ M₂) = plus (substitute σ M₁) (substitute σ M₂)
 substitute σ (fix f M) = fix f (substitute (without f σ) M)
-substitute σ (leaf M) = leaf (substitute σ M)
-substitute σ (node M₁ M₂) = node (substitute σ M₁) (substitute σ M₂)
+substitute σ (leafTerm M) = leafTerm (substitute σ M)
+substitute σ (nodeTerm M₁ M₂) = nodeTerm (substitute σ M₁) (substitute σ M₂)
 substitute σ (case M x M₁ x₁ x₂ M₂) =
     case (substitute σ M) x (substitute (without x σ) M₁) x₁ x₂ (substitute (without x₁ (without x₂ σ)) M₂)
 substitute σ (let-01 x M₁ M₂) = let-01 x (substitute σ M₁) (substitute (without x σ) M₂)
@@ -78,13 +78,13 @@ substitute σ (ifZero-01 M M₁ M₂) = ifZero-01 (substitute σ M) (substitute 
 
 -- fix f.M, for function b.
 unfoldable pub fixOf : ℕ → Function → Term
-fixOf b f = fix (function b) (functionTerm f)
+fixOf b f = fix (functionName b) (functionTerm f)
 
 -- Each function's name is replaced by its own fix.
 unfoldable pub fixes : Program → Substitution
-fixes program (number k) = none
-fixes program (tree k) = none
-fixes program (function b) = elim (nth (program .functions) b) [ none ↦ none | some f ↦ some (fixOf b f) ]
+fixes program (numberName k) = none
+fixes program (treeName k) = none
+fixes program (functionName b) = elim (nth (program .functions) b) [ none ↦ none | some f ↦ some (fixOf b f) ]
 
 -- fix f.M/f. The fix of 000, Figure 3 binds one function; where functions call each other, their
 -- names are bound all at once, and each is replaced by its own fix.
@@ -104,13 +104,13 @@ pub data Redex (program : Program) : Term → Term → Type 0 where
   -- fix f.M ⟶ [fix f.M/f]M
   Es-Fix : {f : Name} {M : Term} → Redex program (fix f M) (substitute (fixing program f M) M)
   -- case leaf i of leaf x ⇒ M₁ | node x₁ x₂ ⇒ M₂ ⟶ [i/x]M₁
-  Es-Case1 : {i : ℕ} {x x₁ x₂ : Name} {M₁ M₂ : Term} → Redex program (case (leaf (int i)) x M₁ x₁ x₂ M₂) (substitute (only x (int i)) M₁)
+  Es-Case1 : {i : ℕ} {x x₁ x₂ : Name} {M₁ M₂ : Term} → Redex program (case (leafTerm (int i)) x M₁ x₁ x₂ M₂) (substitute (only x (int i)) M₁)
   -- case node V₁ V₂ of leaf x ⇒ M₁ | node x₁ x₂ ⇒ M₂ ⟶ [V₁/x₁, V₂/x₂]M₂
   Es-Case2 :
       {V₁ V₂ : Term} {x x₁ x₂ : Name} {M₁ M₂ : Term}
       → TreeValue V₁
       → TreeValue V₂
-      → Redex program (case (node V₁ V₂) x M₁ x₁ x₂ M₂) (substitute (both x₁ V₁ x₂ V₂) M₂)
+      → Redex program (case (nodeTerm V₁ V₂) x M₁ x₁ x₂ M₂) (substitute (both x₁ V₁ x₂ V₂) M₂)
   -- 01, Let and IfZero: "IfZero takes its zero part on 0, else the other, like document 003's
   -- `if`."
   IfZero-zero : {M₁ M₂ : Term} → Redex program (ifZero-01 (int zero) M₁ M₂) M₁
@@ -149,9 +149,9 @@ plug (app-left E N) M = app (plug E M) N
 plug (app-right x N E) M = app (lam x N) (plug E M)
 plug (plus-left E N) M = plus (plug E M) N
 plug (plus-right i E) M = plus (int i) (plug E M)
-plug (in-leaf E) M = leaf (plug E M)
-plug (node-left E N) M = node (plug E M) N
-plug (node-right {V₁ = V₁} v E) M = node V₁ (plug E M)
+plug (in-leaf E) M = leafTerm (plug E M)
+plug (node-left E N) M = nodeTerm (plug E M) N
+plug (node-right {V₁ = V₁} v E) M = nodeTerm V₁ (plug E M)
 plug (in-case E x M₁ x₁ x₂ M₂) M = case (plug E M) x M₁ x₁ x₂ M₂
 plug (in-let x E N) M = let-01 x (plug E M) N
 plug (in-test E M₁ M₂) M = ifZero-01 (plug E M) M₁ M₂
@@ -168,13 +168,13 @@ pub data Leads (program : Program) : ℕ → Term → Term → Type 0 where
 -- ---- programs and values as terms
 
 unfoldable pub treeTerm : Tree → Term
-treeTerm (aLeaf x) = leaf (int x)
-treeTerm (aNode l r) = node (treeTerm l) (treeTerm r)
+treeTerm (aLeaf x) = leafTerm (int x)
+treeTerm (aNode l r) = nodeTerm (treeTerm l) (treeTerm r)
 
 unfoldable pub valueTerm : Value → Term
 valueTerm (Value.number i) = int i
 valueTerm (Value.tree t) = treeTerm t
 
 -- The program applied to the tree: its function 0, a fixed point, on the tree's term.
-unfoldable pub applied : Function → Tree → Term
-applied first t = app (fixOf 0 first) (treeTerm t)
+unfoldable pub programOn : Function → Tree → Term
+programOn first t = app (fixOf 0 first) (treeTerm t)

@@ -26,8 +26,8 @@ abbrev pub stopped : State → Stop → Run
 stopped s why = record { performed = []; last = s; stop = why }
 
 -- The instruction at an address is performed first.
-abbrev pub after : ℕ → Run → Run
-after a r = record { performed = a ∷ r .performed; last = r .last; stop = r .stop }
+abbrev pub afterPerforming : ℕ → Run → Run
+afterPerforming a r = record { performed = a ∷ r .performed; last = r .last; stop = r .stop }
 
 -- 01, Fuel and units: "One unit of fuel is one instruction performed." "A refused instruction
 -- counts nothing and changes nothing. Fuel is looked at first."
@@ -35,8 +35,8 @@ unfoldable pub run : Setting → ℕ → State → Run
 run m zero s = stopped s (refused fuelUsedUp)
 run m (suc fuel) s =
     elim (step m s) [
-      | goes t ↦ after (s .address) (run m fuel t)
-      | ends number ↦ after (s .address) (stopped s (ended number))
+      | goes t ↦ afterPerforming (s .address) (run m fuel t)
+      | ends number ↦ afterPerforming (s .address) (stopped s (ended number))
       | refuses number ↦ stopped s (refused number)
     ]
 
@@ -59,9 +59,9 @@ unfoldable pub outcomeOf : Stop → ℕ → Result (Unit {0})
 outcomeOf (ended number) read = done tt
 outcomeOf (refused number) read = refusal number read
 
-unfoldable pub numberTold : Stop → ℕ
-numberTold (ended number) = number
-numberTold (refused number) = 0
+unfoldable pub numberReported : Stop → ℕ
+numberReported (ended number) = number
+numberReported (refused number) = 0
 
 abbrev pub answerOf : Run → Answer
 answerOf r =
@@ -70,7 +70,7 @@ answerOf r =
       units = unitsOf r;
       bytesRead = r .last .read;
       bytesWritten = length (r .last .output);
-      number = numberTold (r .stop);
+      number = numberReported (r .stop);
     }
 
 -- 01, Work words: "Both runs lend 16,384 value words and 1,024 return places of two words." 01, The

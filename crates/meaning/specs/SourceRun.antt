@@ -13,7 +13,7 @@ use Rattle.formats.specs.Written.{written}
 use Rattle.rules.specs.PassOne.{passOne}
 use Rattle.meaning.specs.Running.{valueWords, returnWords, mostCalls}
 use Rattle.meaning.specs.Evaluation.{Value, resultBytes, resultNumber}
-use Rattle.meaning.specs.OpenCalls.{Outcome, gives, stops, begins, evaluation, within}
+use Rattle.meaning.specs.OpenCalls.{Outcome, gives, stops, begins, evaluation, withFuel}
 
 -- 01, The source run: "The source run's gives expressions begun, bytes written and the number".
 pub record SourceAnswer : Type 0 where
@@ -31,10 +31,10 @@ pub record SourceRan : Type 0 where
 -- 01, The source run: "refused, the last two are 0". 01, What the lent buffers hold: "A refusal
 -- leaves every output buffer untouched".
 abbrev pub refusedAfter : ℕ → ℕ → ℕ → List ℕ → SourceRan
-refusedAfter begun number place output =
-    record { answer = record { outcome = refusal number place; begun = begun; bytesWritten = 0; number = 0 }; output = output }
+refusedAfter begun number position output =
+    record { answer = record { outcome = refusal number position; begun = begun; bytesWritten = 0; number = 0 }; output = output }
 
--- The value's bytes written from the output's start, its number told.
+-- The value's bytes written from the output's start, its number reported.
 abbrev pub endedAfter : ℕ → Value → List ℕ → SourceRan
 endedAfter begun v output =
     record {
@@ -43,23 +43,23 @@ endedAfter begun v output =
     }
 
 -- 01, The source run: "17 output shorter than the result, after evaluation", at 0.
-unfoldable pub told : ℕ → Value → List ℕ → SourceRan
-told begun v output =
+unfoldable pub reported : ℕ → Value → List ℕ → SourceRan
+reported begun v output =
     elim (leb (length (resultBytes v)) (length output)) [
       | true ↦ endedAfter begun v output
       | false ↦ refusedAfter begun outputFull 0 output
     ]
 
--- What an evaluation's outcome is told as, where so many expressions have begun before. 01, The
--- table of refusals: "either run: 14 fuel used up, 18 a call with 1,024 open", the place: "source
+-- What an evaluation's outcome is reported as, where so many expressions have begun before. 01, The
+-- table of refusals: "either run: 14 fuel used up, 18 a call with 1,024 open", the position: "source
 -- run 0".
-unfoldable pub tellFrom : ℕ → Outcome Value → List ℕ → SourceRan
-tellFrom begun (gives v) output = told begun v output
-tellFrom begun (stops why r) output = refusedAfter begun why 0 output
-tellFrom begun (begins o) output = tellFrom (suc begun) o output
+unfoldable pub reportFrom : ℕ → Outcome Value → List ℕ → SourceRan
+reportFrom begun (gives v) output = reported begun v output
+reportFrom begun (stops why r) output = refusedAfter begun why 0 output
+reportFrom begun (begins o) output = reportFrom (suc begun) o output
 
 -- A program that passes pass one, with a tree.
-pub record Checked : Type 0 where
+pub record SourceInput : Type 0 where
   pub program : Program
   pub tree : Tree
 
@@ -67,7 +67,7 @@ pub record Checked : Type 0 where
 -- reader. 01, Checking: "The source run needs pass one only". 01, The order of the tests: "The runs
 -- test 13 before tree or fuel." 01, The source run: "The source run applies the tree reader before
 -- it evaluates."
-unfoldable pub checkSource : (file input : List ℕ) (values returns : ℕ) → Result Checked
+unfoldable pub checkSource : (file input : List ℕ) (values returns : ℕ) → Result SourceInput
 checkSource file input values returns =
     andThen
     (programIn file)
@@ -82,6 +82,6 @@ checkSource file input values returns =
 unfoldable pub sourceRun : (file input output : List ℕ) (fuel values returns : ℕ) → SourceRan
 sourceRun file input output fuel values returns =
     elim (checkSource file input values returns) [
-      | done c ↦ tellFrom 0 (within fuel (evaluation (c .program) mostCalls (c .tree))) output
-      | refusal number place ↦ refusedAfter 0 number place output
+      | done c ↦ reportFrom 0 (withFuel fuel (evaluation (c .program) mostCalls (c .tree))) output
+      | refusal number position ↦ refusedAfter 0 number position output
     ]

@@ -7,7 +7,7 @@ use mathlib.Core.Path.{_≡_}
 use mathlib.Core.Bool.{true, false}
 use lib.Dec.{eqb}
 use lib.ListN.{length, take, drop}
-use Rattle.formats.specs.Places.{Opens}
+use Rattle.formats.specs.Buffers.{Opens}
 use Rattle.formats.specs.Refusals.{fuelUsedUp, inputEnded, notATag, outputFull, tooManyCalls, cannotPerform}
 use Rattle.formats.specs.Results.{Result, done, refusal}
 use Rattle.formats.specs.Tokens.{labelBytes}
@@ -58,7 +58,7 @@ pub data Steps (m : Setting) : List ℕ → State → State → Type 0 where
   here : {s : State} → Steps m [] s s
   on : {past : List ℕ} {s t u : State} → step m s ≡ goes t → Steps m past t u → Steps m (s .address ∷ past) s u
 
--- A run with its fuel, from s on, told by its steps: the fuel is used up, or there is fuel for one more and the first frame returns, or that
+-- A run with its fuel, from s on, reported by its steps: the fuel is used up, or there is fuel for one more and the first frame returns, or that
 -- instruction is refused.
 pub data Stops (m : Setting) (fuel : ℕ) (s : State) : Run → Type 0 where
   used-up : {past : List ℕ} {t : State} → Steps m past s t → length past ≡ fuel → Stops m fuel s (record { performed = past; last = t; stop = refused fuelUsedUp })
@@ -100,7 +100,7 @@ pub record Runs (m : Setting) (s : State) : Type 0 where
 -- the input's end.
 unfoldable pub lookedAt : Result (Unit {0}) → ℕ
 lookedAt (done x) = 0
-lookedAt (refusal number place) =
+lookedAt (refusal number position) =
     elim (eqb number inputEnded) [
       | true ↦ labelBytes
       | false ↦ elim (eqb number notATag) [ true ↦ 1 | false ↦ 0 ]
@@ -121,10 +121,10 @@ untouchedBy r s = drop (r .answer .bytesWritten) s
 pub record Calls (output : List ℕ) (call : List ℕ → ℕ → Ran) : Type 0 where
   -- units never exceed the fuel, and equal it at 14
   pub within-fuel : (input : List ℕ) (fuel : ℕ) → call input fuel .answer .units ≤ fuel
-  pub fuel-used : (input : List ℕ) (fuel place : ℕ) → call input fuel .answer .outcome ≡ refusal fuelUsedUp place → call input fuel .answer .units ≡ fuel
-  -- a refusal's place is the bytes read, and its number 0
-  pub at-read : (input : List ℕ) (fuel why place : ℕ) → call input fuel .answer .outcome ≡ refusal why place → place ≡ call input fuel .answer .bytesRead
-  pub no-number : (input : List ℕ) (fuel why place : ℕ) → call input fuel .answer .outcome ≡ refusal why place → call input fuel .answer .number ≡ 0
+  pub fuel-used : (input : List ℕ) (fuel position : ℕ) → call input fuel .answer .outcome ≡ refusal fuelUsedUp position → call input fuel .answer .units ≡ fuel
+  -- a refusal's position is the bytes read, and its number 0
+  pub at-read : (input : List ℕ) (fuel why position : ℕ) → call input fuel .answer .outcome ≡ refusal why position → position ≡ call input fuel .answer .bytesRead
+  pub no-number : (input : List ℕ) (fuel why position : ℕ) → call input fuel .answer .outcome ≡ refusal why position → call input fuel .answer .number ≡ 0
   -- what is read is there, what is written fits, and the rest of the output is untouched
   pub read-there : (input : List ℕ) (fuel : ℕ) → call input fuel .answer .bytesRead ≤ length input
   pub written-fits : (input : List ℕ) (fuel : ℕ) → call input fuel .answer .bytesWritten ≤ length output
@@ -138,7 +138,7 @@ pub record Calls (output : List ℕ) (call : List ℕ → ℕ → Ran) : Type 0 
   -- so does one that is refused, save where its fuel is used up
   pub stays :
       (input : List ℕ) (fuel more : ℕ)
-      → ((place : ℕ) → call input fuel .answer .outcome ≢ refusal fuelUsedUp place)
+      → ((position : ℕ) → call input fuel .answer .outcome ≢ refusal fuelUsedUp position)
       → fuel ≤ more
       → call input more ≡ call input fuel
   -- every other input that opens with the bytes read, and agrees on those looked at besides, gives the same answer and output

@@ -24,5 +24,5 @@ pub record WorkWords (before : ℕ → Bool) (outcome : Result (Unit {0})) (valu
   pub values-length : length values′ ≡ length values
   pub returns-length : length returns′ ≡ length returns
   -- refused before the run: untouched
-  pub values-kept : (number place : ℕ) → outcome ≡ refusal number place → before number ≡ true → values′ ≡ values
-  pub returns-kept : (number place : ℕ) → outcome ≡ refusal number place → before number ≡ true → returns′ ≡ returns
+  pub values-kept : (number position : ℕ) → outcome ≡ refusal number position → before number ≡ true → values′ ≡ values
+  pub returns-kept : (number position : ℕ) → outcome ≡ refusal number position → before number ≡ true → returns′ ≡ returns

@@ -66,4 +66,4 @@ unfolding firstEnd firstTree
 end-inside s n e =
     let t = ended-by 0 (firstTree s) n e in
     let h = tree-inside s mostDepth 0 (t .it) (t .is) in
-    omega (arith, t .place)
+    omega (arith, t .position)

@@ -1,3 +1,3 @@
 -- Laws for the function that finds a named tree.
 pub mod Ends
-pub mod Places
+pub mod Offsets

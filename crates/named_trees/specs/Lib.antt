@@ -1,2 +1,2 @@
 -- Where named trees begin.
-pub mod Places
+pub mod Inner

@@ -3,10 +3,10 @@ use frames::TREE;
 use stages::Stage;
 use tree::TreeAnswer;
 ghost use mathlib.Core.Path.{_≡_};
-ghost use Rattle.stepwise.specs.Steps.{treeAt};
-ghost use Rattle.named_trees.specs.Places.{partAt, treePlace};
+ghost use Rattle.stepwise.specs.Inner.Steps.{treeAt};
+ghost use Rattle.named_trees.specs.Inner.Offsets.{partAt, treeOffset};
 
-// Where a tree of the node at place `node` begins: the left one for an even j, else the right one. The tree at `known` ends at `end`; of another left tree
+// Where a tree of the node at offset `node` begins: the left one for an even j, else the right one. The tree at `known` ends at `end`; of another left tree
 // the end is looked for.
 fn part_of(input: &[u8], known: usize, end: usize, node: usize, j: u16) -> usize
     ensures { λ r. ⌜ r ≡ partAt (now (input .entry)) known end node j ⌝ }
@@ -24,7 +24,7 @@ fn part_of(input: &[u8], known: usize, end: usize, node: usize, j: u16) -> usize
     let bytes = &input[left..];
     let found = tree::tree_answer(bytes);
     match found {
-        TreeAnswer::Refused(why, place) => 0,
+        TreeAnswer::Refused(why, offset) => 0,
         // A tree ends within its bytes, so the test never holds; with it the sum is seen to fit.
         TreeAnswer::Tree(length) => {
             if bytes.len() < length {
@@ -37,8 +37,8 @@ fn part_of(input: &[u8], known: usize, end: usize, node: usize, j: u16) -> usize
 
 // Where the tree of this code begins, in a frame whose own tree is at `own`: 0 is that tree, 2c + 1 the left tree and 2c + 2 the right one of the tree
 // that the Case at record c looks at. The code falls at each call, and the Cases are nested.
-fn place_of(table: &[u16], input: &[u8], own: usize, known: usize, end: usize, code: u16) -> usize
-    ensures { λ r. ⌜ r ≡ treePlace (now (table .entry)) (now (input .entry)) own known end code ⌝ }
+fn offset_of(table: &[u16], input: &[u8], own: usize, known: usize, end: usize, code: u16) -> usize
+    ensures { λ r. ⌜ r ≡ treeOffset (now (table .entry)) (now (input .entry)) own known end code ⌝ }
 {
     if code == 0 {
         return own;
@@ -48,14 +48,14 @@ fn place_of(table: &[u16], input: &[u8], own: usize, known: usize, end: usize, c
     if code <= outer {
         return 0;
     }
-    let node = place_of(table, input, own, known, end, outer);
+    let node = offset_of(table, input, own, known, end, outer);
     part_of(input, known, end, node, j)
 }
 
 // Where the tree begins that the stage's record names.
-pub fn named_place(table: &[u16], input: &[u8], s: Stage) -> usize
-    ensures { λ r. ⌜ r ≡ treePlace (now (table .entry)) (now (input .entry)) (s .tree) (s .known) (s .end) (treeAt (now (table .entry)) (s .node)) ⌝ }
+pub fn named_offset(table: &[u16], input: &[u8], s: Stage) -> usize
+    ensures { λ r. ⌜ r ≡ treeOffset (now (table .entry)) (now (input .entry)) (s .tree) (s .known) (s .end) (treeAt (now (table .entry)) (s .node)) ⌝ }
 {
     let code = frames::field(table, s.node, TREE);
-    place_of(table, input, s.tree, s.known, s.end, code)
+    offset_of(table, input, s.tree, s.known, s.end, code)
 }

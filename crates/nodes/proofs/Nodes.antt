@@ -9,9 +9,9 @@ use Rattle.formats.specs.Results.{Result, done, refusal, onValue, verdict, each
 use Rattle.formats.specs.Records.{recordAt, partCount}
 use Rattle.formats.specs.Rows.{headerIn, arityIn, nodeIn, nodeRow}
 use Rattle.formats.proofs.Results.{byResult, done-injective, done-not, Passing, pass-more, pass-refused, pass-all}
-use Rattle.refusal.specs.Number.{number}
+use Rattle.refusal.specs.Inner.Numbers.{number}
 use Rattle.refusal.specs.declared.Refusal.{Refusal}
-use Rattle.records.specs.Read.{Shape, described, listed, shapeOf}
+use Rattle.records.specs.Inner.Read.{Shape, described, listed, shapeOf}
 use Rattle.records.specs.declared.Part.{Part}
 use Rattle.records.specs.declared.Parts.{Parts}
 use Rattle.records.specs.declared.Parts.the-variants.{None, One, Two, Three, Arguments}
@@ -19,14 +19,14 @@ use Rattle.records.specs.declared.Record.{Record}
 use Rattle.records.specs.declared.Template.{Template}
 use Rattle.records.specs.declared.RecordRead.{RecordRead}
 use Rattle.records.specs.declared.RecordRead.the-variants.{Read, Refused}
-use Rattle.nodes.specs.Parts.{partsIn}
+use Rattle.nodes.specs.Inner.Parts.{partsIn}
 
 -- ---- `node_row`
 
 -- what is said of a changed value is said of the value
 value-said : {A B : Type 0} (f : A → B) (r : Result A) → verdict (onValue f r) ≡ verdict r
 value-said f (done x) = refl
-value-said f (refusal number place) = refl
+value-said f (refusal number position) = refl
 
 module _ (s : List ℕ) where
   pub nodes-first :
@@ -37,21 +37,21 @@ module _ (s : List ℕ) where
   unfolding nodeRow headerIn recordAt nodeIn
   nodes-first functions nodes ef en =
       let count : numberAt 2 s 2 ≡ (1 + functions + nodes) - (1 + functions) = omega arith in
-      let place : suc (getD s 1 0) ≡ 1 + functions = omega arith in
-      record { left = ap₂ (λ n k. verdict (each (nodeIn s) n k)) count place }
+      let position : suc (getD s 1 0) ≡ 1 + functions = omega arith in
+      record { left = ap₂ (λ n k. verdict (each (nodeIn s) n k)) count position }
 
   module _ (all : Result (Unit {0})) (end k : ℕ) (more : k < end) (p : Passing (nodeIn s) all end k)
-      (found : RecordRead) (told : described found ≡ onValue shapeOf (nodeIn s k))
+      (found : RecordRead) (reported : described found ≡ onValue shapeOf (nodeIn s k))
     where
       -- what the record read says of the node
       node-said : verdict (nodeIn s k) ≡ verdict (described found)
-      node-said = sym (ap verdict told ∙ value-said shapeOf (nodeIn s k))
+      node-said = sym (ap verdict reported ∙ value-said shapeOf (nodeIn s k))
 
       pub nodes-more : (node : Record) (parts : Parts) (template : Template) → found ≡ Read node parts template → Passing (nodeIn s) all end (k + 1)
       nodes-more node parts template case = pass-more _ all end k more p (node-said ∙ ap (λ f. verdict (described f)) case)
 
-      pub nodes-refused : (why : Refusal) (place : ℕ) → found ≡ Refused why place → refusal (number why) place ≡ all
-      nodes-refused why place case = pass-refused _ all end k (number why) place more p (node-said ∙ ap (λ f. verdict (described f)) case)
+      pub nodes-refused : (why : Refusal) (position : ℕ) → found ≡ Refused why position → refusal (number why) position ≡ all
+      nodes-refused why position case = pass-refused _ all end k (number why) position more p (node-said ∙ ap (λ f. verdict (described f)) case)
 
 pub ruleset nodes-checked = (nodes-first, nodes-more, nodes-refused, pass-all)
 
@@ -82,19 +82,19 @@ pub ruleset parts-counted = (count-none, count-one, count-two, count-three, coun
 
 -- ---- `parts_at`
 
-module _ (s : List ℕ) (k : ℕ) (found : RecordRead) (told : described found ≡ onValue shapeOf (nodeIn s k)) where
+module _ (s : List ℕ) (k : ℕ) (found : RecordRead) (reported : described found ≡ onValue shapeOf (nodeIn s k)) where
   pub parts-read : (node : Record) (parts : Parts) (template : Template) (n : ℕ) → found ≡ Read node parts template → n ≡ partCount (arityIn s) (listed parts) → n ≡ partsIn s k
   unfolding partsIn
   parts-read node parts template n case e = byResult (nodeIn s k)
       (λ kind h.
-      let same = done-injective (ap described (sym case) ∙ told ∙ ap (onValue shapeOf) h) in
+      let same = done-injective (ap described (sym case) ∙ reported ∙ ap (onValue shapeOf) h) in
       e ∙ ap (λ (shape : Shape). partCount (arityIn s) (shape .parts)) same ∙ sym (rw (h, partsIn)))
-      (λ m q h. done-not (sym told ∙ ap described case) (ap (onValue shapeOf) h))
+      (λ m q h. done-not (sym reported ∙ ap described case) (ap (onValue shapeOf) h))
 
-  pub parts-refused : (why : Refusal) (place : ℕ) → found ≡ Refused why place → 0 ≡ partsIn s k
+  pub parts-refused : (why : Refusal) (position : ℕ) → found ≡ Refused why position → 0 ≡ partsIn s k
   unfolding partsIn
-  parts-refused why place case = byResult (nodeIn s k)
-      (λ kind h. done-not (ap (onValue shapeOf) h) (sym told ∙ ap described case))
+  parts-refused why position case = byResult (nodeIn s k)
+      (λ kind h. done-not (ap (onValue shapeOf) h) (sym reported ∙ ap described case))
       (λ m q h. sym (rw (h, partsIn)))
 
 pub ruleset parts-found = (parts-read, parts-refused)

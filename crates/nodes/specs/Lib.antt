@@ -1,2 +1,2 @@
 -- What the functions over nodes answer.
-pub mod Parts
+pub mod Inner

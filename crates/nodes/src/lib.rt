@@ -6,13 +6,13 @@ ghost use mathlib.Core.Path.{_≡_};
 ghost use Rattle.formats.specs.Records.{partCount};
 ghost use Rattle.formats.specs.Results.{verdict};
 ghost use Rattle.formats.specs.Rows.{headerIn, arityIn, nodeRow};
-ghost use Rattle.refusal.specs.Said.{said};
-ghost use Rattle.records.specs.Read.{listed};
-ghost use Rattle.nodes.specs.Parts.{partsIn};
+ghost use Rattle.refusal.specs.Inner.Verdicts.{verdictResult};
+ghost use Rattle.records.specs.Inner.Read.{listed};
+ghost use Rattle.nodes.specs.Inner.Parts.{partsIn};
 
 // The row "nodes".
 pub fn node_row(flat: &[u8]) -> Verdict
-    ensures { λ r. ⌜ said r ≡ verdict (nodeRow (headerIn (now (flat .entry))) (now (flat .entry))) ⌝ }
+    ensures { λ r. ⌜ verdictResult r ≡ verdict (nodeRow (headerIn (now (flat .entry))) (now (flat .entry))) ⌝ }
 {
     let functions = signatures::functions_in(flat) as usize;
     let nodes = signatures::nodes_in(flat) as usize;
@@ -24,8 +24,8 @@ pub fn node_row(flat: &[u8]) -> Verdict
             RecordRead::Read(node, parts, template) => {
                 k = k + 1;
             }
-            RecordRead::Refused(why, place) => {
-                return Verdict::Refused(why, place);
+            RecordRead::Refused(why, position) => {
+                return Verdict::Refused(why, position);
             }
         }
     }
@@ -52,6 +52,6 @@ pub fn parts_at(flat: &[u8], k: usize) -> usize
     let found = records::record_at(flat, k);
     match found {
         RecordRead::Read(node, parts, template) => part_count(flat, parts),
-        RecordRead::Refused(why, place) => 0,
+        RecordRead::Refused(why, position) => 0,
     }
 }

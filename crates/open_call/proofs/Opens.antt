@@ -9,16 +9,16 @@ use native.Mathlib.Omega.{arith}
 use borrow.Author.Tests.{eqb-false, lt-ltb, le-ltb}
 use lib.Dec.{leb, ltb}
 use lib.ListN.{length, getD, set, length-set}
-use Rattle.stepwise.specs.Steps.{State, begin, deep, stuck, operandAt, treeAt, moreAt, slotAt, frameWords, recordLimit, mostWaiting, Found, copied, opening}
+use Rattle.stepwise.specs.Inner.Steps.{State, begin, deep, stuck, operandAt, treeAt, moreAt, slotAt, frameWords, recordLimit, mostWaiting, Found, copied, opening}
 use Rattle.stepwise.proofs.Steps.{opens-deep, opens-frame}
 use Rattle.stepwise.proofs.Words.{copied-length}
 use Rattle.frames.proofs.Laws.{none-put}
 use Rattle.stages.specs.declared.Stage.{Stage}
-use Rattle.stages.specs.Stages.{toBegin, isThrough, toOpen, tooManyOpen, isStuck, stateOf, staged, stageOf, wordsOf, placesOf}
+use Rattle.stages.specs.Inner.Stages.{toBegin, isFinished, toOpen, tooManyOpen, isStuck, stateOf, staged, stageOf, wordsOf, returnsOf}
 use Rattle.stages.proofs.Stages.{reach-deep, reach-stuck}
-use Rattle.named_trees.specs.Places.{treePlace, namedBy}
-use Rattle.named_trees.proofs.Places.{found-place}
-use Rattle.open_call.specs.Opens.{openedTurn, Opens}
+use Rattle.named_trees.specs.Inner.Offsets.{treeOffset, namedBy}
+use Rattle.named_trees.proofs.Offsets.{found-offset}
+use Rattle.open_call.specs.Inner.Opens.{openedTurn, Opens}
 
 -- ---- `put_return`
 
@@ -78,44 +78,44 @@ module _ (T input : List ℕ) (r : ℕ) (s : State) where
   unfolding openedTurn
   opened-past past = simp (openedTurn, le-ltb _ _ past)
 
-module _ (T input values places : List ℕ) (s : Stage) where
-  pub open-past : (r : Stage) → recordLimit ≤ s .node → r ≡ staged s isStuck (s .node) 0 → Opens T input values values places places s r
-  open-past r past e = rw e (record { is = rw (opened-past T input (s .node) (stateOf values places s) past) (reach-stuck values places s) })
+module _ (T input values returns : List ℕ) (s : Stage) where
+  pub open-past : (r : Stage) → recordLimit ≤ s .node → r ≡ staged s isStuck (s .node) 0 → Opens T input values values returns returns s r
+  open-past r past e = rw e (record { is = rw (opened-past T input (s .node) (stateOf values returns s) past) (reach-stuck values returns s) })
 
   module _ (few : s .node < recordLimit) where
-    pub open-deep : (r : Stage) → mostWaiting ≤ s .calls → r ≡ staged s tooManyOpen (s .node) 0 → Opens T input values values places places s r
+    pub open-deep : (r : Stage) → mostWaiting ≤ s .calls → r ≡ staged s tooManyOpen (s .node) 0 → Opens T input values values returns returns s r
     open-deep r full e =
         rw e
         (record {
           is =
               rw (
-                opened-in T input (s .node) (stateOf values places s) few,
-                opens-deep T (namedBy T input (s .node) (stateOf values places s)) (s .node) (stateOf values places s) full,
+                opened-in T input (s .node) (stateOf values returns s) few,
+                opens-deep T (namedBy T input (s .node) (stateOf values returns s)) (s .node) (stateOf values returns s) full,
               )
-              (reach-deep values places s (s .node));
+              (reach-deep values returns s (s .node));
         })
 
     pub open-frame :
-        (q f : ℕ) (values′ places′ : List ℕ)
+        (q f : ℕ) (values′ returns′ : List ℕ)
         → s .calls < mostWaiting
-        → q ≡ treePlace T input (s .tree) (s .known) (s .end) (treeAt T (s .node))
+        → q ≡ treeOffset T input (s .tree) (s .known) (s .end) (treeAt T (s .node))
         → values′ ≡ copied values (frameWords * s .calls) (slotAt T (suc (s .node))) (moreAt T (s .node))
-        → places′ ≡ set (set places (2 * s .calls) (s .node)) (suc (2 * s .calls)) (s .tree)
+        → returns′ ≡ set (set returns (2 * s .calls) (s .node)) (suc (2 * s .calls)) (s .tree)
         → f ≡ operandAt T (s .node)
-        → Opens T input values values′ places places′ s
+        → Opens T input values values′ returns returns′ s
         (record { mode = toBegin; node = f; number = 0; calls = s .calls + 1; tree = q; known = s .known; end = s .end; written = s .written })
-    unfolding stageOf wordsOf placesOf
-    open-frame q f values′ places′ room found passed-on saved ef =
+    unfolding stageOf wordsOf returnsOf
+    open-frame q f values′ returns′ room found passed-on saved ef =
         rw (passed-on, saved, ef, add-one (s .calls))
         (record {
           is =
-              rw (opened-in T input (s .node) (stateOf values places s) few, ← found, opens-frame T q (s .node) (stateOf values places s) room)
+              rw (opened-in T input (s .node) (stateOf values returns s) few, ← found, opens-frame T q (s .node) (stateOf values returns s) room)
               (record {
                 stage = refl;
                 words = refl;
-                returns = refl;
+                returns-are = refl;
                 words-long = copied-length values _ _ (moreAt T (s .node));
-                returns-long = length-set (set places (2 * s .calls) (s .node)) (suc (2 * s .calls)) (s .tree) ∙ length-set places (2 * s .calls) (s .node);
+                returns-long = length-set (set returns (2 * s .calls) (s .node)) (suc (2 * s .calls)) (s .tree) ∙ length-set returns (2 * s .calls) (s .node);
               });
         })
 
@@ -126,12 +126,12 @@ pub ruleset opening-ways = (open-past, open-deep, open-frame)
 -- where the steps find the tree, the call opens as they say
 pub opened-found : (T input : List ℕ) (r p : ℕ) (s : State) → r < recordLimit → Found T input s (treeAt T r) p → openedTurn T input r s ≡ opening T p r s
 opened-found T input r p s few found =
-    opened-in T input r s few ∙ ap (λ q. opening T q r s) (found-place T input s found)
+    opened-in T input r s few ∙ ap (λ q. opening T q r s) (found-offset T input s found)
 
 -- nothing is finished after it, and no other call opens
 module _ (s : Stage) (r f : ℕ) (t : State) where
   settled-by : (a b : Bool)
-      → (stageOf s (elim a [ true ↦ elim b [ true ↦ deep r | false ↦ begin f t ] | false ↦ stuck ]) .mode ≢ isThrough)
+      → (stageOf s (elim a [ true ↦ elim b [ true ↦ deep r | false ↦ begin f t ] | false ↦ stuck ]) .mode ≢ isFinished)
       × (stageOf s (elim a [ true ↦ elim b [ true ↦ deep r | false ↦ begin f t ] | false ↦ stuck ]) .mode ≢ toOpen)
   unfolding stageOf
   settled-by true true = (eqb-false 4 1 refl, eqb-false 4 2 refl)
@@ -139,6 +139,6 @@ module _ (s : Stage) (r f : ℕ) (t : State) where
   settled-by false b = (eqb-false 5 1 refl, eqb-false 5 2 refl)
 
 pub opened-settled : (T input : List ℕ) (r : ℕ) (t : State) (s : Stage)
-    → (stageOf s (openedTurn T input r t) .mode ≢ isThrough) × (stageOf s (openedTurn T input r t) .mode ≢ toOpen)
+    → (stageOf s (openedTurn T input r t) .mode ≢ isFinished) × (stageOf s (openedTurn T input r t) .mode ≢ toOpen)
 unfolding openedTurn opening
 opened-settled T input r t s = settled-by s r _ _ (ltb r recordLimit) (leb mostWaiting (t .calls))

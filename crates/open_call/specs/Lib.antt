@@ -1,2 +1,2 @@
 -- The next stage after a call opens.
-pub mod Opens
+pub mod Inner

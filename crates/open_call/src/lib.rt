@@ -9,8 +9,8 @@ use stages::Stage;
 ghost use Prim.Native.Nat.{suc, _-_, _*_, _<_};
 ghost use mathlib.Core.Path.{_≡_};
 ghost use lib.ListN.{set};
-ghost use Rattle.stepwise.specs.Steps.{slotAt, moreAt, frameWords, recordLimit, mostWaiting, copied};
-ghost use Rattle.open_call.specs.Opens.{Opens};
+ghost use Rattle.stepwise.specs.Inner.Steps.{slotAt, moreAt, frameWords, recordLimit, mostWaiting, copied};
+ghost use Rattle.open_call.specs.Inner.Opens.{Opens};
 
 // Calls that may wait.
 const MOST_WAITING: u16 = 1023;
@@ -51,26 +51,26 @@ fn pass_arguments(table: &[u16], values: &mut [u32], s: Stage)
 }
 
 // Puts a number on a return word, if there is one.
-fn put_return(places: &mut [u64], i: usize, x: u64)
-    ensures { λ _. ⌜ now (places .exit) ≡ set (now (places .entry)) i x ⌝ }
+fn put_return(returns: &mut [u64], i: usize, x: u64)
+    ensures { λ _. ⌜ now (returns .exit) ≡ set (now (returns .entry)) i x ⌝ }
 {
-    if i < places.len() {
-        places[i] = x;
+    if i < returns.len() {
+        returns[i] = x;
     }
 }
 
 // Saves the call's record and its frame's tree on the return words.
-fn save(places: &mut [u64], s: Stage)
-    ensures { λ _. ⌜ now (places .exit) ≡ set (set (now (places .entry)) (2 * s .calls) (s .node)) (suc (2 * s .calls)) (s .tree) ⌝ }
+fn save(returns: &mut [u64], s: Stage)
+    ensures { λ _. ⌜ now (returns .exit) ≡ set (set (now (returns .entry)) (2 * s .calls) (s .node)) (suc (2 * s .calls)) (s .tree) ⌝ }
 {
     let i = 2 * (s.calls as usize);
-    put_return(places, i, s.node as u64);
-    put_return(places, i + 1, s.tree as u64)
+    put_return(returns, i, s.node as u64);
+    put_return(returns, i + 1, s.tree as u64)
 }
 
 // Opens the call at the stage's record: its function's body begins, or it is one too many.
-pub fn open(table: &[u16], input: &[u8], values: &mut [u32], places: &mut [u64], s: Stage) -> Stage
-    ensures { λ r. ⌜ Opens (now (table .entry)) (now (input .entry)) (now (values .entry)) (now (values .exit)) (now (places .entry)) (now (places .exit)) s r ⌝ }
+pub fn open(table: &[u16], input: &[u8], values: &mut [u32], returns: &mut [u64], s: Stage) -> Stage
+    ensures { λ r. ⌜ Opens (now (table .entry)) (now (input .entry)) (now (values .entry)) (now (values .exit)) (now (returns .entry)) (now (returns .exit)) s r ⌝ }
 {
     let r = s.node;
     if RECORD_LIMIT <= r {
@@ -79,9 +79,9 @@ pub fn open(table: &[u16], input: &[u8], values: &mut [u32], places: &mut [u64],
     if MOST_WAITING <= s.calls {
         return stages::staged_at(s, DEEP, r, 0);
     }
-    let p = named_trees::named_place(table, input, s);
+    let p = named_trees::named_offset(table, input, s);
     pass_arguments(table, values, s);
-    save(places, s);
+    save(returns, s);
     Stage {
         mode: BEGIN,
         node: frames::field(table, r, OPERAND),

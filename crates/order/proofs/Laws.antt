@@ -6,9 +6,9 @@ use lib.ListN.{length, take}
 use Rattle.formats.specs.Results.{refusal}
 use Rattle.formats.specs.Blocks.{mostBytes, flatIn}
 use Rattle.formats.proofs.Results.{then-done, then-refused}
-use Rattle.refusal.specs.Number.{number}
-use Rattle.refusal.specs.Put.{Put}
-use Rattle.refusal.specs.Said.{said}
+use Rattle.refusal.specs.Inner.Numbers.{number}
+use Rattle.refusal.specs.Inner.FilledBuffer.{FilledBuffer}
+use Rattle.refusal.specs.Inner.Verdicts.{verdictResult}
 use Rattle.refusal.specs.declared.Refusal.{Refusal}
 use Rattle.refusal.specs.declared.Filled.{Filled}
 use Rattle.refusal.specs.declared.Filled.the-variants.{Written, Refused}
@@ -16,12 +16,12 @@ use Rattle.refusal.specs.declared.Verdict.{Verdict}
 use Rattle.block_reader.proofs.Taken.{not-taken, taken-out, taken-inside}
 use Rattle.rules.specs.PassTwo.{checkRecords, checkFile}
 
-module _ (s space : List ℕ) (size : length space ≡ mostBytes) (after : List ℕ) (taken : Filled) (put : Put (flatIn s) space after taken) where
-  pub blocks-refuse : (why : Refusal) (place : ℕ) → taken ≡ Refused why place → refusal (number why) place ≡ checkFile s
+module _ (s space : List ℕ) (size : length space ≡ mostBytes) (after : List ℕ) (taken : Filled) (put : FilledBuffer (flatIn s) space after taken) where
+  pub blocks-refuse : (why : Refusal) (position : ℕ) → taken ≡ Refused why position → refusal (number why) position ≡ checkFile s
   unfolding checkFile
-  blocks-refuse why place is = sym (then-refused checkRecords (not-taken s space size after taken put why place is))
+  blocks-refuse why position is = sym (then-refused checkRecords (not-taken s space size after taken put why position is))
 
-  pub passes-say : (bytes : ℕ) (r : Verdict) → taken ≡ Written bytes → said r ≡ checkRecords (take bytes after) → said r ≡ checkFile s
+  pub passes-say : (bytes : ℕ) (r : Verdict) → taken ≡ Written bytes → verdictResult r ≡ checkRecords (take bytes after) → verdictResult r ≡ checkFile s
   unfolding checkFile
   passes-say bytes r is says = let f = taken-out s space size after taken put bytes is in says ∙ ap checkRecords (f .there) ∙ sym (then-done checkRecords (f .is))
 

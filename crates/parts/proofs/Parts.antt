@@ -6,7 +6,7 @@ use mathlib.Core.Path.{_≡_, refl, _∙_}
 use native.Mathlib.Omega.{arith}
 use Rattle.formats.specs.Records.{asWhole, aNumber, nth, these, nthPart}
 use Rattle.formats.specs.Records.{Part as PartOfKind}
-use Rattle.records.specs.Read.{partOf, listed}
+use Rattle.records.specs.Inner.Read.{partOf, listed}
 use Rattle.records.specs.declared.Part.{Part}
 use Rattle.records.specs.declared.Parts.{Parts}
 use Rattle.records.specs.declared.Parts.the-variants.{None, One, Two, Three, Arguments}

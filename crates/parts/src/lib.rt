@@ -4,7 +4,7 @@ use records::Parts;
 ghost use mathlib.Core.List.{[], _∷_};
 ghost use mathlib.Core.Path.{_≡_};
 ghost use Rattle.formats.specs.Records.{nthPart, these};
-ghost use Rattle.records.specs.Read.{partOf, listed};
+ghost use Rattle.records.specs.Inner.Read.{partOf, listed};
 
 // Part i of these three; `Whole` where there is no part i.
 fn nth_of(p: Part, q: Part, r: Part, i: usize) -> Part

@@ -17,7 +17,7 @@ use Rattle.formats.proofs.Rows.{function-read}
 use Rattle.refusal.specs.declared.Refusal.the-variants.{WrongType, NotBound, TooManyWords}
 use Rattle.refusal.specs.declared.Verdict.the-variants.{Passed, Refused}
 use Rattle.records.proofs.Record.{the-type}
-use Rattle.records.specs.Read.{meant}
+use Rattle.records.specs.Inner.Read.{meant}
 use Rattle.records.specs.declared.Record.{Record}
 use Rattle.records.specs.declared.Record.the-variants.{Const, Var, Add, IfZero, Let, Leaf, Node, Case, Call}
 use Rattle.records.specs.declared.Constant.{Constant}
@@ -26,10 +26,10 @@ use Rattle.records.specs.declared.TreeName.{TreeName}
 use Rattle.records.specs.declared.Called.{Called}
 use Rattle.rules.specs.Types.{isInt, isTree, fits}
 use Rattle.rules.specs.Scopes.{entry}
-use Rattle.rules.specs.PassOne.{mostWords, named, typed, bareNumber, wordsTested, roomy, holdsAt, atEntry}
-use Rattle.walks.specs.Standing.{Known}
+use Rattle.rules.specs.PassOne.{mostFrameWords, named, typed, bareNumber, wordsTested, roomy, holdsAt, atEntry}
+use Rattle.walks.specs.Inner.Standing.{Known}
 use Rattle.walks.proofs.Walks.{Signed, signature-of}
-use Rattle.pass_one.specs.Walk.{expected, scopeOf, Typed, Bare, Roomy, Tested}
+use Rattle.pass_one.specs.Inner.Walk.{expected, scopeOf, Typed, Bare, Roomy, Tested}
 use Rattle.pass_one.specs.declared.Scope.{Scope}
 
 -- ---- `is_named`
@@ -76,7 +76,7 @@ unfolding isTree
 tree-expected true = refl
 tree-expected false = refl
 
--- the sort's number tells which type the function's value has
+-- the sort's number reports which type the function's value has
 tree-fits : (sort : Sort) (n : ℕ) (tree : Bool) → sortNumber sort ≡ n → n ≡ 1 → tree ≡ fits sort (expected tree)
 unfolding sortNumber fits
 tree-fits numberValued n tree e one = absurd (omega arith)
@@ -184,7 +184,7 @@ pub ruleset bare = (bare-tree, bare-number)
 module _ (s : List ℕ) (c : Scope) (node : Record) where
   -- where words are tested there is to be a word, and elsewhere there always is
   tested : ((gs : List Signature) → Known s gs → below (headerIn s .functions) (meant node) ≡ true → wordsTested gs (meant node) ≡ true)
-      → Roomy s c node (ltb (c .words) mostWords)
+      → Roomy s c node (ltb (c .words) mostFrameWords)
   unfolding roomy
   tested e = record { is = λ gs known low. sym (rw (e gs known low, roomy)) }
 
@@ -193,27 +193,27 @@ module _ (s : List ℕ) (c : Scope) (node : Record) where
   unfolding roomy
   untested e = record { is = λ gs known low. sym (rw (e gs known low, roomy)) }
 
-  pub roomy-const : (i : Constant) → node ≡ Const i → Roomy s c node (ltb (c .words) mostWords)
+  pub roomy-const : (i : Constant) → node ≡ Const i → Roomy s c node (ltb (c .words) mostFrameWords)
   unfolding wordsTested
   roomy-const i case = tested (λ gs known low. ap (λ n. wordsTested gs (meant n)) case)
 
-  pub roomy-var : (v : NumberName) → node ≡ Var v → Roomy s c node (ltb (c .words) mostWords)
+  pub roomy-var : (v : NumberName) → node ≡ Var v → Roomy s c node (ltb (c .words) mostFrameWords)
   unfolding wordsTested
   roomy-var v case = tested (λ gs known low. ap (λ n. wordsTested gs (meant n)) case)
 
-  pub roomy-case : (v : TreeName) → node ≡ Case v → Roomy s c node (ltb (c .words) mostWords)
+  pub roomy-case : (v : TreeName) → node ≡ Case v → Roomy s c node (ltb (c .words) mostFrameWords)
   unfolding wordsTested
   roomy-case v case = tested (λ gs known low. ap (λ n. wordsTested gs (meant n)) case)
 
-  module _ (v : Called) (r : Bool) (case : node ≡ Call v) (told : Bare s (v .b) r) where
+  module _ (v : Called) (r : Bool) (case : node ≡ Call v) (reported : Bare s (v .b) r) where
     -- a Call's words are tested where its function is a number's with no parameters
     call-tested : (gs : List Signature) → Known s gs → below (headerIn s .functions) (meant node) ≡ true → wordsTested gs (meant node) ≡ r
     unfolding wordsTested
     call-tested gs known low =
         let g = called s c node gs v case known low in
-        ap (λ n. wordsTested gs (meant n)) case ∙ (rw (g .there, wordsTested) (sym (told .is (g .signature) (g .given))))
+        ap (λ n. wordsTested gs (meant n)) case ∙ (rw (g .there, wordsTested) (sym (reported .is (g .signature) (g .given))))
 
-    pub roomy-bare-call : r ≡ true → Roomy s c node (ltb (c .words) mostWords)
+    pub roomy-bare-call : r ≡ true → Roomy s c node (ltb (c .words) mostFrameWords)
     roomy-bare-call e = tested (λ gs known low. call-tested gs known low ∙ e)
 
     pub roomy-call : r ≡ false → Roomy s c node true

@@ -13,14 +13,14 @@ use Rattle.formats.specs.Rows.{headerIn, arityIn, nodeIn}
 use Rattle.formats.proofs.Results.{done-injective, done-not, then-done, then-refused, value-inv, value-refused}
 use Rattle.formats.proofs.Records.{node-below}
 use Rattle.formats.proofs.Programs.{some-record}
-use Rattle.refusal.specs.Number.{number}
-use Rattle.refusal.specs.Said.{said}
+use Rattle.refusal.specs.Inner.Numbers.{number}
+use Rattle.refusal.specs.Inner.Verdicts.{verdictResult}
 use Rattle.refusal.specs.declared.Refusal.{Refusal}
 use Rattle.refusal.specs.declared.Refusal.the-variants.{PrefixForm}
 use Rattle.refusal.specs.declared.Verdict.{Verdict}
 use Rattle.refusal.specs.declared.Verdict.the-variants.{Passed}
 use Rattle.refusal.specs.declared.Verdict.the-variants.{Refused as Refuses}
-use Rattle.records.specs.Read.{Shape, meant, partOf, listed, shapeOf, shaped, described}
+use Rattle.records.specs.Inner.Read.{Shape, meant, partOf, listed, shapeOf, shaped, described}
 use Rattle.records.specs.declared.Part.{Part}
 use Rattle.records.specs.declared.Parts.{Parts}
 use Rattle.records.specs.declared.Record.{Record}
@@ -31,19 +31,19 @@ use Rattle.records.specs.declared.RecordRead.the-variants.{Refused as Unread}
 use Rattle.rules.specs.Scopes.{inside, partScope, entry, entered}
 use Rattle.rules.specs.PassOne.{atEntry, passOver}
 use Rattle.rules.proofs.Entries.{part-scopes}
-use Rattle.walks.specs.Standing.{headOf, passParts}
-use Rattle.walks.specs.Walks.{Here, HereRow, PartsFrom}
+use Rattle.walks.specs.Inner.Standing.{headOf, passParts}
+use Rattle.walks.specs.Inner.Walks.{Here, HereRow, PartsFrom}
 use Rattle.walks.proofs.Walks.{node-held, parts-counted, pass-parts, FirstOf, row-first, row-none}
 use Rattle.walks.proofs.Here.{parts-after, first-of, others-of}
-use Rattle.pass_one.specs.Walk.{scopeOf, told, Fits, FitsParts, Tested, Entered, EnteredParts}
+use Rattle.pass_one.specs.Inner.Walk.{scopeOf, reported, Fits, FitsParts, Tested, Entered, EnteredParts}
 use Rattle.pass_one.specs.declared.Scope.{Scope}
 use Rattle.pass_one.specs.declared.Walked.{Walked}
 use Rattle.pass_one.specs.declared.Walked.the-variants.{To, Refused}
 use Rattle.pass_one.proofs.PartScopes.{inside-fits}
 
 -- a refusal comes to no record
-stopped : {A : Type 0} (why : Refusal) (place next : ℕ) → _≡_ {A = Walked} (Refused why place) (To next) → A
-stopped why place next e = let z : _≡_ {A = ℕ} 0 1 = cc in absurd (omega arith)
+stopped : {A : Type 0} (why : Refusal) (position next : ℕ) → _≡_ {A = Walked} (Refused why position) (To next) → A
+stopped why position next e = let z : _≡_ {A = ℕ} 0 1 = cc in absurd (omega arith)
 
 -- ---- `enter`
 
@@ -59,9 +59,9 @@ module _ (s : List ℕ) (k end : ℕ) (c : Scope) where
   own-node {e} h = node-held s (h .signed) k e (h .holds)
 
   module _ (found : RecordRead) (is-found : described found ≡ onValue shapeOf (nodeIn s k)) where
-    pub enter-unread : (why : Refusal) (place : ℕ) → found ≡ Unread why place → Entered s k end c (Refused why place)
-    enter-unread why place case = record {
-      went = λ next e. stopped why place next e;
+    pub enter-unread : (why : Refusal) (position : ℕ) → found ≡ Unread why position → Entered s k end c (Refused why position)
+    enter-unread why position case = record {
+      went = λ next e. stopped why position next e;
       is = λ e h. done-not (ap (onValue shapeOf) (own-node h)) (sym is-found ∙ ap described case);
     }
 
@@ -75,17 +75,17 @@ module _ (s : List ℕ) (k end : ℕ) (c : Scope) where
 
       module _ (own : Verdict) (tested : Tested s c k node own) where
         -- its own tests say what is said on entering it
-        own-said : {e : Expr} (h : Here s end k e) → said own ≡ atEntry (h .signed) (entry (scopeOf c) k (headOf e))
+        own-said : {e : Expr} (h : Here s end k e) → verdictResult own ≡ atEntry (h .signed) (entry (scopeOf c) k (headOf e))
         own-said {e} h =
             let same = own-kind h in
             let low : below (headerIn s .functions) (meant node) ≡ true = rw same (node-below s k (headOf e) (own-node h)) in
             tested .is (h .signed) (h .known) low ∙ ap (λ kind. atEntry (h .signed) (entry (scopeOf c) k kind)) same
 
-        pub enter-refused : (why : Refusal) (place : ℕ) → own ≡ Refuses why place → Entered s k end c (Refused why place)
-        enter-refused why place fails = record {
-          went = λ next e. stopped why place next e;
+        pub enter-refused : (why : Refusal) (position : ℕ) → own ≡ Refuses why position → Entered s k end c (Refused why position)
+        enter-refused why position fails = record {
+          went = λ next e. stopped why position next e;
           is = λ e h.
-              sym (ap (onValue (λ u. k + size e)) (pass-parts (h .signed) (scopeOf c) k e ∙ then-refused _ (sym (own-said h) ∙ ap said fails)));
+              sym (ap (onValue (λ u. k + size e)) (pass-parts (h .signed) (scopeOf c) k e ∙ then-refused _ (sym (own-said h) ∙ ap verdictResult fails)));
         }
 
         pub enter-passed : (count : ℕ) (r : Walked) → own ≡ Passed → count ≡ partCount (arityIn s) (listed parts)
@@ -97,7 +97,7 @@ module _ (s : List ℕ) (k end : ℕ) (c : Scope) where
               let own-count = many ∙ ap (partCount (arityIn s)) own-parts in
               let all : 0 + length (partsAt k e) ≡ count = omega (arith, own-count, parts-counted s (h .signed) k e (h .known) (h .holds)) in
               walked .is (headOf e) (partsAt k e) (k + size e) (parts-after h) (record { own = own-parts; many = own-count; left = all })
-              ∙ ap (onValue (λ u. k + size e)) (sym (pass-parts (h .signed) (scopeOf c) k e ∙ then-done _ (sym (own-said h) ∙ ap said passes)));
+              ∙ ap (onValue (λ u. k + size e)) (sym (pass-parts (h .signed) (scopeOf c) k e ∙ then-done _ (sym (own-said h) ∙ ap verdictResult passes)));
         }
 
 pub ruleset entering = (enter-past, enter-unread, enter-refused, enter-passed)
@@ -123,11 +123,11 @@ module _ (s : List ℕ) (parts : Parts) (i count k end : ℕ) (c : Scope) where
         ∙ ap (λ p. partScope p i (scopeOf c)) (is-part ∙ ap (λ ps. nthPart ps i) (from .own))
         ∙ sym (part-scopes (arityIn s) kind i (scopeOf c) (omega (arith, from .many)))
 
-    -- the next part, and those behind it
+    -- the next part, and those after it
     record Turn (kind : Kind) (ps : List Placed) (m : ℕ) (h : HereRow s end k ps m) : Type 0 where
       first : FirstOf s (h .signed) k ps m
       over : Result (Unit {0})
-      here : told walked ≡ onValue (λ u. k + size (first .expr)) over
+      here : reported walked ≡ onValue (λ u. k + size (first .expr)) over
       split : passParts (h .signed) kind i (scopeOf c) ps ≡ andThen over (λ u. passParts (h .signed) kind (suc i) (scopeOf c) (first .others))
 
     turn : (kind : Kind) (ps : List Placed) (m : ℕ) (h : HereRow s end k ps m) → PartsFrom s (listed parts) kind i count ps → Turn kind ps m h
@@ -143,12 +143,12 @@ module _ (s : List ℕ) (parts : Parts) (i count k end : ℕ) (c : Scope) where
           split = ap (passParts (h .signed) kind i (scopeOf c)) (f .both);
         }
 
-    pub parts-refused : (why : Refusal) (place : ℕ) → walked ≡ Refused why place → EnteredParts s parts i count k end c (Refused why place)
-    parts-refused why place case = record {
-      went = λ next e. stopped why place next e;
+    pub parts-refused : (why : Refusal) (position : ℕ) → walked ≡ Refused why position → EnteredParts s parts i count k end c (Refused why position)
+    parts-refused why position case = record {
+      went = λ next e. stopped why position next e;
       is = λ kind ps m h from.
           let t = turn kind ps m h from in
-          sym (ap (onValue (λ u. m)) (t .split ∙ then-refused _ (value-refused (λ u. k + size (t .first .expr)) (t .over) (number why) place (sym (t .here) ∙ ap told case))));
+          sym (ap (onValue (λ u. m)) (t .split ∙ then-refused _ (value-refused (λ u. k + size (t .first .expr)) (t .over) (number why) position (sym (t .here) ∙ ap reported case))));
     }
 
     pub parts-more : (next : ℕ) (r : Walked) → walked ≡ To next → EnteredParts s parts (i + 1) count next end c r → EnteredParts s parts i count k end c r
@@ -159,13 +159,13 @@ module _ (s : List ℕ) (parts : Parts) (i count k end : ℕ) (c : Scope) where
       is = λ kind ps m h from.
           let t = turn kind ps m h from in
           let f = t .first in
-          let v = value-inv (λ u. k + size (f .expr)) (t .over) next (sym (t .here) ∙ ap told case) in
+          let v = value-inv (λ u. k + size (f .expr)) (t .over) next (sym (t .here) ∙ ap reported case) in
           let long : length ps ≡ suc (length (f .others)) = ap length (f .both) in
           others .is kind (f .others) m (others-of h f next (sym (v .second))) (record { own = from .own; many = from .many; left = omega (arith, from .left) })
           ∙ ap (onValue (λ u. m)) (ap (λ j. passParts (h .signed) kind j (scopeOf c) (f .others)) (add-one i) ∙ sym (t .split ∙ then-done _ (v .first)));
     }
 
-    -- the walk goes on behind the part, with fewer records left ..
+    -- the walk goes on after the part, with fewer records left ..
     pub fewer : (next t : ℕ) → walked ≡ To next → 2 * (end - k) + 1 ≡ t → 2 * (end - next) + 1 < t
     fewer next t case e = omega (arith, w .went next case .on, w .went next case .inside)
 

@@ -10,8 +10,8 @@ use Rattle.formats.specs.Programs.{size, Sort, numberValued, treeValued, sortNu
 use Rattle.formats.specs.Rows.{headerIn, sortIn, arityIn, readProgram}
 use Rattle.formats.proofs.Results.{Value, then-done, then-refused, value-inv, passed-is, refused-is, value-refused}
 use Rattle.formats.proofs.Rows.{function-read, flattens}
-use Rattle.refusal.specs.Number.{number}
-use Rattle.refusal.specs.Said.{said}
+use Rattle.refusal.specs.Inner.Numbers.{number}
+use Rattle.refusal.specs.Inner.Verdicts.{verdictResult}
 use Rattle.refusal.specs.declared.Refusal.{Refusal}
 use Rattle.refusal.specs.declared.Verdict.{Verdict}
 use Rattle.refusal.specs.declared.Verdict.the-variants.{Passed}
@@ -20,10 +20,10 @@ use Rattle.rules.specs.Types.{resultType}
 use Rattle.rules.specs.Scopes.{scope, startOf, entered, enteredAll}
 use Rattle.rules.specs.PassOne.{passOver, passOne, checkOne}
 use Rattle.rules.proofs.PassOne.{pass-join}
-use Rattle.walks.specs.Walks.{Inside}
+use Rattle.walks.specs.Inner.Walks.{Inside}
 use Rattle.walks.proofs.Walks.{program-held}
 use Rattle.walks.proofs.Functions.{Left, all-left, Turn, turn, none-left}
-use Rattle.pass_one.specs.Walk.{expected, scopeOf, told, Fits, Entered, Starts, PassSays}
+use Rattle.pass_one.specs.Inner.Walk.{expected, scopeOf, reported, Fits, Entered, Starts, PassSays}
 use Rattle.pass_one.specs.declared.Scope.{Scope}
 use Rattle.pass_one.specs.declared.Walked.{Walked}
 use Rattle.pass_one.specs.declared.Walked.the-variants.{To, Refused}
@@ -89,11 +89,11 @@ module _ (s : List ℕ) (functions end k j : ℕ) where
       })
 
   module _ (c : Scope) (walked : Walked) (more : j < functions) (w : Walking s functions end k j) (starts : Starts s j c) (is : Entered s k end c walked) where
-    -- the body of function j, whose walk is told, and then those behind it
+    -- the body of function j, whose walk is reported, and then those after it
     record Walk (program : Program) : Type 0 where
       at-hand : Turn s functions end passOne rowOne program k j
       over : Result (Unit {0})
-      is-told : told walked ≡ onValue (λ u. k + size (at-hand .here .body)) over
+      is-reported : reported walked ≡ onValue (λ u. k + size (at-hand .here .body)) over
       split : passOne program ≡ andThen over (λ u. rowOne program (k + size (at-hand .here .body)) (at-hand .others))
 
     walk : (program : Program) → readProgram s ≡ done program → Walk program
@@ -105,7 +105,7 @@ module _ (s : List ℕ) (functions end k j : ℕ) where
         record {
           at-hand = t;
           over = passOver gs (entered (startOf f) k (f .body));
-          is-told =
+          is-reported =
               is .is (f .body) (record { signed = gs; known = t .known; holds = t .holds; fits = t .fits })
               ∙ ap (λ sc. onValue (λ u. k + size (f .body)) (passOver gs (entered sc k (f .body)))) (starts .is f (t .signed) (t .few));
           split = t .left ∙ pass-join gs _ _;
@@ -117,33 +117,33 @@ module _ (s : List ℕ) (functions end k j : ℕ) where
       inside = record { before-end = is .went next case .inside; few = w .inside .few };
       rest = λ program e.
           let t = walk program e in
-          let v = value-inv (λ u. k + size (t .at-hand .here .body)) (t .over) next (sym (t .is-told) ∙ ap told case) in
+          let v = value-inv (λ u. k + size (t .at-hand .here .body)) (t .over) next (sym (t .is-reported) ∙ ap reported case) in
           subst (λ m. Left s functions end passOne rowOne program m (j + 1)) (v .second) (t .at-hand .later (t .split ∙ then-done _ (v .first)));
     }
 
-    pub walk-refused : (why : Refusal) (place : ℕ) → walked ≡ Refused why place → PassSays s (Refuses why place)
-    walk-refused why place case = record {
+    pub walk-refused : (why : Refusal) (position : ℕ) → walked ≡ Refused why position → PassSays s (Refuses why position)
+    walk-refused why position case = record {
       is = λ program e.
           let t = walk program e in
-          sym (t .split ∙ then-refused _ (value-refused (λ u. k + size (t .at-hand .here .body)) (t .over) (number why) place (sym (t .is-told) ∙ ap told case)));
+          sym (t .split ∙ then-refused _ (value-refused (λ u. k + size (t .at-hand .here .body)) (t .over) (number why) position (sym (t .is-reported) ∙ ap reported case)));
     }
 
 pub ruleset walking = (walk-none, walk-asked, walk-more, walk-refused, walk-all)
 
 -- ---- `check_pass_one`
 
-module _ (s : List ℕ) (rows : Verdict) (is : said rows ≡ verdict (readProgram s)) where
-  pub rows-refused : (why : Refusal) (place : ℕ) → rows ≡ Refuses why place → refusal (number why) place ≡ checkOne s
+module _ (s : List ℕ) (rows : Verdict) (is : verdictResult rows ≡ verdict (readProgram s)) where
+  pub rows-refused : (why : Refusal) (position : ℕ) → rows ≡ Refuses why position → refusal (number why) position ≡ checkOne s
   unfolding checkOne
-  rows-refused why place case = sym (then-refused passOne (refused-is (readProgram s) (number why) place (sym is ∙ ap said case)))
+  rows-refused why position case = sym (then-refused passOne (refused-is (readProgram s) (number why) position (sym is ∙ ap verdictResult case)))
 
-  pub rows-passed : (r : Verdict) → rows ≡ Passed → PassSays s r → said r ≡ checkOne s
+  pub rows-passed : (r : Verdict) → rows ≡ Passed → PassSays s r → verdictResult r ≡ checkOne s
   unfolding checkOne
   rows-passed r passes says =
-      let v = passed-is (readProgram s) (sym is ∙ ap said passes) in
+      let v = passed-is (readProgram s) (sym is ∙ ap verdictResult passes) in
       says .is (v .value) (v .is) ∙ sym (then-done passOne (v .is))
 
   pub rows-read : rows ≡ Passed → verdict (readProgram s) ≡ done tt
-  rows-read passes = sym is ∙ ap said passes
+  rows-read passes = sym is ∙ ap verdictResult passes
 
 pub ruleset checked = (rows-refused, rows-read, rows-passed)

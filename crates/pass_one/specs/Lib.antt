@@ -1,2 +1,2 @@
 -- What the functions of pass one answer.
-pub mod Walk
+pub mod Inner

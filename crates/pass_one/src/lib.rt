@@ -9,11 +9,11 @@ use refusal::Verdict;
 ghost use mathlib.Core.Path.{_≡_};
 ghost use Rattle.formats.specs.Results.{done, verdict};
 ghost use Rattle.formats.specs.Rows.{readProgram};
-ghost use Rattle.records.specs.Read.{meant, partOf};
-ghost use Rattle.refusal.specs.Said.{said};
+ghost use Rattle.records.specs.Inner.Read.{meant, partOf};
+ghost use Rattle.refusal.specs.Inner.Verdicts.{verdictResult};
 ghost use Rattle.rules.specs.Scopes.{partScope};
 ghost use Rattle.rules.specs.PassOne.{named, checkOne};
-ghost use Rattle.pass_one.specs.Walk.{scopeOf, RoomFor, Fits, FitsParts, Typed, Bare, Roomy, Tested, Entered, EnteredParts, Starts, PassSays};
+ghost use Rattle.pass_one.specs.Inner.Walk.{scopeOf, RoomFor, Fits, FitsParts, Typed, Bare, Roomy, Tested, Entered, EnteredParts, Starts, PassSays};
 
 // The most words above the frame's base.
 const MOST_WORDS: usize = 16;
@@ -157,11 +157,11 @@ fn enter(flat: &[u8], k: usize, end: usize, scope: Scope) -> Walked
     }
     let found = records::record_at(flat, k);
     match found {
-        RecordRead::Refused(why, place) => Walked::Refused(why, place),
+        RecordRead::Refused(why, position) => Walked::Refused(why, position),
         RecordRead::Read(node, parts, template) => {
             let own = tests(flat, node, scope, k);
-            if let Verdict::Refused(why, place) = own {
-                return Walked::Refused(why, place);
+            if let Verdict::Refused(why, position) = own {
+                return Walked::Refused(why, position);
             }
             let count = nodes::part_count(flat, parts);
             enter_parts(flat, parts, 0, count, k + 1, end, scope)
@@ -189,7 +189,7 @@ fn enter_parts(
     let inner = inside(part, i, scope);
     let walked = enter(flat, k, end, inner);
     match walked {
-        Walked::Refused(why, place) => Walked::Refused(why, place),
+        Walked::Refused(why, position) => Walked::Refused(why, position),
         Walked::To(next) => enter_parts(flat, parts, i + 1, count, next, end, scope),
     }
 }
@@ -222,8 +222,8 @@ fn pass(flat: &[u8]) -> Verdict
         let scope = start(flat, j);
         let walked = enter(flat, k, end, scope);
         match walked {
-            Walked::Refused(why, place) => {
-                return Verdict::Refused(why, place);
+            Walked::Refused(why, position) => {
+                return Verdict::Refused(why, position);
             }
             Walked::To(next) => {
                 k = next;
@@ -236,11 +236,11 @@ fn pass(flat: &[u8]) -> Verdict
 
 // The rows header to prefix form, then pass one.
 pub fn check_pass_one(flat: &[u8]) -> Verdict
-    ensures { λ r. ⌜ said r ≡ checkOne (now (flat .entry)) ⌝ }
+    ensures { λ r. ⌜ verdictResult r ≡ checkOne (now (flat .entry)) ⌝ }
 {
     let rows = program::check_records(flat);
-    if let Verdict::Refused(why, place) = rows {
-        return Verdict::Refused(why, place);
+    if let Verdict::Refused(why, position) = rows {
+        return Verdict::Refused(why, position);
     }
     pass(flat)
 }

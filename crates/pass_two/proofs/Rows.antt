@@ -1,4 +1,4 @@
--- The row "pass two": one function after the other, a law for each way out of the loop, and the row behind pass one.
+-- The row "pass two": one function after the other, a law for each way out of the loop, and the row after pass one.
 use Prim.Native.Nat.{ℕ, _+_, _≤_, _<_}
 use mathlib.Core.List.{List, [], _∷_}
 use mathlib.Core.Path.{_≡_, refl, sym, ap, _∙_}
@@ -10,18 +10,18 @@ use Rattle.formats.specs.Programs.{size, Function, Program, signatures}
 use Rattle.formats.specs.Rows.{headerIn, readProgram}
 use Rattle.formats.proofs.Rows.{flattens}
 use Rattle.formats.proofs.Results.{byResult, then-done, then-refused, Followed, then-inv, passed-is}
-use Rattle.refusal.specs.Number.{number}
-use Rattle.refusal.specs.Said.{said}
+use Rattle.refusal.specs.Inner.Numbers.{number}
+use Rattle.refusal.specs.Inner.Verdicts.{verdictResult}
 use Rattle.refusal.specs.declared.Refusal.{Refusal}
 use Rattle.refusal.specs.declared.Verdict.{Verdict}
 use Rattle.refusal.specs.declared.Verdict.the-variants.{Passed, Refused}
 use Rattle.rules.specs.PassOne.{passOne, checkOne}
-use Rattle.rules.specs.PassTwo.{walk, noneLeft, walkAll, passTwo, order, checkRecords}
-use Rattle.walks.specs.Walks.{Inside, Here}
+use Rattle.rules.specs.PassTwo.{walk, noneLeft, walkAll, passTwo, bothPasses, checkRecords}
+use Rattle.walks.specs.Inner.Walks.{Inside, Here}
 use Rattle.walks.proofs.Walks.{program-held}
 use Rattle.walks.proofs.Functions.{Left, all-left, Turn, turn, none-left}
 use Rattle.pass_two.specs.declared.Checked.{Checked}
-use Rattle.pass_two.specs.Walk.{walkFunction, OrderedFunction, PassSays}
+use Rattle.pass_two.specs.Inner.Walk.{walkFunction, OrderedFunction, PassSays}
 use Rattle.pass_two.proofs.Answers.{came, stops, tested}
 
 -- ---- `pass`
@@ -49,7 +49,7 @@ module _ (s : List ℕ) (functions last : ℕ) where
       }
 
   module _ (k j : ℕ) (more : j < functions) (w : Walking k j) (c : Checked) (o : OrderedFunction s k last c) where
-    -- function j, whose check is told, and then those behind it
+    -- function j, whose check is reported, and then those after it
     record Walk (program : Program) : Type 0 where
       at-hand : Turn s functions last passTwo rowTwo program k j
       here : Here s last k (at-hand .here .body)
@@ -65,9 +65,9 @@ module _ (s : List ℕ) (functions last : ℕ) where
           split = t .left ∙ tested (walk 1 k (0 ∷ []) (t .here .body)) (noneLeft k) _;
         }
 
-    pub walk-stops : (why : Refusal) (place : ℕ) → c .verdict ≡ Refused why place → PassSays s (Refused why place)
-    walk-stops why place refused = record {
-      is = λ program e. let t = walked program e in sym (t .split ∙ then-refused _ (stops (o .tells (t .at-hand .here .body) (t .here)) refused));
+    pub walk-stops : (why : Refusal) (position : ℕ) → c .verdict ≡ Refused why position → PassSays s (Refused why position)
+    walk-stops why position refused = record {
+      is = λ program e. let t = walked program e in sym (t .split ∙ then-refused _ (stops (o .reports (t .at-hand .here .body) (t .here)) refused));
     }
 
     pub walk-more : c .verdict ≡ Passed → Walking (c .next) (j + 1)
@@ -76,8 +76,8 @@ module _ (s : List ℕ) (functions last : ℕ) where
           inside = record { before-end = o .went-on .went passed .inside; few = w .inside .few };
           rest = λ program e.
               let t = walked program e in
-              let done = came (o .tells (t .at-hand .here .body) (t .here)) passed in
-              rw (done .place) (t .at-hand .later (t .split ∙ then-done _ (done .list)));
+              let done = came (o .reports (t .at-hand .here .body) (t .here)) passed in
+              rw (done .position) (t .at-hand .later (t .split ∙ then-done _ (done .list)));
         }
 
   pub walk-all : (k j : ℕ) → functions ≤ j → Walking k j → PassSays s Passed
@@ -88,26 +88,26 @@ pub ruleset passed-over = (walk-first, walk-stops, walk-more, walk-all)
 
 -- ---- both passes
 
-module _ (s : List ℕ) (one : Verdict) (told : said one ≡ checkOne s) where
-  pub order-first : (why : Refusal) (place : ℕ) → one ≡ Refused why place → refusal (number why) place ≡ checkRecords s
-  unfolding order checkOne checkRecords
-  order-first why place case =
-      let stop : checkOne s ≡ refusal (number why) place = sym told ∙ ap said case in
+module _ (s : List ℕ) (one : Verdict) (reported : verdictResult one ≡ checkOne s) where
+  pub order-first : (why : Refusal) (position : ℕ) → one ≡ Refused why position → refusal (number why) position ≡ checkRecords s
+  unfolding bothPasses checkOne checkRecords
+  order-first why position case =
+      let stop : checkOne s ≡ refusal (number why) position = sym reported ∙ ap verdictResult case in
       byResult (readProgram s)
-      (λ program e. sym (then-done order e ∙ then-refused _ (sym (then-done passOne e) ∙ stop)))
-      (λ number′ place′ e. sym stop ∙ then-refused passOne e ∙ sym (then-refused order e))
+      (λ program e. sym (then-done bothPasses e ∙ then-refused _ (sym (then-done passOne e) ∙ stop)))
+      (λ number′ position′ e. sym stop ∙ then-refused passOne e ∙ sym (then-refused bothPasses e))
 
   module _ (passed : one ≡ Passed) where
     -- the program that passed
     passing : Followed (readProgram s) passOne tt
     unfolding checkOne
-    passing = then-inv (readProgram s) passOne tt (sym told ∙ ap said passed)
+    passing = then-inv (readProgram s) passOne tt (sym reported ∙ ap verdictResult passed)
 
     pub order-asked : verdict (readProgram s) ≡ done tt
     order-asked = ap verdict (passing .first)
 
-    pub order-second : (r : Verdict) → PassSays s r → said r ≡ checkRecords s
-    unfolding order checkRecords
-    order-second r says = says .is (passing .value) (passing .first) ∙ sym (then-done order (passing .first) ∙ then-done _ (passing .second))
+    pub order-second : (r : Verdict) → PassSays s r → verdictResult r ≡ checkRecords s
+    unfolding bothPasses checkRecords
+    order-second r says = says .is (passing .value) (passing .first) ∙ sym (then-done bothPasses (passing .first) ∙ then-done _ (passing .second))
 
 pub ruleset orders = (order-first, order-asked, order-second)

@@ -8,18 +8,18 @@ ghost use Prim.Native.Nat.{_+_};
 ghost use mathlib.Core.Path.{_≡_};
 ghost use Rattle.formats.specs.Results.{done, verdict};
 ghost use Rattle.formats.specs.Rows.{readProgram};
-ghost use Rattle.refusal.specs.Said.{said};
+ghost use Rattle.refusal.specs.Inner.Verdicts.{verdictResult};
 ghost use Rattle.rules.specs.PassTwo.{checkRecords};
-ghost use Rattle.pass_two.specs.Walk.{Small, Joined, Ordered, OrderedCall, OrderedCase, OrderedIf, OrderedList, OrderedFunction, PassSays};
+ghost use Rattle.pass_two.specs.Inner.Walk.{Small, Joined, Ordered, OrderedCall, OrderedCase, OrderedIf, OrderedList, OrderedFunction, PassSays};
 
-// What a check says, with the trees then pending and the record behind what was checked.
+// What a check says, with the trees then pending and the record after what was checked.
 struct Checked {
     verdict: Verdict,
     pending: Pending,
     next: usize,
 }
 
-// Both branches of the Case or IfZero at record k are through: they must have left the same trees.
+// Both branches of the Case or IfZero at record k are finished: they must have left the same trees.
 fn joined(one: Pending, other: Checked, k: usize) -> Checked
     ensures { λ r. ⌜ Joined one other k r ⌝ }
 {
@@ -49,8 +49,8 @@ fn order_at(flat: &[u8], k: usize, end: usize, trees: u16, pending: Pending) -> 
     }
     let found = records::record_at(flat, k);
     match found {
-        RecordRead::Refused(why, place) => Checked {
-            verdict: Verdict::Refused(why, place),
+        RecordRead::Refused(why, position) => Checked {
+            verdict: Verdict::Refused(why, position),
             pending: pending,
             next: k,
         },
@@ -80,8 +80,8 @@ fn order_call(
     ensures { λ r. ⌜ OrderedCall (now (flat .entry)) a count k end trees pending r ⌝ }
 {
     let after = order_list(flat, 0, count, k + 1, end, trees, pending);
-    let said = after.verdict;
-    if let Verdict::Refused(why, place) = said {
+    let verdictResult = after.verdict;
+    if let Verdict::Refused(why, position) = verdictResult {
         return after;
     }
     let taken = pending::take_head(after.pending, a);
@@ -121,8 +121,8 @@ fn order_list(
         };
     }
     let first = order_at(flat, k, end, trees, pending);
-    let said = first.verdict;
-    if let Verdict::Refused(why, place) = said {
+    let verdictResult = first.verdict;
+    if let Verdict::Refused(why, position) = verdictResult {
         return first;
     }
     order_list(flat, i + 1, count, first.next, end, trees, first.pending)
@@ -150,13 +150,13 @@ fn order_case(flat: &[u8], a: u8, k: usize, end: usize, trees: u16, pending: Pen
     }
     let leaf = order_at(flat, k + 1, end, trees, taken.pending);
     let leaf_said = leaf.verdict;
-    if let Verdict::Refused(why, place) = leaf_said {
+    if let Verdict::Refused(why, position) = leaf_said {
         return leaf;
     }
     let inner = pending::put_two(taken.pending, trees, trees + 1);
     let node = order_at(flat, leaf.next, end, trees + 2, inner);
     let node_said = node.verdict;
-    if let Verdict::Refused(why, place) = node_said {
+    if let Verdict::Refused(why, position) = node_said {
         return node;
     }
     joined(leaf.pending, node, k)
@@ -169,17 +169,17 @@ fn order_if(flat: &[u8], k: usize, end: usize, trees: u16, pending: Pending) -> 
 {
     let test = order_at(flat, k + 1, end, trees, pending);
     let test_said = test.verdict;
-    if let Verdict::Refused(why, place) = test_said {
+    if let Verdict::Refused(why, position) = test_said {
         return test;
     }
     let zero = order_at(flat, test.next, end, trees, test.pending);
     let zero_said = zero.verdict;
-    if let Verdict::Refused(why, place) = zero_said {
+    if let Verdict::Refused(why, position) = zero_said {
         return zero;
     }
     let other = order_at(flat, zero.next, end, trees, test.pending);
     let other_said = other.verdict;
-    if let Verdict::Refused(why, place) = other_said {
+    if let Verdict::Refused(why, position) = other_said {
         return other;
     }
     joined(zero.pending, other, k)
@@ -191,8 +191,8 @@ fn order_function(flat: &[u8], k: usize, end: usize) -> Checked
     ensures { λ r. ⌜ OrderedFunction (now (flat .entry)) k end r ⌝ }
 {
     let body = order_at(flat, k, end, 1, pending::parameter_alone());
-    let said = body.verdict;
-    if let Verdict::Refused(why, place) = said {
+    let verdictResult = body.verdict;
+    if let Verdict::Refused(why, position) = verdictResult {
         return body;
     }
     let left = body.pending;
@@ -218,9 +218,9 @@ fn pass(flat: &[u8]) -> Verdict
     let mut j = 0;
     while j < functions {
         let checked = order_function(flat, k, end);
-        let said = checked.verdict;
-        if let Verdict::Refused(why, place) = said {
-            return Verdict::Refused(why, place);
+        let verdictResult = checked.verdict;
+        if let Verdict::Refused(why, position) = verdictResult {
+            return Verdict::Refused(why, position);
         }
         k = checked.next;
         j = j + 1;
@@ -229,12 +229,12 @@ fn pass(flat: &[u8]) -> Verdict
 }
 
 // The rows header to prefix form, pass one, then pass two.
-pub fn check_order(flat: &[u8]) -> Verdict
-    ensures { λ r. ⌜ said r ≡ checkRecords (now (flat .entry)) ⌝ }
+pub fn check_all_rows(flat: &[u8]) -> Verdict
+    ensures { λ r. ⌜ verdictResult r ≡ checkRecords (now (flat .entry)) ⌝ }
 {
     let one = pass_one::check_pass_one(flat);
-    if let Verdict::Refused(why, place) = one {
-        return Verdict::Refused(why, place);
+    if let Verdict::Refused(why, position) = one {
+        return Verdict::Refused(why, position);
     }
     pass(flat)
 }

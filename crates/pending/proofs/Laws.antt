@@ -9,16 +9,16 @@ use native.Mathlib.Numerals.{towards-suc}
 use borrow.Author.Tests.{not-true, not-false, eq-eqb, ne-eqb, eqb-true, eqb-false, le-leb, lt-leb}
 use lib.Dec.{leb, eqb}
 use lib.ListN.{length, getD, replicate, set, length-set}
-use Rattle.formats.specs.Places.{fromLast}
+use Rattle.formats.specs.Buffers.{fromLast}
 use Rattle.formats.specs.Refusals.{outOfOrder}
 use Rattle.formats.specs.Results.{done, refusal, check}
-use Rattle.formats.proofs.Places.{length-from, from-top}
+use Rattle.formats.proofs.Buffers.{length-from, from-top}
 use Rattle.formats.proofs.Results.{done-injective, done-not}
 use Rattle.rules.specs.Leftover.{mostPending}
 use Rattle.rules.specs.PassTwo.{takeHead, sameNames}
 use Rattle.pending.specs.declared.Pending.{Pending}
 use Rattle.pending.specs.declared.Taken.{Taken}
-use Rattle.pending.specs.List.{lengthOf, listOf, parameterAlone, Alone, isHead, headTaken, Took, putTwo, twoAfter, twoPut, InFront}
+use Rattle.pending.specs.Inner.List.{lengthOf, listOf, parameterAlone, Alone, isHead, headTaken, Took, putTwo, twoAfter, twoPut, InFront}
 
 -- ---- the list
 
@@ -56,7 +56,7 @@ module _ (p : Pending) (a l : ℕ) (counted : l ≡ lengthOf p) where
   unfolding fromLast takeHead
   took-none none =
       let empty : listOf p ≡ [] = counted-list p l counted ∙ ap (fromLast (p .names)) none in
-      record { whole = not-head (ap (isHead a) empty); tells = λ k. ap (takeHead a k) empty; kept = λ h. refl }
+      record { whole = not-head (ap (isHead a) empty); reports = λ k. ap (takeHead a k) empty; kept = λ h. refl }
 
   module _ (some : l ≢ 0) where
     head-test : isHead a (listOf p) ≡ eqb (getD (p .names) (l - 1) 0) a
@@ -70,7 +70,7 @@ module _ (p : Pending) (a l : ℕ) (counted : l ≡ lengthOf p) where
     pub took-other : getD (p .names) (l - 1) 0 ≢ a → Took p a (record { head = false; pending = p })
     took-other other = record {
       whole = not-head (head-test ∙ ne-eqb _ _ other);
-      tells = λ k. tested k ∙ rw (ne-eqb _ _ other);
+      reports = λ k. tested k ∙ rw (ne-eqb _ _ other);
       kept = λ h. refl;
     }
 
@@ -78,7 +78,7 @@ module _ (p : Pending) (a l : ℕ) (counted : l ≡ lengthOf p) where
     unfolding headTaken
     took-head is = record {
       whole = let test : isHead a (listOf p) ≡ true = head-test ∙ eq-eqb _ _ is in sym (rw (test, headTaken, counted));
-      tells = λ k. tested k ∙ rw (eq-eqb _ _ is, short-list (p .names) (l - 1) (omega arith));
+      reports = λ k. tested k ∙ rw (eq-eqb _ _ is, short-list (p .names) (l - 1) (omega arith));
       kept = λ h. cc;
     }
 
@@ -181,10 +181,10 @@ head-less a k (x ∷ xs) rest e = by (eqb x a) e
 
 module _ (p : Pending) (a k : ℕ) (taken : Taken) (took : Took p a taken) where
   pub not-taken : not (taken .head) ≡ true → takeHead a k (listOf p) ≡ refusal outOfOrder k
-  not-taken other = took .tells k ∙ rw (not-true (taken .head) other)
+  not-taken other = took .reports k ∙ rw (not-true (taken .head) other)
 
   pub is-taken : not (taken .head) ≡ false → takeHead a k (listOf p) ≡ done (listOf (taken .pending))
-  is-taken head = took .tells k ∙ rw (not-false (taken .head) head)
+  is-taken head = took .reports k ∙ rw (not-false (taken .head) head)
 
   pub two-fit : (left right : ℕ) → not (taken .head) ≡ false → length (listOf p) < mostPending
       → putTwo left right (listOf (taken .pending)) ≡ left ∷ (right ∷ listOf (taken .pending))

@@ -1,2 +1,2 @@
 -- What the functions on pending trees answer.
-pub mod List
+pub mod Inner

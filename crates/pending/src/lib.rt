@@ -5,7 +5,7 @@ ghost use lib.Dec.{leb};
 ghost use lib.ListN.{length};
 ghost use Rattle.rules.specs.Leftover.{mostPending};
 ghost use Rattle.rules.specs.PassTwo.{sameNames};
-ghost use Rattle.pending.specs.List.{lengthOf, listOf, Alone, Took, InFront};
+ghost use Rattle.pending.specs.Inner.List.{lengthOf, listOf, Alone, Took, InFront};
 
 // The most trees pending.
 const MOST_PENDING: usize = 16;

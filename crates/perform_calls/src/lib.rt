@@ -4,9 +4,9 @@ ghost use lib.ListN.{length};
 ghost use Rattle.meaning.specs.Running.{streamRun};
 ghost use Rattle.run_answers.specs.RunCall.{StreamCall};
 
-// The stream run of any code. The refusal's number, 0 where the run ended; the refusal's place, units, bytes read, bytes written and the number,
-// sign-extended to 64 bits, go to the answer's first five places. What the run wrote stays in `output`, and the rest is untouched. Fewer than 16,384
-// `values` or 2,048 `returns`: 13, and they are untouched; what they hold after a run is free. With fewer than five places in `answer`: 13, and all buffers
+// The stream run of any code. The refusal's number, 0 where the run ended; the refusal's position, units, bytes read, bytes written and the number,
+// sign-extended to 64 bits, go to the answer's first five slots. What the run wrote stays in `output`, and the rest is untouched. Fewer than 16,384
+// `values` or 2,048 `returns`: 13, and they are untouched; what they hold after a run is free. With fewer than five slots in `answer`: 13, and all buffers
 // are untouched.
 pub fn perform(
     code: &[u8],
@@ -23,5 +23,5 @@ pub fn perform(
         return refusal::number_of(Refusal::SpaceTooShort);
     }
     let ran = machine::perform(fuel, output, values, returns, code, input);
-    run_answers::tell_run(ran, answer)
+    run_answers::report_run(ran, answer)
 }

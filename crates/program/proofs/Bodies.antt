@@ -13,9 +13,9 @@ use Rattle.formats.specs.Results.{Result, done, refusal, andThen, check, verdic
 use Rattle.formats.specs.Records.{Kind, recordAt}
 use Rattle.formats.specs.Programs.{Expr, Signature, arityOf, total, Function}
 use Rattle.formats.specs.Rows.{headerIn, functionIn, countIn, functionRow, nodeIn, nodeRow, exprsOf, exactlyOne, bodies, prefixRow}
-use Rattle.formats.proofs.Results.{then-done, then-refused, each-inv, each-none, each-front, test-holds, test-fails, passed-is, refused-is, each-behind}
+use Rattle.formats.proofs.Results.{then-done, then-refused, each-inv, each-none, each-front, test-holds, test-fails, passed-is, refused-is, each-after}
 use Rattle.formats.proofs.Rows.{function-read, summed-inv, row-read, arity-read}
-use Rattle.program.specs.Prefix.{IsOne, PrefixSays}
+use Rattle.program.specs.Inner.Prefix.{IsOne, PrefixSays}
 
 -- a function's check in front of the others'
 body-passed : (arity : ℕ → ℕ) (g : Signature) (gs : List Signature) (ks : List Kind) (r : ℕ)
@@ -29,13 +29,13 @@ body-passed arity g gs ks r e =
     same : (fs : Result (List Function)) (x : Expr)
         → verdict (andThen fs (λ l. done (record { sort = g .sort; parameters = g .parameters; body = x } ∷ l))) ≡ verdict fs
     same (done l) x = refl
-    same (refusal number place) x = refl
+    same (refusal number position) x = refl
 
-body-refused : (arity : ℕ → ℕ) (g : Signature) (gs : List Signature) (ks : List Kind) (r number place : ℕ)
-    → verdict (exactlyOne r (exprsOf arity (take (g .count) ks))) ≡ refusal number place → verdict (bodies arity (g ∷ gs) ks r) ≡ refusal number place
+body-refused : (arity : ℕ → ℕ) (g : Signature) (gs : List Signature) (ks : List Kind) (r number position : ℕ)
+    → verdict (exactlyOne r (exprsOf arity (take (g .count) ks))) ≡ refusal number position → verdict (bodies arity (g ∷ gs) ks r) ≡ refusal number position
 unfolding bodies
-body-refused arity g gs ks r number place e =
-    ap verdict (then-refused _ (refused-is (exactlyOne r (exprsOf arity (take (g .count) ks))) number place e))
+body-refused arity g gs ks r number position e =
+    ap verdict (then-refused _ (refused-is (exactlyOne r (exprsOf arity (take (g .count) ks))) number position e))
 
 -- ---- `prefix_row`
 
@@ -59,23 +59,23 @@ module _ (s : List ℕ) (functions : ℕ) where
     near = omega arith;
     rest = λ gs ks eg ek.
         let g = summed-inv (headerIn s) s gs eg in
-        let place : suc (headerIn s .functions) ≡ 1 + functions = omega arith in
+        let position : suc (headerIn s .functions) ≡ 1 + functions = omega arith in
         record {
           signed = gs;
           kinds = ks;
           signed-read = rw (ef, sub-zero) (row-read s gs eg);
-          kinds-read = rw (g .sum, ← place) ek;
-          left = ap (λ r. verdict (bodies (arityOf gs) gs ks r)) place;
+          kinds-read = rw (g .sum, ← position) ek;
+          left = ap (λ r. verdict (bodies (arityOf gs) gs ks r)) position;
         };
   }
 
-  -- function j, with its records and those behind them
+  -- function j, with its records and those after them
   record Turn (gs : List Signature) (ks : List Kind) (first j count : ℕ) : Type 0 where
     here : List Kind
     here-read : each (nodeIn s) count first ≡ done here
     passed : verdict (exactlyOne first (exprsOf (arityOf gs) here)) ≡ done tt → Left gs ks (first + count) (j + 1)
-    refused : (number place : ℕ) → verdict (exactlyOne first (exprsOf (arityOf gs) here)) ≡ refusal number place
-        → verdict (prefixRow (headerIn s) gs ks) ≡ refusal number place
+    refused : (number position : ℕ) → verdict (exactlyOne first (exprsOf (arityOf gs) here)) ≡ refusal number position
+        → verdict (prefixRow (headerIn s) gs ks) ≡ refusal number position
 
   turn : (gs : List Signature) (ks : List Kind) (first j count : ℕ) → j < functions → count ≡ countIn s j → Left gs ks first j → Turn gs ks first j count
   unfolding total
@@ -84,7 +84,7 @@ module _ (s : List ℕ) (functions : ℕ) where
       let i = each-inv (functionIn s) (functions - (j + 1)) j (l .signed) (rw next at (l .signed-read)) in
       let own : i .head .count ≡ count = function-read s j (i .head) (i .here) .count ∙ sym is in
       let sum : total (l .signed) ≡ count + total (i .tail) = ap total (i .both) ∙ ap (λ n. n + total (i .tail)) own in
-      let behind : total (l .signed) - count ≡ total (i .tail) = omega arith in
+      let after : total (l .signed) - count ≡ total (i .tail) = omega arith in
       let left : verdict (prefixRow (headerIn s) gs ks) ≡ verdict (bodies (arityOf gs) (i .head ∷ i .tail) (l .kinds) first) =
       l .left ∙ ap (λ fs. verdict (bodies (arityOf gs) fs (l .kinds) first)) (i .both) in
       record {
@@ -94,21 +94,21 @@ module _ (s : List ℕ) (functions : ℕ) where
           signed = i .tail;
           kinds = drop count (l .kinds);
           signed-read = ap (each (functionIn s) (functions - (j + 1))) (add-one j) ∙ i .later;
-          kinds-read = rw behind at (each-behind (nodeIn s) (total (l .signed)) count first (l .kinds) (l .kinds-read) (omega arith));
+          kinds-read = rw after at (each-after (nodeIn s) (total (l .signed)) count first (l .kinds) (l .kinds-read) (omega arith));
           left = left ∙ (rw own at (body-passed (arityOf gs) (i .head) (i .tail) (l .kinds) first (rw own e)));
         };
-        refused = λ number place e. left ∙ body-refused (arityOf gs) (i .head) (i .tail) (l .kinds) first number place (rw own e);
+        refused = λ number position e. left ∙ body-refused (arityOf gs) (i .head) (i .tail) (l .kinds) first number position (rw own e);
       }
 
   module _ (first j count : ℕ) (one : Bool) (more : j < functions) (b : Bodied first j)
-      (is : count ≡ countIn s j) (told : IsOne s first (first + count) one)
+      (is : count ≡ countIn s j) (reported : IsOne s first (first + count) one)
     where
       -- what the answer says of the function's records
       one-said : (gs : List Signature) (here : List Kind) → functionRow (headerIn s) s ≡ done gs → each (nodeIn s) count first ≡ done here
           → check one prefixForm first tt ≡ verdict (exactlyOne first (exprsOf (arityOf gs) here))
       one-said gs here eg e =
           let long : first + count - first ≡ count = omega arith in
-          told .is (arityOf gs) here (arity-read s gs eg) (rw long e)
+          reported .is (arityOf gs) here (arity-read s gs eg) (rw long e)
 
       pub bodies-more : count < 65536 → not one ≡ false → Bodied (first + count) (j + 1)
       bodies-more small u = record {

@@ -14,11 +14,11 @@ use Rattle.formats.specs.Refusals.{prefixForm}
 use Rattle.formats.specs.Results.{Result, done, check, verdict, each}
 use Rattle.formats.specs.Records.{Kind, Const, Var, Add, IfZero, Let, Leaf, Node, Case, Call, below, partsOf, partCount}
 use Rattle.formats.specs.Rows.{headerIn, arityIn, nodeIn, exprsOf, exactlyOne}
-use Rattle.formats.proofs.Results.{each-inv, each-none, each-behind}
+use Rattle.formats.proofs.Results.{each-inv, each-none, each-after}
 use Rattle.formats.proofs.Records.{node-below}
 use Rattle.formats.proofs.Prefix.{Height, height-short, height-step, none-stays, one-of, not-one-of, none-of}
-use Rattle.nodes.specs.Parts.{partsIn}
-use Rattle.program.specs.Prefix.{Arities, IsOne}
+use Rattle.nodes.specs.Inner.Parts.{partsIn}
+use Rattle.program.specs.Inner.Prefix.{Arities, IsOne}
 
 -- a node that was read has as many parts as the code counts: it calls one of the functions
 parts-agree : (s : List ℕ) (arity : ℕ → ℕ) (kind : Kind) → Arities s arity → below (headerIn s .functions) kind ≡ true
@@ -42,9 +42,9 @@ node-parts s arity k kind a e = (rw (e, partsIn)) ∙ sym (parts-agree s arity k
 each-from : {A : Type 0} (f : ℕ → Result A) (first k end : ℕ) (xs : List A) → each f (end - first) first ≡ done xs → first ≤ k → k ≤ end
     → each f (end - k) k ≡ done (drop (k - first) xs)
 each-from f first k end xs e h g =
-    let place : first + (k - first) ≡ k = omega arith in
+    let position : first + (k - first) ≡ k = omega arith in
     let left : (end - first) - (k - first) ≡ end - k = omega arith in
-    ap₂ (each f) (sym left) (sym place) ∙ each-behind f (end - first) (k - first) first xs e (omega arith)
+    ap₂ (each f) (sym left) (sym position) ∙ each-after f (end - first) (k - first) first xs e (omega arith)
 
 -- a record in front of those that stand: there are enough for its parts, or too few
 more-stand : (arity : ℕ → ℕ) (kind : Kind) (ks : List Kind) (standing parts : ℕ) → Height arity ks standing → parts ≡ partCount arity (partsOf kind)
@@ -79,10 +79,10 @@ module _ (s : List ℕ) (first end : ℕ) where
   -- the record in front of those from k on, and its parts
   record Front (k : ℕ) (arity : ℕ → ℕ) (ks : List Kind) : Type 0 where
     kind : Kind
-    behind : List Kind
-    both : ks ≡ kind ∷ behind
+    after : List Kind
+    both : ks ≡ kind ∷ after
     parts : partsIn s (k - 1) ≡ partCount arity (partsOf kind)
-    read : each (nodeIn s) (end - k) k ≡ done behind
+    read : each (nodeIn s) (end - k) k ≡ done after
 
   front : (k : ℕ) (arity : ℕ → ℕ) (ks : List Kind) → first < k → k ≤ end → Arities s arity → each (nodeIn s) (end - (k - 1)) (k - 1) ≡ done ks → Front k arity ks
   front k arity ks more upto a e =
@@ -91,7 +91,7 @@ module _ (s : List ℕ) (first end : ℕ) where
       let i = each-inv (nodeIn s) (end - k) (k - 1) ks (rw one-more at e) in
       record {
         kind = i .head;
-        behind = i .tail;
+        after = i .tail;
         both = i .both;
         parts = node-parts s arity (k - 1) (i .head) a (i .here);
         read = ap (each (nodeIn s) (end - k)) (sym next) ∙ i .later;
@@ -107,7 +107,7 @@ module _ (s : List ℕ) (first end : ℕ) where
       within = omega (arith, w .within);
       stands = λ arity ks a e.
           let f = front k arity ks more (upto k standing w) a e in
-          rw (f .both) (more-stand arity (f .kind) (f .behind) standing parts (w .stands arity (f .behind) a (f .read)) (is ∙ f .parts) enough);
+          rw (f .both) (more-stand arity (f .kind) (f .after) standing parts (w .stands arity (f .after) a (f .read)) (is ∙ f .parts) enough);
     }
 
     pub walk-short : standing < parts → IsOne s first end false
@@ -118,7 +118,7 @@ module _ (s : List ℕ) (first end : ℕ) where
           is = λ arity ks a e.
               let m = k - 1 - first in
               let f = front k arity (drop m ks) more (upto k standing w) a (each-from (nodeIn s) first (k - 1) end ks e from until) in
-              let none-left = none-stand arity (f .kind) (f .behind) standing parts (w .stands arity (f .behind) a (f .read)) (is ∙ f .parts) few in
+              let none-left = none-stand arity (f .kind) (f .after) standing parts (w .stands arity (f .after) a (f .read)) (is ∙ f .parts) few in
               let all : exprsOf arity ks ≡ none =
               ap (exprsOf arity) (sym (take-append-drop m ks)) ∙ none-stays arity (take m ks) (drop m ks) (ap (exprsOf arity) (f .both) ∙ none-left) in
               sym (none-of arity ks first all);

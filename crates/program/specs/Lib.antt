@@ -1,2 +1,2 @@
 -- What the functions of the row "prefix form" answer.
-pub mod Prefix
+pub mod Inner

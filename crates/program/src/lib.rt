@@ -5,11 +5,11 @@ ghost use Prim.Native.Nat.{_≤_};
 ghost use mathlib.Core.Path.{_≡_};
 ghost use Rattle.formats.specs.Results.{verdict};
 ghost use Rattle.formats.specs.Rows.{readProgram};
-ghost use Rattle.refusal.specs.Said.{said};
-ghost use Rattle.program.specs.Prefix.{IsOne, PrefixSays};
+ghost use Rattle.refusal.specs.Inner.Verdicts.{verdictResult};
+ghost use Rattle.program.specs.Inner.Prefix.{IsOne, PrefixSays};
 
 // Whether the records from the first up to the end are exactly one expression. From the last to the first, each takes its parts off the
-// expressions that stand behind it, and is one expression with them.
+// expressions that stand after it, and is one expression with them.
 fn one_expression(flat: &[u8], first: usize, end: usize) -> bool
     requires { ⌜ first ≤ end ⌝ }
     ensures { λ r. ⌜ IsOne (now (flat .entry)) first end r ⌝ }
@@ -29,7 +29,7 @@ fn one_expression(flat: &[u8], first: usize, end: usize) -> bool
 
 // The row "prefix form".
 fn prefix_row(flat: &[u8]) -> Verdict
-    ensures { λ r. ⌜ PrefixSays (now (flat .entry)) (said r) ⌝ }
+    ensures { λ r. ⌜ PrefixSays (now (flat .entry)) (verdictResult r) ⌝ }
 {
     let functions = signatures::functions_in(flat) as u16;
     let mut first = 1 + (functions as usize);
@@ -47,19 +47,19 @@ fn prefix_row(flat: &[u8]) -> Verdict
 
 // The rows header to prefix form, each finished before the next begins.
 pub fn check_records(flat: &[u8]) -> Verdict
-    ensures { λ r. ⌜ said r ≡ verdict (readProgram (now (flat .entry))) ⌝ }
+    ensures { λ r. ⌜ verdictResult r ≡ verdict (readProgram (now (flat .entry))) ⌝ }
 {
     let header = header::header_row(flat);
-    if let Verdict::Refused(why, place) = header {
-        return Verdict::Refused(why, place);
+    if let Verdict::Refused(why, position) = header {
+        return Verdict::Refused(why, position);
     }
     let functions = functions::function_row(flat);
-    if let Verdict::Refused(why, place) = functions {
-        return Verdict::Refused(why, place);
+    if let Verdict::Refused(why, position) = functions {
+        return Verdict::Refused(why, position);
     }
     let nodes = nodes::node_row(flat);
-    if let Verdict::Refused(why, place) = nodes {
-        return Verdict::Refused(why, place);
+    if let Verdict::Refused(why, position) = nodes {
+        return Verdict::Refused(why, position);
     }
     prefix_row(flat)
 }

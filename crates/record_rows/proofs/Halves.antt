@@ -11,16 +11,16 @@ use Rattle.formats.specs.Records.{Kind, recordAt}
 use Rattle.formats.specs.Records.{Const as aConst, Var as aVar, Add as anAdd, IfZero as anIfZero, Let as aLet, Leaf as aLeaf, Node as aNode, Case as aCase, Call as aCall}
 use Rattle.formats.specs.Rows.{headerIn, arityIn, countIn}
 use Rattle.functions.proofs.Functions.{Summed, sum-none, sum-more, sum-all}
-use Rattle.records.specs.Read.{meant}
+use Rattle.records.specs.Inner.Read.{meant}
 use Rattle.records.specs.declared.Record.{Record}
 use Rattle.records.specs.declared.Record.the-variants.{Const, Var, Add, IfZero, Let, Leaf, Node, Case, Call}
 use Rattle.records.specs.declared.Constant.{Constant}
 use Rattle.records.specs.declared.NumberName.{NumberName}
 use Rattle.records.specs.declared.TreeName.{TreeName}
 use Rattle.records.specs.declared.Called.{Called}
-use Rattle.stepwise.specs.Rows.{givesConstant, givesNamed, entersPart, tagsNode, looksAtTree, callsFunction, actionOf, codeOf, moreOf}
+use Rattle.stepwise.specs.Inner.Rows.{givesConstant, givesNamed, entersPart, tagsNode, looksAtTree, callsFunction, actionOf, codeOf, moreOf}
 use Rattle.record_rows.specs.declared.Own.{Own}
-use Rattle.record_rows.specs.Halves.{firstIn, operandIn, treeIn, ownIn}
+use Rattle.record_rows.specs.Inner.Halves.{firstIn, operandIn, treeIn, ownIn}
 
 -- ---- `first_record`
 

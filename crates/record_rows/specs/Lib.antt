@@ -1,2 +1,2 @@
 -- The first half of a record's row.
-pub mod Halves
+pub mod Inner

@@ -3,9 +3,9 @@ use records::Record;
 ghost use Prim.Native.Nat.{_%_};
 ghost use mathlib.Core.Path.{_≡_};
 ghost use lib.ListN.{getD, take};
-ghost use Rattle.records.specs.Read.{meant};
-ghost use Rattle.stepwise.specs.Rows.{codeOf};
-ghost use Rattle.record_rows.specs.Halves.{firstIn, ownIn};
+ghost use Rattle.records.specs.Inner.Read.{meant};
+ghost use Rattle.stepwise.specs.Inner.Rows.{codeOf};
+ghost use Rattle.record_rows.specs.Inner.Halves.{firstIn, ownIn};
 
 // What a record does when it begins.
 const GIVES_CONSTANT: u16 = 0;

@@ -16,7 +16,7 @@ use Rattle.formats.specs.Refusals.{nodeField}
 use Rattle.formats.specs.Results.{done, refusal, check, onValue}
 use Rattle.formats.specs.Records.{Kind, Parts, fields, recordBytes, recordAt, kinds, kindOf, nth, same, below, fieldsOf, nodeRecord, partsOf}
 use Rattle.formats.specs.Records.{aNumber, aTree, asWhole, underNumber, underTrees, these, argumentsOf, Const, Var, Add, IfZero, Let, Leaf, Node, Case, Call}
-use Rattle.formats.specs.CodeColumn.{templateOf}
+use Rattle.formats.specs.Inner.CodeColumn.{templateOf}
 use Rattle.formats.specs.Rows.{headerIn, nodeAt, nodeIn}
 use Rattle.formats.proofs.Numbers.{numberAt-cut}
 use Rattle.formats.proofs.Results.{both-held}
@@ -29,7 +29,7 @@ use Rattle.records.specs.declared.Items.the-variants.{None, One, Two}
 use Rattle.records.specs.declared.Template.{Template}
 use Rattle.records.specs.declared.RecordRead.{RecordRead}
 use Rattle.records.specs.declared.RecordRead.the-variants.{Refused}
-use Rattle.records.specs.Read.{OfKind, StandsAt, Shape, columnOf, described, shapeOf}
+use Rattle.records.specs.Inner.Read.{OfKind, StandsAt, Shape, columnOf, described, shapeOf}
 
 -- ---- templates
 
@@ -116,33 +116,33 @@ says {functions = functions} {b = b} {i = i} (call-arm e) = record {
 
 -- the one law of all arms
 pub of-arm :
-    (functions place x n a b i u : ℕ) (k : Kind) (parts : Parts) (t own : Template) (r : RecordRead)
+    (functions position x n a b i u : ℕ) (k : Kind) (parts : Parts) (t own : Template) (r : RecordRead)
     → x ≡ n
     → t ≡ own
     → Arm functions a b i u n k parts own
-    → described r ≡ check (eqb u 0) nodeField place (record { kind = k; parts = parts; template = columnOf t })
-    → OfKind functions place x a b i r
+    → described r ≡ check (eqb u 0) nodeField position (record { kind = k; parts = parts; template = columnOf t })
+    → OfKind functions position x a b i r
 unfolding nodeRecord
-of-arm functions place x n a b i u k parts t own r number is arm told =
+of-arm functions position x n a b i u k parts t own r number is arm reported =
     let s = says arm in
     record {
       is = λ edition.
-          told
-          ∙ ap₂ (λ p c. check (eqb u 0) nodeField place (record { kind = k; parts = p; template = c })) (s .its-parts) (ap columnOf is ∙ s .column)
+          reported
+          ∙ ap₂ (λ p c. check (eqb u 0) nodeField position (record { kind = k; parts = p; template = c })) (s .its-parts) (ap columnOf is ∙ s .column)
           ∙ checked (eqb u 0)
-          ∙ ap (onValue shapeOf) (sym (ap (λ m. nodeRecord edition functions place (fields m a b i)) number ∙ reads s edition));
+          ∙ ap (onValue shapeOf) (sym (ap (λ m. nodeRecord edition functions position (fields m a b i)) number ∙ reads s edition));
     }
   where
-    reads : Says functions a b i u n k parts own → (edition : ℕ) → nodeRecord edition functions place (fields n a b i) ≡ check (eqb u 0) nodeField place k
+    reads : Says functions a b i u n k parts own → (edition : ℕ) → nodeRecord edition functions position (fields n a b i) ≡ check (eqb u 0) nodeField position k
     reads s edition = rw (nodeRecord, s .kind edition, s .unused)
 
-    checked : (t : Bool) → check t nodeField place (shapeOf k) ≡ onValue shapeOf (check t nodeField place k)
+    checked : (t : Bool) → check t nodeField position (shapeOf k) ≡ onValue shapeOf (check t nodeField position k)
     checked true = refl
     checked false = refl
 
 -- a kind number above the last
 pub of-none :
-    (functions place x a b i : ℕ)
+    (functions position x a b i : ℕ)
     → x ≢ 0
     → x ≢ 1
     → x ≢ 2
@@ -152,9 +152,9 @@ pub of-none :
     → x ≢ 6
     → x ≢ 7
     → x ≢ 8
-    → OfKind functions place x a b i (Refused NodeField place)
+    → OfKind functions position x a b i (Refused NodeField position)
 unfolding nodeRecord kindOf kinds
-of-none functions place x a b i n0 n1 n2 n3 n4 n5 n6 n7 n8 =
+of-none functions position x a b i n0 n1 n2 n3 n4 n5 n6 n7 n8 =
     let above : 9 ≤ x = but 8 x (but 7 x (but 6 x (but 5 x (but 4 x (but 3 x (but 2 x (but 1 x (but 0 x (omega arith) n0) n1) n2) n3) n4) n5) n6) n7) n8 in
     record { is = λ edition. simp (nodeRecord, kindOf, none-past (kinds edition a b i) x above) }
 
@@ -163,11 +163,11 @@ pub ruleset arms =
 
 -- ---- the other functions
 
-pub row-zero : (sum place : ℕ) (x : Shape) → sum ≡ 0 → done x ≡ check (eqb sum 0) nodeField place x
-row-zero sum place x h = rw (eq-eqb _ _ h)
+pub row-zero : (sum position : ℕ) (x : Shape) → sum ≡ 0 → done x ≡ check (eqb sum 0) nodeField position x
+row-zero sum position x h = rw (eq-eqb _ _ h)
 
-pub row-other : (sum place : ℕ) (x : Shape) → sum ≢ 0 → refusal nodeField place ≡ check (eqb sum 0) nodeField place x
-row-other sum place x h = rw (ne-eqb _ _ h)
+pub row-other : (sum position : ℕ) (x : Shape) → sum ≢ 0 → refusal nodeField position ≡ check (eqb sum 0) nodeField position x
+row-other sum position x h = rw (ne-eqb _ _ h)
 
 pub call-below : (b i functions : ℕ) → b < functions → eqb i 0 ≡ (ltb b functions && eqb i 0)
 call-below b i functions h = rw (lt-ltb _ _ h)
@@ -190,7 +190,7 @@ stands-past s k h =
 pub stands-there : (s : List ℕ) (k : ℕ) → k ≤ length s / recordBytes → StandsAt s k (recordBytes * k)
 stands-there s k h = record { within = omega arith; byte-0 = refl; byte-1 = refl; bytes-2 = refl; bytes-4 = refl }
 
--- the record read at its place, with the header's number of functions
+-- the record read at its position, with the header's number of functions
 pub read-there :
     (s : List ℕ) (k p x a b i f : ℕ) (r : RecordRead)
     → StandsAt s k p

@@ -1,2 +1,2 @@
 -- What the functions over node records answer.
-pub mod Read
+pub mod Inner

@@ -7,7 +7,7 @@ ghost use lib.Dec.{eqb, ltb};
 ghost use Rattle.formats.specs.Refusals.{nodeField};
 ghost use Rattle.formats.specs.Results.{check, onValue};
 ghost use Rattle.formats.specs.Rows.{nodeIn};
-ghost use Rattle.records.specs.Read.{OfKind, StandsAt, described, shaped, shapeOf};
+ghost use Rattle.records.specs.Inner.Read.{OfKind, StandsAt, described, shaped, shapeOf};
 ghost use Rattle.records.specs.declared.Items.the-variants.{None, One};
 
 const RECORD_BYTES: usize = 8;
@@ -64,8 +64,8 @@ pub enum Parts {
     Arguments(u16),
 }
 
-// An item of a template: an instruction whose address or word is found when it is laid down. `Ifnot` and `ReadTag` go to the last part, `Jump` goes
-// behind the whole; `Get` is of a number name, `Call` of a function.
+// An item of a template: an instruction whose address or word is found when it is emitted. `Ifnot` and `ReadTag` go to the last part, `Jump` goes
+// after the whole; `Get` is of a number name, `Call` of a function.
 pub enum Item {
     Push(u32),
     Get(u8),
@@ -88,7 +88,7 @@ pub enum Items {
     Two(Item, Item),
 }
 
-// A kind's template: what stands before its first, second and third part, and behind them all.
+// A kind's template: what stands before its first, second and third part, and after them all.
 pub struct Template {
     pub first: Items,
     pub second: Items,
@@ -119,7 +119,7 @@ fn call_sum(b: u16, i: u32, functions: u8) -> u64
     1
 }
 
-// An item behind all parts.
+// An item after all parts.
 fn last(item: Item) -> Template
     ensures { λ r. ⌜ r ≡ record { first = None; second = None; third = None; last = One item } ⌝ }
 {
@@ -143,7 +143,7 @@ fn before(first: Items, second: Items, third: Items) -> Template
     }
 }
 
-// An item before the one part, and one behind it.
+// An item before the one part, and one after it.
 fn around(first: Item, last: Item) -> Template
     ensures { λ r. ⌜ r ≡ record { first = One first; second = None; third = None; last = One last } ⌝ }
 {
@@ -246,7 +246,7 @@ fn record_of(kind: u8, a: u8, b: u16, i: u32, functions: u8, at: usize) -> Recor
 }
 
 // Where record k stands, or the end where there is no such record.
-fn place_of(flat: &[u8], k: usize) -> usize
+fn position_of(flat: &[u8], k: usize) -> usize
     ensures { λ r. ⌜ StandsAt (now (flat .entry)) k r ⌝ }
 {
     if flat.len() / RECORD_BYTES < k {
@@ -259,7 +259,7 @@ fn place_of(flat: &[u8], k: usize) -> usize
 pub fn record_at(flat: &[u8], k: usize) -> RecordRead
     ensures { λ r. ⌜ described r ≡ onValue shapeOf (nodeIn (now (flat .entry)) k) ⌝ }
 {
-    let p = place_of(flat, k);
+    let p = position_of(flat, k);
     let kind = words::read8(flat, p);
     let a = words::read8(flat, p + 1);
     let b = words::read16(flat, p + 2);

@@ -1,5 +1,5 @@
--- Different refusals have different numbers. The refusals stand in a list in the order of their numbers, so a number is a place in that list,
--- counted from 1, and at that place stands the refusal itself: the list gives each refusal back from its number.
+-- Different refusals have different numbers. The refusals stand in a list in the order of their numbers, so a number is a position in that list,
+-- counted from 1, and at that position stands the refusal itself: the list gives each refusal back from its number.
 use Prim.Native.Nat.{ℕ, _-_, _≤_}
 use mathlib.Core.List.{List, [], _∷_}
 use mathlib.Core.Path.{_≡_, refl, sym, ap, _∙_}
@@ -8,7 +8,7 @@ use lib.ListN.{length, getD}
 use Rattle.refusal.specs.declared.Refusal.{Refusal}
 use Rattle.refusal.specs.declared.Refusal.the-variants.{FileLength, BlockCheck, BlockField, HeaderField, FunctionField, NodeField, PrefixForm, WrongType, NotBound, TooManyWords}
 use Rattle.refusal.specs.declared.Refusal.the-variants.{OutOfOrder, TooManyPending, SpaceTooShort, FuelUsedUp, InputEnded, NotATag, OutputFull, TooManyCalls, CannotPerform, TooDeep}
-use Rattle.refusal.specs.Number.{number}
+use Rattle.refusal.specs.Inner.Numbers.{number}
 
 -- the refusals in the order of their numbers
 abbrev inOrder : List Refusal
@@ -20,7 +20,7 @@ inOrder =
 abbrev numbered : ℕ → Refusal
 numbered n = getD inOrder (n - 1) FileLength
 
--- a refusal's number is a place in the list, and there it stands
+-- a refusal's number is a position in the list, and there it stands
 placed : (r : Refusal) → (1 ≤ number r) × (number r ≤ length inOrder) × (numbered (number r) ≡ r)
 placed FileLength = (lit≤ tt, lit≤ tt, refl)
 placed BlockCheck = (lit≤ tt, lit≤ tt, refl)

@@ -7,14 +7,14 @@ use Rattle.formats.specs.Results.{Result, done, refusal}
 use Rattle.formats.specs.Blocks.{lent}
 use Rattle.formats.specs.Written.{written}
 use Rattle.refusal.specs.declared.Refusal.{Refusal}
-use Rattle.refusal.specs.Number.{number}
-use Rattle.refusal.specs.Put.{Put}
+use Rattle.refusal.specs.Inner.Numbers.{number}
+use Rattle.refusal.specs.Inner.FilledBuffer.{FilledBuffer}
 use Rattle.refusal.specs.declared.Filled.the-variants.{Written, Refused}
 
-pub put-refused : (due : Result (List ℕ)) (before : List ℕ) (why : Refusal) (place : ℕ) → due ≡ refusal (number why) place → Put due before before (Refused why place)
+pub put-refused : (due : Result (List ℕ)) (before : List ℕ) (why : Refusal) (position : ℕ) → due ≡ refusal (number why) position → FilledBuffer due before before (Refused why position)
 unfolding lent
-put-refused due before why place e = rw e (record { answer = refl; buffer = refl })
+put-refused due before why position e = rw e (record { answer = refl; buffer = refl })
 
-pub put-done : (due : Result (List ℕ)) (before after bytes : List ℕ) (n : ℕ) → due ≡ done bytes → length bytes ≡ n → after ≡ written before 0 bytes → Put due before after (Written n)
+pub put-done : (due : Result (List ℕ)) (before after bytes : List ℕ) (n : ℕ) → due ≡ done bytes → length bytes ≡ n → after ≡ written before 0 bytes → FilledBuffer due before after (Written n)
 unfolding lent
 put-done due before after bytes n e size wrote = rw e (record { answer = ap done (sym size); buffer = wrote })

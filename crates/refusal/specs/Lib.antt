@@ -1,4 +1,2 @@
 -- What a refusal's number is, and what a check and a call that fills a buffer say.
-pub mod Number
-pub mod Said
-pub mod Put
+pub mod Inner

@@ -1,6 +1,6 @@
 // The refusals of 01, The table of refusals, in the order of their numbers.
 ghost use mathlib.Core.Path.{_≡_};
-ghost use Rattle.refusal.specs.Number.{number};
+ghost use Rattle.refusal.specs.Inner.Numbers.{number};
 
 // Why an input is refused.
 pub enum Refusal {
@@ -46,13 +46,13 @@ pub enum Refusal {
     TooDeep,
 }
 
-// What a check says: passed, or the first refusal and its place. What a run says: passed where it ended, or its refusal and the place.
+// What a check says: passed, or the first refusal and its position. What a run says: passed where it ended, or its refusal and the position.
 pub enum Verdict {
     Passed,
     Refused(Refusal, usize),
 }
 
-// What a call that fills a lent buffer answers: the bytes written from its start on; or the refusal and its place, and then the buffer is
+// What a call that fills a lent buffer answers: the bytes written from its start on; or the refusal and its position, and then the buffer is
 // untouched.
 pub enum Filled {
     Written(usize),

@@ -14,10 +14,10 @@ use Rattle.formats.specs.Tokens.{leaf, leafTag, nodeTag, leafBytes, tokens}
 use Rattle.formats.specs.Written.{written}
 use Rattle.formats.proofs.Numbers.{length-bytesOf}
 use Rattle.formats.proofs.Written.{written-one, written-append, written-none, written-short}
-use Rattle.stepwise.specs.Rows.{tagsNode, labelled}
-use Rattle.stepwise.specs.Steps.{actionAt, roleAt, saidFirst, saidLast}
+use Rattle.stepwise.specs.Inner.Rows.{tagsNode, labelled}
+use Rattle.stepwise.specs.Inner.Steps.{actionAt, roleAt, emittedFirst, emittedLast}
 use Rattle.stepwise.proofs.Steps.{said-node, said-nothing, said-leaf, said-none}
-use Rattle.result_bytes.specs.Bytes.{countLimit, counted, Says}
+use Rattle.result_bytes.specs.Inner.Bytes.{countLimit, counted, Says}
 
 -- ---- `count`
 
@@ -71,30 +71,30 @@ module _ (output : List ℕ) (at label : ℕ) where
 
 pub ruleset leaves = (leaf-fits, leaf-too-long, leaf-too-near)
 
--- ---- `say_first`, `say_last`
+-- ---- `emit_first`, `emit_last`
 
 module _ (T output : List ℕ) (r at : ℕ) where
-  pub first-nothing : (k : ℕ) → k ≡ actionAt T r → k ≢ tagsNode → Says (saidFirst T r) output output at at
+  pub first-nothing : (k : ℕ) → k ≡ actionAt T r → k ≢ tagsNode → Says (emittedFirst T r) output output at at
   first-nothing k e h =
-      let none : saidFirst T r ≡ [] = said-nothing T r (rw (← e) h) in
+      let none : emittedFirst T r ≡ [] = said-nothing T r (rw (← e) h) in
       record { wrote = rw none (sym (written-none output at)); count = rw none (sym (counted-none at)) }
 
   pub first-node : (k n : ℕ) (output′ : List ℕ) → k ≡ actionAt T r → k ≡ tagsNode → output′ ≡ written output at (nodeTag ∷ []) → n ≡ counted at 1
-      → Says (saidFirst T r) output output′ at n
+      → Says (emittedFirst T r) output output′ at n
   first-node k n output′ e h w c =
-      let one : saidFirst T r ≡ nodeTag ∷ [] = said-node T r (sym e ∙ h) in
+      let one : emittedFirst T r ≡ nodeTag ∷ [] = said-node T r (sym e ∙ h) in
       record { wrote = rw one w; count = rw one c }
 
-  pub last-nothing : (x k : ℕ) → k ≡ roleAt T r → k ≢ labelled → Says (saidLast T r x) output output at at
+  pub last-nothing : (x k : ℕ) → k ≡ roleAt T r → k ≢ labelled → Says (emittedLast T r x) output output at at
   last-nothing x k e h =
-      let none : saidLast T r x ≡ [] = said-none T r x (rw (← e) h) in
+      let none : emittedLast T r x ≡ [] = said-none T r x (rw (← e) h) in
       record { wrote = rw none (sym (written-none output at)); count = rw none (sym (counted-none at)) }
 
   pub last-leaf : (x k n : ℕ) (output′ : List ℕ) → k ≡ roleAt T r → k ≡ labelled → output′ ≡ written output at (tokens (leaf x)) → n ≡ counted at 5
-      → Says (saidLast T r x) output output′ at n
+      → Says (emittedLast T r x) output output′ at n
   unfolding tokens bytesOf
   last-leaf x k n output′ e h w c =
-      let one : saidLast T r x ≡ tokens (leaf x) = said-leaf T r x (sym e ∙ h) in
+      let one : emittedLast T r x ≡ tokens (leaf x) = said-leaf T r x (sym e ∙ h) in
       record { wrote = rw one w; count = rw one c }
 
 pub ruleset saying = (first-nothing, first-node, last-nothing, last-leaf)

@@ -1,2 +1,2 @@
 -- The bytes of a result, counted and written.
-pub mod Bytes
+pub mod Inner

@@ -8,8 +8,8 @@ ghost use mathlib.Core.List.{[], _∷_};
 ghost use mathlib.Core.Path.{_≡_};
 ghost use Rattle.formats.specs.Tokens.{leaf, tokens};
 ghost use Rattle.formats.specs.Written.{written};
-ghost use Rattle.stepwise.specs.Steps.{saidFirst, saidLast};
-ghost use Rattle.result_bytes.specs.Bytes.{counted, Says};
+ghost use Rattle.stepwise.specs.Inner.Steps.{emittedFirst, emittedLast};
+ghost use Rattle.result_bytes.specs.Inner.Bytes.{counted, Says};
 
 const LEAF_TAG: u8 = 1;
 
@@ -30,7 +30,7 @@ fn count(at: usize, n: u8) -> usize
     at
 }
 
-// Writes a byte at a place, if there is one.
+// Writes a byte at an offset, if there is one.
 fn put_byte(output: &mut [u8], at: usize, x: u8)
     ensures { λ _. ⌜ now (output .exit) ≡ written (now (output .entry)) at (x ∷ []) ⌝ }
 {
@@ -39,7 +39,7 @@ fn put_byte(output: &mut [u8], at: usize, x: u8)
     }
 }
 
-// Writes a leaf at a place, or nothing where it does not fit.
+// Writes a leaf at an offset, or nothing where it does not fit.
 fn write_leaf(output: &mut [u8], at: usize, label: u32)
     ensures { λ _. ⌜ now (output .exit) ≡ written (now (output .entry)) at (tokens (leaf label)) ⌝ }
 {
@@ -54,8 +54,8 @@ fn write_leaf(output: &mut [u8], at: usize, label: u32)
 }
 
 // A node's tag is written when it begins, where it fits. Gives the bytes written.
-pub fn say_first(table: &[u16], output: &mut [u8], s: Stage) -> usize
-    ensures { λ r. ⌜ Says (saidFirst (now (table .entry)) (s .node)) (now (output .entry)) (now (output .exit)) (s .written) r ⌝ }
+pub fn emit_first(table: &[u16], output: &mut [u8], s: Stage) -> usize
+    ensures { λ r. ⌜ Says (emittedFirst (now (table .entry)) (s .node)) (now (output .entry)) (now (output .exit)) (s .written) r ⌝ }
 {
     if frames::field(table, s.node, ACTION) != TAGS_NODE {
         return s.written;
@@ -65,8 +65,8 @@ pub fn say_first(table: &[u16], output: &mut [u8], s: Stage) -> usize
 }
 
 // A leaf is written when its number is finished, where it fits. Gives the bytes written.
-pub fn say_last(table: &[u16], output: &mut [u8], s: Stage) -> usize
-    ensures { λ r. ⌜ Says (saidLast (now (table .entry)) (s .node) (s .number)) (now (output .entry)) (now (output .exit)) (s .written) r ⌝ }
+pub fn emit_last(table: &[u16], output: &mut [u8], s: Stage) -> usize
+    ensures { λ r. ⌜ Says (emittedLast (now (table .entry)) (s .node) (s .number)) (now (output .entry)) (now (output .exit)) (s .written) r ⌝ }
 {
     if frames::field(table, s.node, ROLE) != LABELLED {
         return s.written;

@@ -1,4 +1,4 @@
--- Closed cases of pass one and pass two, proved by computation. Each row of a table is a program and what becomes of it.
+-- Closed cases of pass one and pass two, proved by computation. Each row of a table is a program and the outcome of it.
 use Prim.Native.Nat.{ℕ, zero, suc}
 use mathlib.Core.List.{List, [], _∷_, _++_, map}
 use mathlib.Core.Logic.{inl, inr}
@@ -12,8 +12,8 @@ use Rattle.formats.proofs.ProgramCases.{grow, grow-lawful}
 use Rattle.rules.specs.Types.{Int, Tree⁺, resultType, arrows, functionType, isInt, isTree, fits}
 use Rattle.rules.specs.Typing.{TypesName, Types, to-tree}
 use Rattle.rules.specs.Scopes.{scope, startOf, inside, partScope, entry, entered, enteredArgs, enteredAll}
-use Rattle.rules.specs.PassOne.{named, typed, bareNumber, wordsTested, roomy, atEntry, passOver, passOne, valueWords, wordsOf, wordsOfArgs}
-use Rattle.rules.specs.PassTwo.{takeHead, sameNames, joined, walk, walkArgs, noneLeft, walkAll, passTwo, order}
+use Rattle.rules.specs.PassOne.{named, typed, bareNumber, wordsTested, roomy, atEntry, passOver, passOne, wordsWithValue, wordsOf, wordsOfArgs}
+use Rattle.rules.specs.PassTwo.{takeHead, sameNames, equalBranches, walk, walkArgs, noneLeft, walkAll, passTwo, bothPasses}
 use Rattle.rules.specs.FirstFault.{FirstFault}
 use Rattle.rules.specs.OrderChecker.{Admitted, firstNode, Untyped}
 use Rattle.rules.proofs.OrderChecker.{order-checker}
@@ -82,7 +82,7 @@ worked =
     -- a Call's tree is taken after its arguments: g on 1 as argument, then f on 2
     ∷ says (done tt) (numbered (caseOf 0 (var 0) (with-one 1 2 (on 0 1))) ∷ taking (with-one 1 0 (const 1)) ∷ [])
     ∷ says (refusal 11 6) (numbered (caseOf 0 (var 0) (with-one 1 1 (on 0 2))) ∷ taking (with-one 1 0 (const 1)) ∷ [])
-    -- a fault in the second branch is told before unequal lists
+    -- a fault in the second branch is reported before unequal lists
     ∷ says (refusal 11 6) (numbered (caseOf 0 (const 1) (add (on 0 1) (on 0 1))) ∷ [])
     ∷ []
 
@@ -137,8 +137,8 @@ pass-one =
 
 -- ---- what is said is what is found
 
-verdicts : map (λ row. order (programOf (row .functions))) (worked ++ (pass-two ++ pass-one)) ≡ map (λ row. row .verdict) (worked ++ (pass-two ++ pass-one))
-unfolding order passOne passOver atEntry roomy wordsTested bareNumber typed named enteredAll entered enteredArgs inside startOf passTwo walkAll noneLeft walk walkArgs joined sameNames takeHead resultType isInt isTree fits size prefix prefixes nth signatureOf numbered treed taking programOf on with-one lets cases left-cases says worked pass-two pass-one
+verdicts : map (λ row. bothPasses (programOf (row .functions))) (worked ++ (pass-two ++ pass-one)) ≡ map (λ row. row .verdict) (worked ++ (pass-two ++ pass-one))
+unfolding bothPasses passOne passOver atEntry roomy wordsTested bareNumber typed named enteredAll entered enteredArgs inside startOf passTwo walkAll noneLeft walk walkArgs equalBranches sameNames takeHead resultType isInt isTree fits size prefix prefixes nth signatureOf numbered treed taking programOf on with-one lets cases left-cases says worked pass-two pass-one
 verdicts = refl
 
 -- ---- what a part is decides what is said of it
@@ -180,8 +180,8 @@ lets-typed (suc k) g n a = Types.Let-01 {Δ₁ = []} Types.T-Int (lets-typed k (
 -- ---- witnesses
 
 -- Grow is within the limits and passes: what is proved of such programs is not empty.
-pub grow-passes : order grow ≡ done tt
-unfolding order passOne passOver atEntry roomy wordsTested bareNumber typed named enteredAll entered enteredArgs inside startOf passTwo walkAll noneLeft walk walkArgs joined sameNames takeHead resultType isInt isTree fits size prefix prefixes nth signatureOf grow
+pub grow-passes : bothPasses grow ≡ done tt
+unfolding bothPasses passOne passOver atEntry roomy wordsTested bareNumber typed named enteredAll entered enteredArgs inside startOf passTwo walkAll noneLeft walk walkArgs equalBranches sameNames takeHead resultType isInt isTree fits size prefix prefixes nth signatureOf grow
 grow-passes = refl
 
 grow-admitted : Admitted grow
@@ -209,7 +209,7 @@ swap-lawful = record {
 }
 
 pub swap-verdicts : (passOne swap ≡ done tt) × (passTwo swap ≡ refusal 11 6)
-unfolding passOne passOver atEntry roomy wordsTested bareNumber typed named enteredAll entered enteredArgs inside startOf passTwo walkAll noneLeft walk walkArgs joined sameNames takeHead resultType isInt isTree fits size prefix prefixes nth signatureOf swap programOf treed on
+unfolding passOne passOver atEntry roomy wordsTested bareNumber typed named enteredAll entered enteredArgs inside startOf passTwo walkAll noneLeft walk walkArgs equalBranches sameNames takeHead resultType isInt isTree fits size prefix prefixes nth signatureOf swap programOf treed on
 swap-verdicts = (refl, refl)
 
 swap-fault : FirstFault (signatures swap) (firstNode swap) (swap .functions) 11 6
@@ -238,5 +238,5 @@ mistyped-untyped = order-checker .pass-one-untyped-there mistyped 8 2 (one-verdi
 words-of : map (wordsOf (map signatureOf (numbered (const 1) ∷ treed (on 1 0) ∷ taking (const 1) ∷ [])) 3) (
     const 1 ∷ add (const 1) (letIn (const 1) (var 0)) ∷ caseOf 0 (on 1 0) (on 1 0) ∷ on 0 0 ∷ on 1 0 ∷ with-one 2 0 (add (const 1) (const 1)) ∷ [])
     ≡ 4 ∷ 6 ∷ 4 ∷ 4 ∷ 3 ∷ 5 ∷ []
-unfolding wordsOf wordsOfArgs valueWords nth signatureOf size prefix prefixes numbered treed taking on with-one
+unfolding wordsOf wordsOfArgs wordsWithValue nth signatureOf size prefix prefixes numbered treed taking on with-one
 words-of = refl

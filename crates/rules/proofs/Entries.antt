@@ -46,17 +46,17 @@ in-prefix-order program = kinds-all (firstNode program) (program .functions)
 
 -- ---- one by one
 
--- entries behind others
+-- entries after others
 numbered-join : (r : ℕ) (xs ys : List Entry) → Numbered r xs → Numbered (r + length xs) ys → Numbered r (xs ++ ys)
 numbered-join r [] ys h k = rw add-zero at k
 numbered-join r (entry sc m kind ∷ xs) ys h k =
     (h .0, numbered-join (suc r) xs ys (h .1) (subst (λ (j : ℕ). Numbered j ys) (add-suc _ _ ∙ sym (suc-add _ _)) k))
 
--- entries behind those of an expression
-numbered-behind : (sc : Scope) (r : ℕ) (e : Expr) (ys : List Entry) → Numbered r (entered sc r e) → Numbered (r + size e) ys
+-- entries after those of an expression
+numbered-after : (sc : Scope) (r : ℕ) (e : Expr) (ys : List Entry) → Numbered r (entered sc r e) → Numbered (r + size e) ys
     → Numbered r (entered sc r e ++ ys)
 unfolding size
-numbered-behind sc r e ys h k = numbered-join r (entered sc r e) ys h (rw (← (kinds-entered e sc r), length-map) at k)
+numbered-after sc r e ys h k = numbered-join r (entered sc r e) ys h (rw (← (kinds-entered e sc r), length-map) at k)
 
 -- an expression's entries are numbered from its own record on
 mutual
@@ -65,24 +65,24 @@ mutual
   pub numbered : (e : Expr) (sc : Scope) (r : ℕ) → Numbered r (entered sc r e)
   numbered (const i) sc r = (refl, tt)
   numbered (var a) sc r = (refl, tt)
-  numbered (add p q) sc r = (refl, numbered-behind _ (suc r) p _ (numbered p _ _) (numbered q _ _))
+  numbered (add p q) sc r = (refl, numbered-after _ (suc r) p _ (numbered p _ _) (numbered q _ _))
   numbered (ifZero t z o) sc r =
-      (refl, numbered-behind _ (suc r) t _ (numbered t _ _) (numbered-behind _ _ z _ (numbered z _ _) (numbered o _ _)))
-  numbered (letIn p body) sc r = (refl, numbered-behind _ (suc r) p _ (numbered p _ _) (numbered body _ _))
+      (refl, numbered-after _ (suc r) t _ (numbered t _ _) (numbered-after _ _ z _ (numbered z _ _) (numbered o _ _)))
+  numbered (letIn p body) sc r = (refl, numbered-after _ (suc r) p _ (numbered p _ _) (numbered body _ _))
   numbered (leafOf p) sc r = (refl, numbered p _ _)
-  numbered (nodeOf p q) sc r = (refl, numbered-behind _ (suc r) p _ (numbered p _ _) (numbered q _ _))
-  numbered (caseOf a p q) sc r = (refl, numbered-behind _ (suc r) p _ (numbered p _ _) (numbered q _ _))
+  numbered (nodeOf p q) sc r = (refl, numbered-after _ (suc r) p _ (numbered p _ _) (numbered q _ _))
+  numbered (caseOf a p q) sc r = (refl, numbered-after _ (suc r) p _ (numbered p _ _) (numbered q _ _))
   numbered (call a b xs) sc r = (refl, numbered-args xs (Call a b) 0 sc (suc r))
 
   numbered-args : (xs : Args) (kind : Kind) (i : ℕ) (sc : Scope) (r : ℕ) → Numbered r (enteredArgs kind i sc r xs)
   numbered-args noArgs kind i sc r = tt
   numbered-args (arg x xs) kind i sc r =
-      numbered-behind _ r x _ (numbered x (inside kind i sc) r) (numbered-args xs kind (suc i) sc (r + size x))
+      numbered-after _ r x _ (numbered x (inside kind i sc) r) (numbered-args xs kind (suc i) sc (r + size x))
 
 numbered-all : (r : ℕ) (fs : List Function) → Numbered r (enteredAll r fs)
 unfolding enteredAll
 numbered-all r [] = tt
-numbered-all r (f ∷ fs) = numbered-behind _ r (f .body) _ (numbered (f .body) (startOf f) r) (numbered-all (r + size (f .body)) fs)
+numbered-all r (f ∷ fs) = numbered-after _ r (f .body) _ (numbered (f .body) (startOf f) r) (numbered-all (r + size (f .body)) fs)
 
 pub one-by-one : (program : Program) → Numbered (firstNode program) (enteredAll (firstNode program) (program .functions))
 one-by-one program = numbered-all (firstNode program) (program .functions)

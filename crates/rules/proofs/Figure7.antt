@@ -9,7 +9,7 @@ use Rattle.formats.specs.Records.{nth}
 use Rattle.formats.specs.Programs.{Expr, const, var, add, leafOf, nodeOf, caseOf, call, noArgs, treeValued, Signature, Function}
 use Rattle.rules.specs.Types.{Ty, Tree⁻, Tree⁺, arrow, resultType, arrows, functionType}
 use Rattle.rules.specs.Typing.{TypesName, Types, Applies, to-tree, TypedFunction}
-use Rattle.rules.specs.Printed.{tree, function, fix, here, Judges, termOf, lams, functionTerm}
+use Rattle.rules.specs.Printed.{treeName, functionName, fix, here, Judges, termOf, lams, functionTerm}
 use Rattle.rules.proofs.Printed.{trees-differ}
 
 -- 000, Figure 1, and Grow of 01, Worked programs: case t of leaf x ⇒ leaf (x + 1) | node x₁ x₂ ⇒
@@ -36,13 +36,13 @@ figure-7 =
     (Types.T-App refl (to-tree TypesName.T-Var1)))
 
 -- the whole figure in printed form
-figure-7-printed : Judges [] [] (fix (function 0) (functionTerm grow-function)) (arrow Tree⁻ Tree⁺)
+figure-7-printed : Judges [] [] (fix (functionName 0) (functionTerm grow-function)) (arrow Tree⁻ Tree⁺)
 unfolding grow-function functionTerm lams termOf
 figure-7-printed =
-    Judges.T-Fix (Judges.T-Abs1 (Judges.T-Case {Δ₁ = tree 0 ∷ []} {Δ₂ = []} ((trees-differ {a = 1} {b = 2} (omega arith), tt), (tt, tt))
+    Judges.T-Fix (Judges.T-Abs1 (Judges.T-Case {Δ₁ = treeName 0 ∷ []} {Δ₂ = []} ((trees-differ {a = 1} {b = 2} (omega arith), tt), (tt, tt))
     Judges.T-Var1
     (Judges.T-Leaf (Judges.T-Plus {Δ₁ = []} (Judges.T-Var2 here) Judges.T-Int))
-    (Judges.T-Node {Δ₁ = tree 1 ∷ []}
+    (Judges.T-Node {Δ₁ = treeName 1 ∷ []}
     (Judges.T-App {Δ₁ = []} (Judges.T-Var2 here) Judges.T-Var1)
     (Judges.T-App {Δ₁ = []} (Judges.T-Var2 here) Judges.T-Var1))))
 

@@ -11,33 +11,33 @@ use Rattle.formats.proofs.Results.{then-done, then-refused}
 use Rattle.rules.specs.Types.{resultType}
 use Rattle.rules.specs.Scopes.{startOf, entered, enteredAll}
 use Rattle.rules.specs.PassOne.{passOver, passOne}
-use Rattle.rules.specs.PassTwo.{sameNames, joined, walk, walkArgs, noneLeft, walkAll, passTwo}
-use Rattle.rules.specs.FirstFault.{Spot, spot, EntersArg, this-one, Enters, Comes, here, further, Faults, FirstFault, within, trees-left}
+use Rattle.rules.specs.PassTwo.{sameNames, equalBranches, walk, walkArgs, noneLeft, walkAll, passTwo}
+use Rattle.rules.specs.FirstFault.{Spot, spot, EntersArg, this-one, Enters, WalksTo, here, further, Faults, FirstFault, in-this-function, trees-left}
 use Rattle.rules.specs.FirstFault.{add-left, add-right, if-test, if-zero, if-other, let-number, let-body, leaf-number, node-left, node-right, case-leaf, case-node, call-number}
 use Rattle.rules.specs.FirstFault.{case-not-head, call-not-head, case-unequal, if-unequal, case-full}
 use Rattle.rules.specs.OrderChecker.{firstNode}
 use Rattle.rules.proofs.PassOne.{pass-left, pass-right}
-use Rattle.rules.proofs.PassTwo.{Said, good, bad, said-refused, said-then, said-worse, same-names, take-other, case-open, case-stops, walks, walks-args, told}
+use Rattle.rules.proofs.PassTwo.{Said, good, bad, said-refused, said-then, said-worse, same-names, take-other, case-open, case-stops, walks, walks-args, reported}
 
--- the walk from a place on
+-- the walk from a position on
 abbrev walkFrom : Spot → Result (List ℕ)
 walkFrom (spot g n r Δ e τ) = walk n r Δ e
 
 -- ---- from the first fault to the refusal
 
-module _ {gs : List Signature} {number place : ℕ} where
+module _ {gs : List Signature} {number position : ℕ} where
   -- a part's refusal is the whole's
   arg-refused :
       {g n r : ℕ} {Δ : List ℕ} {xs : Args} {s : Spot}
       → EntersArg gs g n r Δ xs s
-      → walkFrom s ≡ refusal number place
-      → walkArgs n r Δ xs ≡ refusal number place
+      → walkFrom s ≡ refusal number position
+      → walkArgs n r Δ xs ≡ refusal number position
   unfolding walkArgs
   arg-refused this-one e = then-refused _ e
-  arg-refused (EntersArg.behind-it o more) e = then-done _ (walks o) ∙ arg-refused more e
+  arg-refused (EntersArg.after-it o more) e = then-done _ (walks o) ∙ arg-refused more e
 
-  part-refused : {s s′ : Spot} → Enters gs s s′ → walkFrom s′ ≡ refusal number place → walkFrom s ≡ refusal number place
-  unfolding walk joined
+  part-refused : {s s′ : Spot} → Enters gs s s′ → walkFrom s′ ≡ refusal number position → walkFrom s ≡ refusal number position
+  unfolding walk equalBranches
   part-refused add-left e = then-refused _ e
   part-refused (add-right o) e = then-done _ (walks o) ∙ e
   part-refused if-test e = then-refused _ e
@@ -53,7 +53,7 @@ module _ {gs : List Signature} {number place : ℕ} where
   part-refused (call-number enters) e = then-refused _ (arg-refused enters e)
 
   -- so it is all the way back
-  refused-from : {s s′ : Spot} → Comes gs s s′ → walkFrom s′ ≡ refusal number place → walkFrom s ≡ refusal number place
+  refused-from : {s s′ : Spot} → WalksTo gs s s′ → walkFrom s′ ≡ refusal number position → walkFrom s ≡ refusal number position
   refused-from here e = e
   refused-from (further enters more) e = part-refused enters (refused-from more e)
 
@@ -63,8 +63,8 @@ unequal-refused r Δ₁ Δ₂ unequal =
     let h : sameNames Δ₁ Δ₂ ≡ false = not-eq-not .0 (λ same. unequal (same-names Δ₁ Δ₂ same)) in
     ap (λ t. check t outOfOrder r Δ₂) h
 
-fault-refused : {gs : List Signature} {s : Spot} {number place : ℕ} → Faults gs s number place → walkFrom s ≡ refusal number place
-unfolding walk joined
+fault-refused : {gs : List Signature} {s : Spot} {number position : ℕ} → Faults gs s number position → walkFrom s ≡ refusal number position
+unfolding walk equalBranches
 fault-refused (case-not-head other) = then-refused _ (take-other _ _ _ other)
 fault-refused (call-not-head os other) = then-done _ (walks-args os) ∙ take-other _ _ _ other
 fault-refused (case-unequal {n = n} {p = p} {q = q} few o₁ o₂ unequal) =
@@ -79,30 +79,30 @@ trees-refused r [] left = absurd (left refl)
 trees-refused r (x ∷ xs) left = refl
 
 -- the first fault of functions is what their walk refuses
-refused-there : {gs : List Signature} {r : ℕ} {fs : List Function} {number place : ℕ} → FirstFault gs r fs number place → walkAll r fs ≡ refusal number place
+refused-there : {gs : List Signature} {r : ℕ} {fs : List Function} {number position : ℕ} → FirstFault gs r fs number position → walkAll r fs ≡ refusal number position
 unfolding walkAll noneLeft
-refused-there (within comes faults) = then-refused _ (refused-from comes (fault-refused faults))
+refused-there (in-this-function comes faults) = then-refused _ (refused-from comes (fault-refused faults))
 refused-there (trees-left {r = r} {Δ = Δ} o left) = then-done _ (walks o) ∙ then-refused _ (trees-refused r Δ left)
-refused-there (FirstFault.behind-it o more) = then-done _ (walks o) ∙ refused-there more
+refused-there (FirstFault.after-it o more) = then-done _ (walks o) ∙ refused-there more
 
 -- ---- from the refusal to the first fault
 
 -- the walk of functions that passed pass one is refused only at their first fault
-all-told :
+all-reported :
     (gs : List Signature) (j r : ℕ) (fs : List Function)
     → LawfulFunctions gs j fs
     → passOver gs (enteredAll r fs) ≡ done tt
     → Said (λ u. Unit {0}) (FirstFault gs r fs) (walkAll r fs)
 unfolding enteredAll startOf walkAll noneLeft
-all-told gs j r [] lawful passed = good tt
-all-told gs j r (f ∷ fs) lawful passed =
+all-reported gs j r [] lawful passed = good tt
+all-reported gs j r (f ∷ fs) lawful passed =
     let k = f .parameters in
     let own = entered (startOf f) r (f .body) in
-    let more = all-told gs (suc j) (r + size (f .body)) fs (lawful .1) (pass-right gs own _ passed) in
+    let more = all-reported gs (suc j) (r + size (f .body)) fs (lawful .1) (pass-right gs own _ passed) in
     said-then
-    (told gs k 1 k r (0 ∷ []) (resultType (f .sort)) (f .body) (lawful .0 .applied) (pass-left gs own _ passed))
-    (λ number place m. within (m .comes) (m .faults))
-    (elim [ [] ↦ λ o. said-worse (λ number place m. FirstFault.behind-it o m) more | _∷_ x xs ↦ λ o. bad (trees-left o cons≢nil) ])
+    (reported gs k 1 k r (0 ∷ []) (resultType (f .sort)) (f .body) (lawful .0 .applied) (pass-left gs own _ passed))
+    (λ number position m. in-this-function (m .comes) (m .faults))
+    (elim [ [] ↦ λ o. said-worse (λ number position m. FirstFault.after-it o m) more | _∷_ x xs ↦ λ o. bad (trees-left o cons≢nil) ])
 
 -- ---- both
 
@@ -113,7 +113,7 @@ pub pass-two :
     → (passTwo program ≡ refusal number r) ↔ FirstFault (signatures program) (firstNode program) (program .functions) number r
 unfolding passOne passTwo
 pass-two program number r lawful passed =
-    (said-refused (all-told (signatures program) 0 (firstNode program) (program .functions) (lawful .functions) passed), refused-there)
+    (said-refused (all-reported (signatures program) 0 (firstNode program) (program .functions) (lawful .functions) passed), refused-there)
 
 pub only-one :
     (program : Program) (number r number′ r′ : ℕ)

@@ -6,7 +6,7 @@ pub mod Words
 pub mod Typed
 pub mod PassTwo
 pub mod FirstFault
-pub mod Places
+pub mod Positions
 pub mod Untyped
 pub mod Overfull
 pub mod Printed

@@ -17,7 +17,7 @@ use Rattle.rules.specs.Types.{resultType}
 use Rattle.rules.specs.Typing.{TypedFunction}
 use Rattle.rules.specs.Scopes.{startOf, entered, enteredAll}
 use Rattle.rules.specs.PassOne.{passOver, passOne}
-use Rattle.rules.specs.PassTwo.{walk, noneLeft, walkAll, passTwo, order, checkRecords, checkFile}
+use Rattle.rules.specs.PassTwo.{walk, noneLeft, walkAll, passTwo, bothPasses, checkRecords, checkFile}
 use Rattle.rules.specs.OrderChecker.{firstNode, AdmittedFunction, AdmittedFrom, Admitted, AdmittedRecords, AdmittedFile, Split, OrderChecker}
 use Rattle.rules.proofs.Splits.{splits, checks-types, no-longer, one-listing}
 use Rattle.rules.proofs.Entries.{in-prefix-order, one-by-one, part-types, part-scopes}
@@ -26,7 +26,7 @@ use Rattle.rules.proofs.Words.{few-parameters, few-words}
 use Rattle.rules.proofs.Typed.{passes-one}
 use Rattle.rules.proofs.PassTwo.{walks, second, no-typing, only-full}
 use Rattle.rules.proofs.FirstFault.{pass-two, only-one}
-use Rattle.rules.proofs.Places.{untyped-there}
+use Rattle.rules.proofs.Positions.{untyped-there}
 use Rattle.rules.proofs.Untyped.{pass-one-no-typing, pass-one-untyped-there, only-words}
 use Rattle.rules.proofs.Overfull.{pass-one-overfull-there}
 use Rattle.rules.proofs.Printed.{printed, fixed}
@@ -60,8 +60,8 @@ module _ (gs : List Signature) (r : ℕ) (f : Function) where
   passes-first a =
       passes-one gs (f .parameters) 1 (f .parameters) r (0 ∷ []) (resultType (f .sort)) (f .body) (a .typed) (lit< tt, tt) (a .few-words)
 
-  walks-through : AdmittedFunction gs r f → walk 1 r (0 ∷ []) (f .body) ≡ done []
-  walks-through a = walks (record { derivation = a .derivation; few = a .few-pending (a .derivation) })
+  walks-finished : AdmittedFunction gs r f → walk 1 r (0 ∷ []) (f .body) ≡ done []
+  walks-finished a = walks (record { derivation = a .derivation; few = a .few-pending (a .derivation) })
 
 -- ---- all functions
 
@@ -75,12 +75,12 @@ unfolding enteredAll walkAll
 admits-all gs j r [] l one two = tt
 admits-all gs j r (f ∷ fs) l one two =
     let body = then-inv (walk 1 r (0 ∷ []) (f .body)) _ tt two in
-    let through = then-inv (noneLeft r (body .value)) _ tt (body .second) in
-    let none : walk 1 r (0 ∷ []) (f .body) ≡ done [] = body .first ∙ ap done (none-left r (body .value) (through .first)) in
+    let finished = then-inv (noneLeft r (body .value)) _ tt (body .second) in
+    let none : walk 1 r (0 ∷ []) (f .body) ≡ done [] = body .first ∙ ap done (none-left r (body .value) (finished .first)) in
     let here = entered (startOf f) r (f .body) in
     let there = enteredAll (r + size (f .body)) fs in (
       admits gs r f j (l .0) (pass-left gs here there one) none,
-      admits-all gs (suc j) (r + size (f .body)) fs (l .1) (pass-right gs here there one) (through .second),
+      admits-all gs (suc j) (r + size (f .body)) fs (l .1) (pass-right gs here there one) (finished .second),
     )
 
 passes-all : (gs : List Signature) (r : ℕ) (fs : List Function) → AdmittedFrom gs r fs → passOver gs (enteredAll r fs) ≡ done tt
@@ -91,18 +91,18 @@ passes-all gs r (f ∷ fs) a = pass-both gs _ _ (passes-first gs r f (a .0)) (pa
 walks-all : (gs : List Signature) (r : ℕ) (fs : List Function) → AdmittedFrom gs r fs → walkAll r fs ≡ done tt
 unfolding walkAll noneLeft
 walks-all gs r [] a = refl
-walks-all gs r (f ∷ fs) a = then-done _ (walks-through gs r f (a .0)) ∙ walks-all gs (r + size (f .body)) fs (a .1)
+walks-all gs r (f ∷ fs) a = then-done _ (walks-finished gs r f (a .0)) ∙ walks-all gs (r + size (f .body)) fs (a .1)
 
 -- ---- programs
 
-admitted : (program : Program) → Lawful program → order program ≡ done tt → Admitted program
-unfolding order passOne passTwo
+admitted : (program : Program) → Lawful program → bothPasses program ≡ done tt → Admitted program
+unfolding bothPasses passOne passTwo
 admitted program l e =
     let both = then-inv (passOne program) _ tt e in
     admits-all (signatures program) 0 (firstNode program) (program .functions) (l .functions) (both .first) (both .second)
 
-passed : (program : Program) → Admitted program → order program ≡ done tt
-unfolding order passOne passTwo
+passed : (program : Program) → Admitted program → bothPasses program ≡ done tt
+unfolding bothPasses passOne passTwo
 passed program a =
     then-done (λ u. passTwo program) (passes-all (signatures program) (firstNode program) (program .functions) a)
     ∙ walks-all (signatures program) (firstNode program) (program .functions) a
@@ -112,12 +112,12 @@ passed program a =
 records-admitted : (r : List ℕ) → Bytes r → checkRecords r ≡ done tt → AdmittedRecords r
 unfolding checkRecords
 records-admitted r bs e =
-    let t = then-inv (readProgram r) order tt e in
+    let t = then-inv (readProgram r) bothPasses tt e in
     record { program = t .value; read = t .first; admitted = admitted (t .value) (program-files .flattens r (t .value) bs (t .first) .lawful) (t .second) }
 
 records-passed : (r : List ℕ) → AdmittedRecords r → checkRecords r ≡ done tt
 unfolding checkRecords
-records-passed r a = then-done order (a .read) ∙ passed (a .program) (a .admitted)
+records-passed r a = then-done bothPasses (a .read) ∙ passed (a .program) (a .admitted)
 
 file-admitted : (s : List ℕ) → Bytes s → checkFile s ≡ done tt → AdmittedFile s
 unfolding checkFile programIn

@@ -17,7 +17,7 @@ use Rattle.formats.specs.Records.{Kind, Call, nth}
 use Rattle.formats.specs.Programs.{Expr, const, var, add, ifZero, letIn, leafOf, nodeOf, caseOf, call, Args, noArgs, arg, prefix, size, Sort, numberValued, treeValued, Signature, signatureOf, Program, signatures}
 use Rattle.rules.specs.Types.{Ty, Int, Tree⁺, resultType, isInt}
 use Rattle.rules.specs.Scopes.{Scope, scope, startOf, inside, Entry, entry, entered, enteredArgs, enteredAll}
-use Rattle.rules.specs.PassOne.{mostWords, named, typed, bareNumber, wordsTested, roomy, atEntry, passOver, passOne, valueWords, wordsOf, wordsOfArgs}
+use Rattle.rules.specs.PassOne.{mostFrameWords, named, typed, bareNumber, wordsTested, roomy, atEntry, passOver, passOne, wordsWithValue, wordsOf, wordsOfArgs}
 use Rattle.rules.specs.PassOne.{Fails, too-many-words, all-three, FirstFails, here, later}
 use Rattle.rules.specs.OrderChecker.{firstNode, Overfull}
 use Rattle.rules.proofs.PassOne.{pass-one}
@@ -29,15 +29,15 @@ use Rattle.rules.proofs.Untyped.{fails-split, in-function}
 -- the words are tested there, and 16 stand already
 record Full (gs : List Signature) (w : ℕ) (kind : Kind) : Type 0 where
   tested : wordsTested gs kind ≡ true
-  full : mostWords ≤ w
+  full : mostFrameWords ≤ w
 
 module _ (gs : List Signature) where
   full-there : {g n w q r : ℕ} {τ : Ty} {kind : Kind} → Fails gs (entry (scope g n w τ) q kind) tooManyWords r → Full gs w kind
   unfolding roomy
   full-there {w = w} {kind = kind} (too-many-words e f h) = by (wordsTested gs kind) refl h
     where
-      by : (b : Bool) → wordsTested gs kind ≡ b → elim b [ true ↦ ltb w mostWords | false ↦ true ] ≡ false → Full gs w kind
-      by true t h = record { tested = t; full = ltb-false w mostWords h }
+      by : (b : Bool) → wordsTested gs kind ≡ b → elim b [ true ↦ ltb w mostFrameWords | false ↦ true ] ≡ false → Full gs w kind
+      by true t h = record { tested = t; full = ltb-false w mostFrameWords h }
       by false t h = absurd (false≢true (sym h))
 
   -- at the first of these records, or at one after it, where the type of the first is right
@@ -53,7 +53,7 @@ module _ (gs : List Signature) where
   nowhere (x ∷ xs) e f = let z : suc (length xs) ≡ 0 = ap length e in omega arith
 
   -- a Const, Var or Case, or another record where the words are not tested
-  one-more : {g n w q r : ℕ} {τ : Ty} {kind : Kind} → Fails gs (entry (scope g n w τ) q kind) tooManyWords r → mostWords < suc w
+  one-more : {g n w q r : ℕ} {τ : Ty} {kind : Kind} → Fails gs (entry (scope g n w τ) q kind) tooManyWords r → mostFrameWords < suc w
   one-more f = let full = full-there f .full in omega arith
 
   not-tested : {C : Type 0} {g n w q r : ℕ} {τ : Ty} {kind : Kind} → wordsTested gs kind ≡ false → Fails gs (entry (scope g n w τ) q kind) tooManyWords r → C
@@ -62,26 +62,26 @@ module _ (gs : List Signature) where
   -- ---- a Call
 
   -- a function of no arguments whose value is a number leaves a word more
-  bare-value : (s : Signature) (w : ℕ) → bareNumber s ≡ true → valueWords (s .sort) w ≡ suc w
-  unfolding bareNumber valueWords
+  bare-value : (s : Signature) (w : ℕ) → bareNumber s ≡ true → wordsWithValue (s .sort) w ≡ suc w
+  unfolding bareNumber wordsWithValue
   bare-value s w e = by (s .sort) e
     where
       by : (sort : Sort)
           → elim sort [ treeValued ↦ false | numberValued ↦ elim (s .parameters) [ zero ↦ true | suc k ↦ false ] ] ≡ true
-          → valueWords sort w ≡ suc w
+          → wordsWithValue sort w ≡ suc w
       by numberValued e = refl
       by treeValued e = absurd (false≢true e)
 
   -- the function is known, since the type is right or the words are tested
   call-overfull :
       {g n w q r : ℕ} {τ : Ty} (a b : ℕ) (xs : Args) {ys : List Entry}
-      → (FirstFails gs ys tooManyWords r → mostWords < wordsOfArgs gs w xs)
+      → (FirstFails gs ys tooManyWords r → mostFrameWords < wordsOfArgs gs w xs)
       → Where (scope g n w τ) q (Call a b) ys r
-      → mostWords < wordsOf gs w (call a b xs)
+      → mostFrameWords < wordsOf gs w (call a b xs)
   unfolding typed wordsTested
   call-overfull {g} {n} {w} {q} {r} {τ} a b xs {ys} arguments there = by (nth gs b) refl there
     where
-      by : (o : Option Signature) → nth gs b ≡ o → Where (scope g n w τ) q (Call a b) ys r → mostWords < wordsOf gs w (call a b xs)
+      by : (o : Option Signature) → nth gs b ≡ o → Where (scope g n w τ) q (Call a b) ys r → mostFrameWords < wordsOf gs w (call a b xs)
       by none e (at-first f) = absurd (false≢true (rw (e, wordsTested) at (full-there f .tested)))
       by none e (after-it t f) = absurd (false≢true (rw (e, typed) at t))
       by (some s) e (at-first f) =
@@ -95,7 +95,7 @@ module _ (gs : List Signature) where
   mutual
     unfolding entered enteredArgs inside wordsTested wordsOf
 
-    overfull : (g n w q : ℕ) (τ : Ty) (e : Expr) {r : ℕ} → FirstFails gs (entered (scope g n w τ) q e) tooManyWords r → mostWords < wordsOf gs w e
+    overfull : (g n w q : ℕ) (τ : Ty) (e : Expr) {r : ℕ} → FirstFails gs (entered (scope g n w τ) q e) tooManyWords r → mostFrameWords < wordsOf gs w e
     overfull g n w q τ (const i) f = elim (which f) [ at-first h ↦ one-more h | after-it t h ↦ absurd (nowhere [] refl h) ]
     overfull g n w q τ (var a) f = elim (which f) [ at-first h ↦ one-more h | after-it t h ↦ absurd (nowhere [] refl h) ]
     overfull g n w q τ (add p o) f = elim (which f) [
@@ -142,11 +142,11 @@ module _ (gs : List Signature) where
     overfull-args :
         (g n w q : ℕ) (τ : Ty) (a b i : ℕ) (xs : Args) {r : ℕ}
         → FirstFails gs (enteredArgs (Call a b) i (scope g n w τ) q xs) tooManyWords r
-        → mostWords < wordsOfArgs gs (w + i) xs
+        → mostFrameWords < wordsOfArgs gs (w + i) xs
     overfull-args g n w q τ a b i noArgs f = absurd (nowhere [] refl f)
     overfull-args g n w q τ a b i (arg x xs) f = elim (fails-split gs (entered (scope g n (w + i) Int) q x) _ f) [
       | inl h ↦ omega (arith, overfull g n (w + i) q Int x h)
-      | inr h ↦ let rest : mostWords < wordsOfArgs gs (suc (w + i)) xs = rw add-suc at (overfull-args g n w (q + size x) τ a b (suc i) xs h) in omega arith
+      | inr h ↦ let rest : mostFrameWords < wordsOfArgs gs (suc (w + i)) xs = rw add-suc at (overfull-args g n w (q + size x) τ a b (suc i) xs h) in omega arith
     ]
 
 -- ---- programs

@@ -33,14 +33,14 @@ module _ (gs : List Signature) where
   fails-says (too-many-words e f h) = rw (e, f, h)
 
   -- all three hold at a record, or one fails first
-  data Told (x : Entry) : Type 0 where
-    fine : AllHold gs x → Told x
-    fault : {number r : ℕ} → Fails gs x number r → Told x
+  data Reported (x : Entry) : Type 0 where
+    fine : AllHold gs x → Reported x
+    fault : {number r : ℕ} → Fails gs x number r → Reported x
 
-  told : (x : Entry) → Told x
-  told (entry sc r kind) = at-tests (named sc kind) refl (typed gs sc kind) refl (roomy gs sc kind) refl
+  reported : (x : Entry) → Reported x
+  reported (entry sc r kind) = at-tests (named sc kind) refl (typed gs sc kind) refl (roomy gs sc kind) refl
     where
-      at-tests : (a : Bool) → named sc kind ≡ a → (b : Bool) → typed gs sc kind ≡ b → (c : Bool) → roomy gs sc kind ≡ c → Told (entry sc r kind)
+      at-tests : (a : Bool) → named sc kind ≡ a → (b : Bool) → typed gs sc kind ≡ b → (c : Bool) → roomy gs sc kind ≡ c → Reported (entry sc r kind)
       at-tests false e b f c h = fault (name-not-bound e)
       at-tests true e false f c h = fault (wrong-type e f)
       at-tests true e true f false h = fault (too-many-words e f h)
@@ -50,13 +50,13 @@ module _ (gs : List Signature) where
   first-fails : (xs : List Entry) (number r : ℕ) → passOver gs xs ≡ refusal number r → FirstFails gs xs number r
   unfolding passOver
   first-fails [] number r e = done-not refl e
-  first-fails (x ∷ xs) number r e = elim (told x) [
+  first-fails (x ∷ xs) number r e = elim (reported x) [
     | fine h ↦ later h (first-fails xs number r (sym (then-done _ (holds-says h)) ∙ e))
     | fault {number = m} {r = q} f ↦
         let says = sym (then-refused _ (fails-says f)) ∙ e in
         let same : m ≡ number = cc in
-        let place : q ≡ r = cc in
-        here (rw (same, place) at f)
+        let position : q ≡ r = cc in
+        here (rw (same, position) at f)
   ]
 
   fails-first : (xs : List Entry) (number r : ℕ) → FirstFails gs xs number r → passOver gs xs ≡ refusal number r
@@ -111,12 +111,12 @@ pass-nothing gs = refl
 pub pass-join : (gs : List Signature) (xs ys : List Entry) → passOver gs (xs ++ ys) ≡ andThen (passOver gs xs) (λ u. passOver gs ys)
 unfolding passOver
 pass-join gs [] ys = refl
-pass-join gs (x ∷ xs) ys = behind (atEntry gs x) (passOver gs xs) (λ u. passOver gs ys) (pass-join gs xs ys)
+pass-join gs (x ∷ xs) ys = after (atEntry gs x) (passOver gs xs) (λ u. passOver gs ys) (pass-join gs xs ys)
   where
-    behind : (r a : Result (Unit {0})) (next : Unit {0} → Result (Unit {0})) {b : Result (Unit {0})} → b ≡ andThen a next
+    after : (r a : Result (Unit {0})) (next : Unit {0} → Result (Unit {0})) {b : Result (Unit {0})} → b ≡ andThen a next
         → andThen r (λ u. b) ≡ andThen (andThen r (λ u. a)) next
-    behind (done u) a next e = e
-    behind (refusal number place) a next e = refl
+    after (done u) a next e = e
+    after (refusal number position) a next e = refl
 
 -- where they pass, each part does
 pub pass-left : (gs : List Signature) (xs ys : List Entry) → passOver gs (xs ++ ys) ≡ done tt → passOver gs xs ≡ done tt

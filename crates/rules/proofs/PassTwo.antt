@@ -1,5 +1,5 @@
 -- Laws of pass two. `Said` is the view of a result: what holds of its value, or else of its refusal. Two recursions say all: over a derivation by
--- Figure 19 (`checked-walk`), and over an expression that passed pass one (`told`: it is in order, or it has a first fault).
+-- Figure 19 (`checked-walk`), and over an expression that passed pass one (`reported`: it is in order, or it has a first fault).
 use Prim.Native.Nat.{ℕ, suc, _+_, _≤_, _<_}
 use mathlib.Core.Bool.{Bool, true, false, false≢true}
 use mathlib.Core.List.{List, [], _∷_, _++_}
@@ -23,8 +23,8 @@ use Rattle.rules.specs.Scopes.{scope}
 use Rattle.rules.specs.PassOne.{holdsAt}
 use Rattle.rules.specs.Leftover.{ChecksName, T-Var1, Checks, T-Var2, T-Int, T-App, T-Plus, T-Leaf, T-Node, T-Case, Let-01, IfZero-01, ChecksApplied, to-number, to-tree}
 use Rattle.rules.specs.Leftover.{Line, lines, linesApplied, mostPending, FewAtCase, InOrder}
-use Rattle.rules.specs.PassTwo.{takeHead, sameNames, joined, walk, walkArgs, noneLeft, walkAll, passTwo}
-use Rattle.rules.specs.FirstFault.{Spot, spot, ArgsInOrder, through, one-more, EntersArg, this-one, Enters, Comes, here, further, IsHead, head, Faults}
+use Rattle.rules.specs.PassTwo.{takeHead, sameNames, equalBranches, walk, walkArgs, noneLeft, walkAll, passTwo}
+use Rattle.rules.specs.FirstFault.{Spot, spot, ArgsInOrder, finished, one-more, EntersArg, this-one, Enters, WalksTo, here, further, IsHead, head, Faults}
 use Rattle.rules.specs.FirstFault.{add-left, add-right, if-test, if-zero, if-other, let-number, let-body, leaf-number, node-left, node-right, case-leaf, case-node, call-number}
 use Rattle.rules.specs.FirstFault.{case-not-head, call-not-head, case-unequal, if-unequal, case-full}
 use Rattle.rules.proofs.Splits.{types-checks}
@@ -34,58 +34,58 @@ use Rattle.rules.proofs.PassOne.{Passes, PassesArgs, Called, pass-const
 
 pub data Said {A : Type 0} (Good : A → Type 0) (Bad : ℕ → ℕ → Type 0) : Result A → Type 0 where
   good : {x : A} → Good x → Said Good Bad (done x)
-  bad : {number place : ℕ} → Bad number place → Said Good Bad (refusal number place)
+  bad : {number position : ℕ} → Bad number position → Said Good Bad (refusal number position)
 
 pub said-done : {A : Type 0} {Good : A → Type 0} {Bad : ℕ → ℕ → Type 0} {r : Result A} {x : A} → Said Good Bad r → r ≡ done x → Good x
 said-done {Good = Good} (good h) e = subst Good (done-injective e) h
 said-done (bad h) e = done-not e refl
 
 pub said-refused :
-    {A : Type 0} {Good : A → Type 0} {Bad : ℕ → ℕ → Type 0} {r : Result A} {number place : ℕ}
+    {A : Type 0} {Good : A → Type 0} {Bad : ℕ → ℕ → Type 0} {r : Result A} {number position : ℕ}
     → Said Good Bad r
-    → r ≡ refusal number place
-    → Bad number place
+    → r ≡ refusal number position
+    → Bad number position
 said-refused (good h) e = done-not refl e
-said-refused {number = number} {place = place} (bad {number = c} {place = k} h) e =
+said-refused {number = number} {position = position} (bad {number = c} {position = k} h) e =
     let p : c ≡ number = cc in
-    let q : k ≡ place = cc in
+    let q : k ≡ position = cc in
     rw (← p, ← q) h
 
 -- one after the other
 pub said-then :
     {A B : Type 0} {G : A → Type 0} {H : B → Type 0} {Bad Worse : ℕ → ℕ → Type 0} {r : Result A} {next : A → Result B}
     → Said G Bad r
-    → ((number place : ℕ) → Bad number place → Worse number place)
+    → ((number position : ℕ) → Bad number position → Worse number position)
     → ((x : A) → G x → Said H Worse (next x))
     → Said H Worse (andThen r next)
 said-then (good {x = x} h) first second = second x h
-said-then (bad {number = c} {place = k} h) first second = bad (first c k h)
+said-then (bad {number = c} {position = k} h) first second = bad (first c k h)
 
 -- what is said, otherwise
 said-map :
     {A : Type 0} {G H : A → Type 0} {Bad Worse : ℕ → ℕ → Type 0} {r : Result A}
     → Said G Bad r
     → ((x : A) → G x → H x)
-    → ((number place : ℕ) → Bad number place → Worse number place)
+    → ((number position : ℕ) → Bad number position → Worse number position)
     → Said H Worse r
 said-map (good {x = x} h) better worse = good (better x h)
-said-map (bad {number = c} {place = k} h) better worse = bad (worse c k h)
+said-map (bad {number = c} {position = k} h) better worse = bad (worse c k h)
 
 pub said-worse :
     {A : Type 0} {G : A → Type 0} {Bad Worse : ℕ → ℕ → Type 0} {r : Result A}
-    → ((number place : ℕ) → Bad number place → Worse number place)
+    → ((number position : ℕ) → Bad number position → Worse number position)
     → Said G Bad r
     → Said G Worse r
 said-worse worse h = said-map h (λ x g. g) worse
 
 -- what is said of a check
 pub said-check :
-    {A : Type 0} {G : A → Type 0} {Bad : ℕ → ℕ → Type 0} (test : Bool) (number place : ℕ) (x : A)
+    {A : Type 0} {G : A → Type 0} {Bad : ℕ → ℕ → Type 0} (test : Bool) (number position : ℕ) (x : A)
     → (test ≡ true → G x)
-    → (test ≡ false → Bad number place)
-    → Said G Bad (check test number place x)
-said-check true number place x held failed = good (held refl)
-said-check false number place x held failed = bad (failed refl)
+    → (test ≡ false → Bad number position)
+    → Said G Bad (check test number position x)
+said-check true number position x held failed = good (held refl)
+said-check false number position x held failed = bad (failed refl)
 
 -- ---- lists of names
 
@@ -140,12 +140,12 @@ said-joined :
     (r : ℕ) {G₁ G₂ H : List ℕ → Type 0} {B₁ B₂ Worse : ℕ → ℕ → Type 0} {one other : Result (List ℕ)}
     → Said G₁ B₁ one
     → Said G₂ B₂ other
-    → ((number place : ℕ) → B₁ number place → Worse number place)
-    → ((Δ : List ℕ) → G₁ Δ → (number place : ℕ) → B₂ number place → Worse number place)
+    → ((number position : ℕ) → B₁ number position → Worse number position)
+    → ((Δ : List ℕ) → G₁ Δ → (number position : ℕ) → B₂ number position → Worse number position)
     → ((Δ : List ℕ) → G₁ Δ → G₂ Δ → H Δ)
     → ((Δ₁ Δ₂ : List ℕ) → G₁ Δ₁ → G₂ Δ₂ → Δ₁ ≢ Δ₂ → Worse outOfOrder r)
-    → Said H Worse (joined r one other)
-unfolding joined
+    → Said H Worse (equalBranches r one other)
+unfolding equalBranches
 said-joined r {G₁ = G₁} one other first second equal unequal =
     said-then one first λ Δ₁ g₁. said-then other (second Δ₁ g₁) λ Δ₂ g₂. said-check (sameNames Δ₁ Δ₂) outOfOrder r Δ₂
     (λ e. equal Δ₂ (subst G₁ (same-names Δ₁ Δ₂ e) g₁) g₂)
@@ -154,7 +154,7 @@ said-joined r {G₁ = G₁} one other first second equal unequal =
 module _ (n r a : ℕ) (rest : List ℕ) (p q : Expr) where
   -- those of a Case at the head
   abbrev branches : Result (List ℕ)
-  branches = joined r (walk n (suc r) rest p) (walk (suc (suc n)) (suc r + size p) (n ∷ (suc n ∷ rest)) q)
+  branches = equalBranches r (walk n (suc r) rest p) (walk (suc (suc n)) (suc r + size p) (n ∷ (suc n ∷ rest)) q)
 
   -- it goes on to them with fewer than 16 pending
   pub case-open : length (a ∷ rest) < mostPending → walk n r (a ∷ rest) (caseOf a p q) ≡ branches
@@ -179,17 +179,17 @@ module _ (n r a : ℕ) (rest : List ℕ) (p q : Expr) where
 
 -- refused only with 12, and only where some Case of these lines has too many
 abbrev OnlyFull : List Line → ℕ → ℕ → Type 0
-OnlyFull ls number place = (number ≡ tooManyPending) × (Every FewAtCase ls → ⊥)
+OnlyFull ls number position = (number ≡ tooManyPending) × (Every FewAtCase ls → ⊥)
 
 -- a walk gives this list, or is refused so
 abbrev Walked : List Line → List ℕ → Result (List ℕ) → Type 0
 Walked ls Δ r = Said (λ Δ′. Δ′ ≡ Δ) (OnlyFull ls) r
 
-full-left : (ls ms : List Line) (number place : ℕ) → OnlyFull ls number place → OnlyFull (ls ++ ms) number place
-full-left ls ms number place h = (h .0, λ few. h .1 (every-left FewAtCase ls ms few))
+full-left : (ls ms : List Line) (number position : ℕ) → OnlyFull ls number position → OnlyFull (ls ++ ms) number position
+full-left ls ms number position h = (h .0, λ few. h .1 (every-left FewAtCase ls ms few))
 
-full-right : (ls ms : List Line) (number place : ℕ) → OnlyFull ms number place → OnlyFull (ls ++ ms) number place
-full-right ls ms number place h = (h .0, λ few. h .1 (every-right FewAtCase ls ms few))
+full-right : (ls ms : List Line) (number position : ℕ) → OnlyFull ms number position → OnlyFull (ls ++ ms) number position
+full-right ls ms number position h = (h .0, λ few. h .1 (every-right FewAtCase ls ms few))
 
 -- one part after the other
 walked-then :
@@ -204,7 +204,7 @@ walked-joined :
     (r : ℕ) (ls ms own : List Line) {Δ : List ℕ} {one other : Result (List ℕ)}
     → Walked ls Δ one
     → Walked ms Δ other
-    → Walked (ls ++ (ms ++ own)) Δ (joined r one other)
+    → Walked (ls ++ (ms ++ own)) Δ (equalBranches r one other)
 walked-joined r ls ms own first second = said-joined r first (said-worse (full-left ms own) second)
     (full-left ls _)
     (λ Δ e. full-right ls _)
@@ -230,7 +230,7 @@ mutual
   checked-walk (IfZero-01 {r = r} d₀ d₁ d₂) =
       walked-then (lines d₀) _ _ (checked-walk d₀) (walked-joined r (lines d₁) (lines d₂) _ (checked-walk d₁) (checked-walk d₂))
 
-  -- behind a Call's arguments its tree is at the head
+  -- after a Call's arguments its tree is at the head
   checked-args :
       {gs : List Signature} {g n r a : ℕ} {Δ Δ′ : List ℕ} {σ : Ty} {xs : Args} {τ : Ty} (d : ChecksApplied gs g n r Δ σ xs a τ Δ′)
       → Said (λ Δ″. ChecksName Δ″ a Tree⁻ Δ′) (OnlyFull (linesApplied d)) (walkArgs n r Δ xs)
@@ -247,18 +247,18 @@ walks {Δ′ = Δ′} o = fine _ (checked-walk (o .derivation))
 
 pub walks-args : {gs : List Signature} {g n r : ℕ} {Δ : List ℕ} {xs : Args} {Δ′ : List ℕ} → ArgsInOrder gs g n r Δ xs Δ′ → walkArgs n r Δ xs ≡ done Δ′
 unfolding walkArgs
-walks-args through = refl
+walks-args finished = refl
 walks-args (one-more o os) = then-done _ (walks o) ∙ walks-args os
 
 -- where Figure 6 types every function, it refuses nothing but 12
 typed-walk :
     (gs : List Signature) (r : ℕ) (fs : List Function)
     → Every (TypedFunction gs) fs
-    → Said (λ u. Unit {0}) (λ number place. number ≡ tooManyPending) (walkAll r fs)
+    → Said (λ u. Unit {0}) (λ number position. number ≡ tooManyPending) (walkAll r fs)
 unfolding walkAll noneLeft
 typed-walk gs r [] typed = good tt
 typed-walk gs r (f ∷ fs) typed =
-    said-then (checked-walk (types-checks (typed .0) r [])) (λ number place h. h .0) λ Δ e. rw e (typed-walk gs (r + size (f .body)) fs (typed .1))
+    said-then (checked-walk (types-checks (typed .0) r [])) (λ number position h. h .0) λ Δ e. rw e (typed-walk gs (r + size (f .body)) fs (typed .1))
 
 pub only-full :
     (program : Program) (number r : ℕ)
@@ -273,22 +273,22 @@ no-typing program r e typed = let h = only-full program outOfOrder r typed e in 
 
 -- ---- an expression that passed pass one
 
--- the walk comes from a place to a fault
-pub record Met (gs : List Signature) (s : Spot) (number place : ℕ) : Type 0 where
+-- the walk comes from a position to a fault
+pub record Met (gs : List Signature) (s : Spot) (number position : ℕ) : Type 0 where
   pub there : Spot
-  pub comes : Comes gs s there
-  pub faults : Faults gs there number place
+  pub comes : WalksTo gs s there
+  pub faults : Faults gs there number position
 
--- at this place, or where it goes on to
-met : {gs : List Signature} {s : Spot} {number place : ℕ} → Faults gs s number place → Met gs s number place
+-- at this position, or where it goes on to
+met : {gs : List Signature} {s : Spot} {number position : ℕ} → Faults gs s number position → Met gs s number position
 met f = record { there = _; comes = here; faults = f }
 
-enter : {gs : List Signature} {s s′ : Spot} → Enters gs s s′ → (number place : ℕ) → Met gs s′ number place → Met gs s number place
-enter e number place m = record { there = m .there; comes = further e (m .comes); faults = m .faults }
+enter : {gs : List Signature} {s s′ : Spot} → Enters gs s s′ → (number position : ℕ) → Met gs s′ number position → Met gs s number position
+enter e number position m = record { there = m .there; comes = further e (m .comes); faults = m .faults }
 
 -- what the walk of an expression says: it is in order, or it has a first fault
-abbrev pub Told : List Signature → Spot → Type 0
-Told gs (spot g n r Δ e τ) = Said (InOrder gs g n r Δ e τ) (Met gs (spot g n r Δ e τ)) (walk n r Δ e)
+abbrev pub Reported : List Signature → Spot → Type 0
+Reported gs (spot g n r Δ e τ) = Said (InOrder gs g n r Δ e τ) (Met gs (spot g n r Δ e τ)) (walk n r Δ e)
 
 -- few at the Cases of two parts and at the whole
 few-both :
@@ -299,18 +299,18 @@ few-both :
 few-both own o₁ o₂ h = every-append FewAtCase (lines (o₁ .derivation)) _ (o₁ .few) (every-append FewAtCase (lines (o₂ .derivation)) own (o₂ .few) h)
 
 -- two parts, one after the other
-told-two :
+reported-two :
     {gs : List Signature} {s : Spot} {G : List ℕ → Type 0} {g g₂ n r : ℕ} {Δ : List ℕ} {p q : Expr} {σ τ : Ty}
-    → Told gs (spot g n (suc r) Δ p σ)
-    → ((Δ′ : List ℕ) → Told gs (spot g₂ n (suc r + size p) Δ′ q τ))
+    → Reported gs (spot g n (suc r) Δ p σ)
+    → ((Δ′ : List ℕ) → Reported gs (spot g₂ n (suc r + size p) Δ′ q τ))
     → Enters gs s (spot g n (suc r) Δ p σ)
     → ((Δ′ : List ℕ) → InOrder gs g n (suc r) Δ p σ Δ′ → Enters gs s (spot g₂ n (suc r + size p) Δ′ q τ))
     → ((Δ′ Δ″ : List ℕ) → InOrder gs g n (suc r) Δ p σ Δ′ → InOrder gs g₂ n (suc r + size p) Δ′ q τ Δ″ → G Δ″)
     → Said G (Met gs s) (andThen (walk n (suc r) Δ p) (λ Δ′. walk n (suc r + size p) Δ′ q))
-told-two first second left right whole =
+reported-two first second left right whole =
     said-then first (enter left) λ Δ′ o. said-map (second Δ′) (λ Δ″ o′. whole Δ′ Δ″ o o′) (enter (right Δ′ o))
 
--- arguments in order, and the tree behind them
+-- arguments in order, and the tree after them
 record AppliedInOrder (gs : List Signature) (g n r : ℕ) (Δ : List ℕ) (σ : Ty) (xs : Args) (a : ℕ) (τ : Ty) (Δ′ : List ℕ) : Type 0 where
   derivation : ChecksApplied gs g n r Δ σ xs a τ Δ′
   few : Every FewAtCase (linesApplied derivation)
@@ -321,7 +321,7 @@ applied-in-order :
     → ChecksName Δ′ a Tree⁻ Δ″
     → AppliedInOrder gs g n r Δ (arrows (countArgs xs) τ) xs a τ Δ″
 unfolding arrows countArgs linesApplied
-applied-in-order τ through name = record { derivation = to-tree name; few = tt }
+applied-in-order τ finished name = record { derivation = to-tree name; few = tt }
 applied-in-order τ (one-more o os) name =
     let rest = applied-in-order τ os name in
     record { derivation = to-number (o .derivation) (rest .derivation); few = every-append FewAtCase (lines (o .derivation)) _ (o .few) (rest .few) }
@@ -342,56 +342,56 @@ call-in-order {gs = gs} {b = b} {xs = xs} counted c o =
     rw (c .same) (record { derivation = T-App (c .known) d; few = every-append FewAtCase (linesApplied d) _ (whole .few) (tt, tt) })
 
 -- a Call, its arguments in order
-told-call :
+reported-call :
     {gs : List Signature} {g n w r a b : ℕ} {τ : Ty} {Δ Δ′ : List ℕ} {xs : Args}
     → countArgs xs ≡ arityOf gs b
     → Called gs g n w r τ a b xs
     → ArgsInOrder gs g n (suc r) Δ xs Δ′
     → Dec (IsHead a Δ′)
     → Said (InOrder gs g n r Δ (call a b xs) τ) (Met gs (spot g n r Δ (call a b xs) τ)) (takeHead a r Δ′)
-told-call {r = r} {a = a} counted c o (yes (head {rest = rest})) = rw (take-head a r rest) (good (call-in-order counted c o))
-told-call {r = r} {a = a} {Δ′ = Δ′} counted c o (no other) = rw (take-other a r Δ′ other) (bad (met (call-not-head o other)))
+reported-call {r = r} {a = a} counted c o (yes (head {rest = rest})) = rw (take-head a r rest) (good (call-in-order counted c o))
+reported-call {r = r} {a = a} {Δ′ = Δ′} counted c o (no other) = rw (take-other a r Δ′ other) (bad (met (call-not-head o other)))
 
 -- a Case
-told-case :
+reported-case :
     {gs : List Signature} (g n r a : ℕ) (Δ : List ℕ) (p q : Expr) (τ : Ty)
-    → ((rest : List ℕ) → Told gs (spot (suc g) n (suc r) rest p τ))
-    → ((rest : List ℕ) → Told gs (spot g (suc (suc n)) (suc r + size p) (n ∷ (suc n ∷ rest)) q τ))
+    → ((rest : List ℕ) → Reported gs (spot (suc g) n (suc r) rest p τ))
+    → ((rest : List ℕ) → Reported gs (spot g (suc (suc n)) (suc r + size p) (n ∷ (suc n ∷ rest)) q τ))
     → Dec (IsHead a Δ)
-    → Told gs (spot g n r Δ (caseOf a p q) τ)
+    → Reported gs (spot g n r Δ (caseOf a p q) τ)
 unfolding walk lines
-told-case g n r a Δ p q τ leaf node (yes (head {rest = rest})) = said-case n r a rest p q
+reported-case g n r a Δ p q τ leaf node (yes (head {rest = rest})) = said-case n r a rest p q
     (λ few. said-joined r (leaf rest) (node rest)
     (enter (case-leaf few))
     (λ Δ₁ o. enter (case-node few o))
     (λ Δ′ o₁ o₂. record { derivation = T-Case T-Var1 (o₁ .derivation) (o₂ .derivation); few = few-both _ o₁ o₂ (few, tt) })
     (λ Δ₁ Δ₂ o₁ o₂ unequal. met (case-unequal few o₁ o₂ unequal)))
     (λ full. met (case-full full))
-told-case g n r a Δ p q τ leaf node (no other) = rw (then-refused _ (take-other a r Δ other)) (bad (met (case-not-head other)))
+reported-case g n r a Δ p q τ leaf node (no other) = rw (then-refused _ (take-other a r Δ other)) (bad (met (case-not-head other)))
 
 -- every expression
 module _ (gs : List Signature) where
   mutual
     unfolding walk lines
 
-    pub told : (g n w r : ℕ) (Δ : List ℕ) (τ : Ty) (e : Expr) → Applied (arityOf gs) e → Passes gs (scope g n w τ) r e → Told gs (spot g n r Δ e τ)
-    told g n w r Δ τ (const i) a p = rw (pass-const gs g n w r τ i p) (good (record { derivation = T-Int; few = (tt, tt) }))
-    told g n w r Δ τ (var x) a p =
+    pub reported : (g n w r : ℕ) (Δ : List ℕ) (τ : Ty) (e : Expr) → Applied (arityOf gs) e → Passes gs (scope g n w τ) r e → Reported gs (spot g n r Δ e τ)
+    reported g n w r Δ τ (const i) a p = rw (pass-const gs g n w r τ i p) (good (record { derivation = T-Int; few = (tt, tt) }))
+    reported g n w r Δ τ (var x) a p =
         let h = pass-var gs g n w r τ x p in
         rw (h .1) (good (record { derivation = T-Var2 (h .0); few = (tt, tt) }))
-    told g n w r Δ τ (add p q) a passed =
+    reported g n w r Δ τ (add p q) a passed =
         let h = pass-add gs g n w r τ p q passed in
-        rw (h .0) (told-two
-        (told g n w (suc r) Δ Int p (a .0) (h .1))
-        (λ Δ′. told g n (suc w) (suc r + size p) Δ′ Int q (a .1) (h .2))
+        rw (h .0) (reported-two
+        (reported g n w (suc r) Δ Int p (a .0) (h .1))
+        (λ Δ′. reported g n (suc w) (suc r + size p) Δ′ Int q (a .1) (h .2))
         add-left
         (λ Δ′ o. add-right o)
         (λ Δ′ Δ″ o₁ o₂. record { derivation = T-Plus (o₁ .derivation) (o₂ .derivation); few = few-both _ o₁ o₂ (tt, tt) }))
-    told g n w r Δ τ (ifZero t z o) a passed =
+    reported g n w r Δ τ (ifZero t z o) a passed =
         let h = pass-ifZero gs g n w r τ t z o passed in
-        said-then (told g n w (suc r) Δ Int t (a .0) (h .0)) (enter if-test) λ Δ′ o₀. said-joined r
-        (told g n w (suc r + size t) Δ′ τ z (a .1 .0) (h .1))
-        (told g n w (suc r + size t + size z) Δ′ τ o (a .1 .1) (h .2))
+        said-then (reported g n w (suc r) Δ Int t (a .0) (h .0)) (enter if-test) λ Δ′ o₀. said-joined r
+        (reported g n w (suc r + size t) Δ′ τ z (a .1 .0) (h .1))
+        (reported g n w (suc r + size t + size z) Δ′ τ o (a .1 .1) (h .2))
         (enter (if-zero o₀))
         (λ Δ₁ o₁. enter (if-other o₀ o₁))
         (λ Δ″ o₁ o₂. record {
@@ -399,58 +399,58 @@ module _ (gs : List Signature) where
           few = every-append FewAtCase (lines (o₀ .derivation)) _ (o₀ .few) (few-both _ o₁ o₂ (tt, tt));
         })
         (λ Δ₁ Δ₂ o₁ o₂ unequal. met (if-unequal o₀ o₁ o₂ unequal))
-    told g n w r Δ τ (letIn p q) a passed =
+    reported g n w r Δ τ (letIn p q) a passed =
         let h = pass-let gs g n w r τ p q passed in
-        told-two
-        (told g n w (suc r) Δ Int p (a .0) (h .0))
-        (λ Δ′. told (suc g) n (suc w) (suc r + size p) Δ′ τ q (a .1) (h .1))
+        reported-two
+        (reported g n w (suc r) Δ Int p (a .0) (h .0))
+        (λ Δ′. reported (suc g) n (suc w) (suc r + size p) Δ′ τ q (a .1) (h .1))
         let-number
         (λ Δ′ o. let-body o)
         (λ Δ′ Δ″ o₁ o₂. record { derivation = Let-01 (o₁ .derivation) (o₂ .derivation); few = few-both _ o₁ o₂ (tt, tt) })
-    told g n w r Δ τ (leafOf p) a passed =
+    reported g n w r Δ τ (leafOf p) a passed =
         let h = pass-leaf gs g n w r τ p passed in
         rw (h .0) (said-map
-        (told g n w (suc r) Δ Int p a (h .1))
+        (reported g n w (suc r) Δ Int p a (h .1))
         (λ Δ′ o. record { derivation = T-Leaf (o .derivation); few = every-append FewAtCase (lines (o .derivation)) _ (o .few) (tt, tt) })
         (enter leaf-number))
-    told g n w r Δ τ (nodeOf p q) a passed =
+    reported g n w r Δ τ (nodeOf p q) a passed =
         let h = pass-node gs g n w r τ p q passed in
-        rw (h .0) (told-two
-        (told g n w (suc r) Δ Tree⁺ p (a .0) (h .1))
-        (λ Δ′. told g n w (suc r + size p) Δ′ Tree⁺ q (a .1) (h .2))
+        rw (h .0) (reported-two
+        (reported g n w (suc r) Δ Tree⁺ p (a .0) (h .1))
+        (λ Δ′. reported g n w (suc r + size p) Δ′ Tree⁺ q (a .1) (h .2))
         node-left
         (λ Δ′ o. node-right o)
         (λ Δ′ Δ″ o₁ o₂. record { derivation = T-Node (o₁ .derivation) (o₂ .derivation); few = few-both _ o₁ o₂ (tt, tt) }))
-    told g n w r Δ τ (caseOf x p q) a passed =
+    reported g n w r Δ τ (caseOf x p q) a passed =
         let h = pass-case gs g n w r τ x p q passed in
-        told-case g n r x Δ p q τ
-        (λ rest. told (suc g) n (suc w) (suc r) rest τ p (a .0) (h .1))
-        (λ rest. told g (suc (suc n)) w (suc r + size p) (n ∷ (suc n ∷ rest)) τ q (a .1) (h .2))
+        reported-case g n r x Δ p q τ
+        (λ rest. reported (suc g) n (suc w) (suc r) rest τ p (a .0) (h .1))
+        (λ rest. reported g (suc (suc n)) w (suc r + size p) (n ∷ (suc n ∷ rest)) τ q (a .1) (h .2))
         (head? x Δ)
-    told g n w r Δ τ (call x b xs) a passed =
+    reported g n w r Δ τ (call x b xs) a passed =
         let c = pass-call gs g n w r τ x b xs passed in
         said-then
-        (told-args g n w (suc r) 0 x b τ Δ (spot g n r Δ (call x b xs) τ) xs (a .1) (c .arguments) (λ s e. call-number e))
-        (λ number place m. m)
-        (λ Δ′ o. told-call (a .0) c o (head? x Δ′))
+        (reported-args g n w (suc r) 0 x b τ Δ (spot g n r Δ (call x b xs) τ) xs (a .1) (c .arguments) (λ s e. call-number e))
+        (λ number position m. m)
+        (λ Δ′ o. reported-call (a .0) c o (head? x Δ′))
 
     -- a Call's arguments from part i on, entered from place s
-    told-args :
+    reported-args :
         (g n w r i a b : ℕ) (τ : Ty) (Δ : List ℕ) (s : Spot) (xs : Args)
         → AppliedArgs (arityOf gs) xs
         → PassesArgs gs (Call a b) i (scope g n w τ) r xs
         → ((s′ : Spot) → EntersArg gs g n r Δ xs s′ → Enters gs s s′)
         → Said (ArgsInOrder gs g n r Δ xs) (Met gs s) (walkArgs n r Δ xs)
-    told-args g n w r i a b τ Δ s noArgs h p way = good through
-    told-args g n w r i a b τ Δ s (arg x xs) h p way =
+    reported-args g n w r i a b τ Δ s noArgs h p way = good finished
+    reported-args g n w r i a b τ Δ s (arg x xs) h p way =
         let t = pass-arg gs g n w r τ a b i x xs p in
         said-then
-        (told g n (w + i) r Δ Int x (h .0) (t .0))
+        (reported g n (w + i) r Δ Int x (h .0) (t .0))
         (enter (way _ this-one))
         (λ Δ′ o. said-map
-        (told-args g n w (r + size x) (suc i) a b τ Δ′ s xs (h .1) (t .1) (λ s′ e. way s′ (EntersArg.behind-it o e)))
+        (reported-args g n w (r + size x) (suc i) a b τ Δ′ s xs (h .1) (t .1) (λ s′ e. way s′ (EntersArg.after-it o e)))
         (λ Δ″ os. one-more o os)
-        (λ number place m. m))
+        (λ number position m. m))
 
 -- what is walked through is in order
 pub second :
@@ -459,4 +459,4 @@ pub second :
     → Passes gs (scope g n w τ) r e
     → walk n r Δ e ≡ done Δ′
     → InOrder gs g n r Δ e τ Δ′
-second gs g n w r Δ τ e Δ′ a passed h = said-done (told gs g n w r Δ τ e a passed) h
+second gs g n w r Δ τ e Δ′ a passed h = said-done (reported gs g n w r Δ τ e a passed) h

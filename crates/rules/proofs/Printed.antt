@@ -19,7 +19,7 @@ use Rattle.formats.specs.Programs.{Sort, numberValued, treeValued, Signature, s
 use Rattle.formats.proofs.Programs.{every-left, every-right}
 use Rattle.rules.specs.Types.{Ty, Int, Tree⁻, arrow, resultType, arrows, functionType}
 use Rattle.rules.specs.Typing.{TypesName, Types, Applies, to-number, to-tree, TypedFunction}
-use Rattle.rules.specs.Printed.{Name, number, tree, function, Term, lam, name, app, fix, Binding, has, In, here, there}
+use Rattle.rules.specs.Printed.{Name, numberName, treeName, functionName, Term, lam, name, app, fix, Binding, has, In, here, there}
 use Rattle.rules.specs.Printed.{an-int, Different, Judges, termOf, applied, lams, functionTerm, functionNames, JudgedFunction}
 
 -- ---- what is in Γ
@@ -27,16 +27,16 @@ use Rattle.rules.specs.Printed.{an-int, Different, Judges, termOf, appli
 -- the types of all functions, and number names 0 to g − 1
 envOf : List Signature → ℕ → List Binding
 envOf gs zero = functionNames 0 gs
-envOf gs (suc g) = has (number g) Int ∷ envOf gs g
+envOf gs (suc g) = has (numberName g) Int ∷ envOf gs g
 
 -- a name that it knows, with its type
 data Known (gs : List Signature) (g : ℕ) : Binding → Type 0 where
-  a-number : {a : ℕ} → a < g → Known gs g (has (number a) Int)
-  a-function : {b : ℕ} {s : Signature} → nth gs b ≡ some s → Known gs g (has (function b) (functionType s))
+  a-number : {a : ℕ} → a < g → Known gs g (has (numberName a) Int)
+  a-function : {b : ℕ} {s : Signature} → nth gs b ≡ some s → Known gs g (has (functionName b) (functionType s))
 
 -- functions, the first of them number c
 data Named (c : ℕ) (ss : List Signature) : Binding → Type 0 where
-  named : {b : ℕ} {s : Signature} (j : ℕ) → b ≡ c + j → nth ss j ≡ some s → Named c ss (has (function b) (functionType s))
+  named : {b : ℕ} {s : Signature} (j : ℕ) → b ≡ c + j → nth ss j ≡ some s → Named c ss (has (functionName b) (functionType s))
 
 -- those are the names of functions ..
 in-names : (c : ℕ) (ss : List Signature) {x : Binding} → Named c ss x → In x (functionNames c ss)
@@ -83,14 +83,14 @@ in-env gs (suc g) (a-function e) = there (in-env gs g (a-function e))
 
 -- tree names that are different from each other, and from all that are still to come
 record Fresh (n : ℕ) (Δ : List ℕ) : Type 0 where
-  from : (m : ℕ) → n ≤ m → Different (map tree (m ∷ Δ))
+  from : (m : ℕ) → n ≤ m → Different (map treeName (m ∷ Δ))
 
 -- so are those of each part
-different-left : (Δ₁ Δ₂ : List ℕ) → Different (map tree (Δ₁ ++ Δ₂)) → Different (map tree Δ₁)
+different-left : (Δ₁ Δ₂ : List ℕ) → Different (map treeName (Δ₁ ++ Δ₂)) → Different (map treeName Δ₁)
 different-left [] Δ₂ h = tt
-different-left (x ∷ Δ₁) Δ₂ h = (every-left _ (map tree Δ₁) (map tree Δ₂) (rw (map-append tree Δ₁ Δ₂) at (h .0)), different-left Δ₁ Δ₂ (h .1))
+different-left (x ∷ Δ₁) Δ₂ h = (every-left _ (map treeName Δ₁) (map treeName Δ₂) (rw (map-append treeName Δ₁ Δ₂) at (h .0)), different-left Δ₁ Δ₂ (h .1))
 
-different-right : (Δ₁ Δ₂ : List ℕ) → Different (map tree (Δ₁ ++ Δ₂)) → Different (map tree Δ₂)
+different-right : (Δ₁ Δ₂ : List ℕ) → Different (map treeName (Δ₁ ++ Δ₂)) → Different (map treeName Δ₂)
 different-right [] Δ₂ h = h
 different-right (x ∷ Δ₁) Δ₂ h = different-right Δ₁ Δ₂ (h .1)
 
@@ -100,15 +100,15 @@ fresh-left Δ₁ Δ₂ f = record { from = λ m h. different-left (m ∷ Δ₁) 
 fresh-right : {n : ℕ} (Δ₁ Δ₂ : List ℕ) → Fresh n (Δ₁ ++ Δ₂) → Fresh n Δ₂
 fresh-right Δ₁ Δ₂ f = record {
   from = λ m h.
-      (every-right _ (map tree Δ₁) (map tree Δ₂) (rw (map-append tree Δ₁ Δ₂) at (f .from m h .0)), different-right Δ₁ Δ₂ (f .from m h .1));
+      (every-right _ (map treeName Δ₁) (map treeName Δ₂) (rw (map-append treeName Δ₁ Δ₂) at (f .from m h .0)), different-right Δ₁ Δ₂ (f .from m h .1));
 }
 
 -- names are different where their numbers are
-pub trees-differ : {a b : ℕ} → a ≢ b → tree a ≢ tree b
-trees-differ h e = h (ap (λ x. elim x [ number a ↦ a | tree a ↦ a | function a ↦ a ]) e)
+pub trees-differ : {a b : ℕ} → a ≢ b → treeName a ≢ treeName b
+trees-differ h e = h (ap (λ x. elim x [ numberName a ↦ a | treeName a ↦ a | functionName a ↦ a ]) e)
 
 -- the two that a Case binds are different from those before ..
-fresh-two : {n : ℕ} {Δ : List ℕ} → Fresh n Δ → Different (map tree (n ∷ suc n ∷ Δ))
+fresh-two : {n : ℕ} {Δ : List ℕ} → Fresh n Δ → Different (map treeName (n ∷ suc n ∷ Δ))
 fresh-two {n} f = ((trees-differ (omega arith), f .from n (omega arith) .0), f .from (suc n) (omega arith))
 
 -- .. and so it stays
@@ -117,21 +117,21 @@ fresh-more f = record { from = λ m h. ((trees-differ (omega arith), (trees-diff
 
 -- two parts, each with its own tree names
 joined : {Γ : List Binding} {M : Term} {τ : Ty} {n : ℕ} {Δ₁ Δ₂ : List ℕ} → Fresh n (Δ₁ ++ Δ₂)
-    → (Fresh n Δ₁ → Fresh n Δ₂ → Judges Γ (map tree Δ₁ ++ map tree Δ₂) M τ)
-    → Judges Γ (map tree (Δ₁ ++ Δ₂)) M τ
-joined {Δ₁} {Δ₂} f j = rw (map-append tree Δ₁ Δ₂) (j (fresh-left Δ₁ Δ₂ f) (fresh-right Δ₁ Δ₂ f))
+    → (Fresh n Δ₁ → Fresh n Δ₂ → Judges Γ (map treeName Δ₁ ++ map treeName Δ₂) M τ)
+    → Judges Γ (map treeName (Δ₁ ++ Δ₂)) M τ
+joined {Δ₁} {Δ₂} f j = rw (map-append treeName Δ₁ Δ₂) (j (fresh-left Δ₁ Δ₂ f) (fresh-right Δ₁ Δ₂ f))
 
-tree-judged : {Γ : List Binding} {Δ : List ℕ} {a : ℕ} {τ : Ty} → TypesName Δ a τ → Judges Γ (map tree Δ) (name (tree a)) τ
+tree-judged : {Γ : List Binding} {Δ : List ℕ} {a : ℕ} {τ : Ty} → TypesName Δ a τ → Judges Γ (map treeName Δ) (name (treeName a)) τ
 tree-judged TypesName.T-Var1 = Judges.T-Var1
 
 -- rule by rule; arguments for any term M that is applied to them
 judged : (gs : List Signature) {g n : ℕ} {Δ : List ℕ} {e : Expr} {τ : Ty} → Types gs g n Δ e τ → Fresh n Δ
-    → Judges (envOf gs g) (map tree Δ) (termOf g n e) τ
+    → Judges (envOf gs g) (map treeName Δ) (termOf g n e) τ
 unfolding termOf envOf
 judged gs d = elim d as
-    (λ g n Δ e τ _. Fresh n Δ → Judges (envOf gs g) (map tree Δ) (termOf g n e) τ)
+    (λ g n Δ e τ _. Fresh n Δ → Judges (envOf gs g) (map treeName Δ) (termOf g n e) τ)
     (λ g n Δ σ xs a τ _. Fresh n Δ → (Δ₀ : List Name) (M : Term) → Judges (envOf gs g) Δ₀ M σ
-    → Judges (envOf gs g) (Δ₀ ++ map tree Δ) (app (applied g n M xs) (name (tree a))) τ) [
+    → Judges (envOf gs g) (Δ₀ ++ map treeName Δ) (app (applied g n M xs) (name (treeName a))) τ) [
       | Types.T-Var2 {g} h ↦ λ f. Judges.T-Var2 (in-env gs g (a-number h))
       | Types.T-Int ↦ λ f. Judges.T-Int
       | Types.T-App {g} e (d → h) ↦ λ f. h f [] _ (Judges.T-Var2 (in-env gs g (a-function e)))
@@ -142,7 +142,7 @@ judged gs d = elim d as
       | Types.Let-01 (d → h) (e → k) ↦ λ f. joined f (λ l r. Judges.Let-01 (h l) (k r))
       | Types.IfZero-01 (d → h) (e → k) (o → m) ↦ λ f. joined f (λ l r. Judges.IfZero-01 (h l) (k r) (m r))
       | to-number {Δ₁} {Δ₂} (d → h) (e → k) ↦ λ f Δ₀ M j.
-          rw (map-append tree Δ₁ Δ₂, ← append-assoc) (k (fresh-right Δ₁ Δ₂ f) (Δ₀ ++ map tree Δ₁) _ (Judges.T-App j (h (fresh-left Δ₁ Δ₂ f))))
+          rw (map-append treeName Δ₁ Δ₂, ← append-assoc) (k (fresh-right Δ₁ Δ₂ f) (Δ₀ ++ map treeName Δ₁) _ (Judges.T-App j (h (fresh-left Δ₁ Δ₂ f))))
       | to-tree x ↦ λ f Δ₀ M j. Judges.T-App j (tree-judged x)
     ]
 
@@ -151,7 +151,7 @@ judged gs d = elim d as
 -- tree names by their numbers, and as names
 data Trees : List ℕ → List Name → Type 0 where
   none : Trees [] []
-  more : {a : ℕ} {Δ : List ℕ} {Δ′ : List Name} → Trees Δ Δ′ → Trees (a ∷ Δ) (tree a ∷ Δ′)
+  more : {a : ℕ} {Δ : List ℕ} {Δ′ : List Name} → Trees Δ Δ′ → Trees (a ∷ Δ) (treeName a ∷ Δ′)
 
 -- where the names are split, so are their numbers
 apart : (C : List ℕ → Type 0) {Δ : List ℕ} (Δ₁ Δ₂ : List Name) → Trees Δ (Δ₁ ++ Δ₂)
@@ -196,16 +196,16 @@ head-of noArgs M (Judges.T-App j k) = headed j (last k)
 head-of (arg x xs) M j = headed-arg (head-of xs (app M _) j)
 
 -- names: a tree's is in Δ, a number's and a function's are in Γ
-tree-typed : (gs : List Signature) (g : ℕ) {a : ℕ} {Δ : List ℕ} {Δ′ : List Name} {τ : Ty} → Judges (envOf gs g) Δ′ (name (tree a)) τ → Trees Δ Δ′
+tree-typed : (gs : List Signature) (g : ℕ) {a : ℕ} {Δ : List ℕ} {Δ′ : List Name} {τ : Ty} → Judges (envOf gs g) Δ′ (name (treeName a)) τ → Trees Δ Δ′
     → TypesName Δ a τ
 tree-typed gs g Judges.T-Var1 (more none) = TypesName.T-Var1
 tree-typed gs g (Judges.T-Var2 i) none = elim (known gs g i) [ ]
 
-var-typed : {gs : List Signature} {g n a : ℕ} {τ : Ty} → Known gs g (has (number a) τ) → Types gs g n [] (var a) τ
+var-typed : {gs : List Signature} {g n a : ℕ} {τ : Ty} → Known gs g (has (numberName a) τ) → Types gs g n [] (var a) τ
 var-typed (a-number h) = Types.T-Var2 h
 
 call-typed : {gs : List Signature} {g n a b : ℕ} {Δ : List ℕ} {xs : Args} {σ τ : Ty}
-    → Known gs g (has (function b) σ)
+    → Known gs g (has (functionName b) σ)
     → (Curried σ → Applies gs g n Δ σ xs a τ)
     → Types gs g n Δ (call a b xs) τ
 unfolding functionType
@@ -213,9 +213,9 @@ call-typed (a-function {s} e) d = Types.T-App e (d (curried (s .parameters) (s .
 
 -- a Call, once its arguments are typed
 called : {gs : List Signature} {g n a b : ℕ} {xs : Args} {Δ : List ℕ} {Δ′ : List Name} {τ : Ty}
-    → Headed (envOf gs g) g n (name (tree a)) τ xs (name (function b)) Δ′
+    → Headed (envOf gs g) g n (name (treeName a)) τ xs (name (functionName b)) Δ′
     → Trees Δ Δ′
-    → ((σ : Ty) → Curried σ → (Θ : List Name) → Spine (envOf gs g) g n (name (tree a)) τ xs σ Θ → Trees Δ Θ → Applies gs g n Δ σ xs a τ)
+    → ((σ : Ty) → Curried σ → (Θ : List Name) → Spine (envOf gs g) g n (name (treeName a)) τ xs σ Θ → Trees Δ Θ → Applies gs g n Δ σ xs a τ)
     → Types gs g n Δ (call a b xs) τ
 called {gs} {g} (headed (Judges.T-Var2 i) s) t d = call-typed (known gs g i) (λ c. d _ c _ s t)
 
@@ -250,10 +250,10 @@ mutual
   typed (nodeOf p q) (Judges.T-Node j k) t = split t (λ Θ₁ Θ₂ l r. Types.T-Node (typed p j l) (typed q k r))
   typed {gs} {g} (caseOf a p q) (Judges.T-Case d i j k) t =
       split t (λ Θ₁ Θ₂ l r. Types.T-Case (tree-typed gs g i l) (typed p j r) (typed q k (more (more r))))
-  typed (call a b xs) j t = called (head-of xs (name (function b)) j) t (λ σ c Θ s t. typedArgs xs c s t)
+  typed (call a b xs) j t = called (head-of xs (name (functionName b)) j) t (λ σ c Θ s t. typedArgs xs c s t)
 
   typedArgs : {gs : List Signature} {g n a : ℕ} {Δ : List ℕ} {Δ′ : List Name} {σ τ : Ty} (xs : Args) → Curried σ
-      → Spine (envOf gs g) g n (name (tree a)) τ xs σ Δ′ → Trees Δ Δ′
+      → Spine (envOf gs g) g n (name (treeName a)) τ xs σ Δ′ → Trees Δ Δ′
       → Applies gs g n Δ σ xs a τ
   typedArgs {gs} {g} noArgs c (last j) t = tree-applied (tree-typed gs g j t)
   typedArgs {gs} {g} {n} {a} {τ} (arg x xs) (from-number {τ = ρ} c) (next j s) t =
@@ -284,7 +284,7 @@ abstracted gs (suc j) k x M τ =
 pub printed : (gs : List Signature) (f : Function) → TypedFunction gs f ↔ JudgedFunction gs (signatureOf f) f
 unfolding envOf functionTerm functionType signatureOf
 printed gs f =
-    let whole = rw zero-add at (abstracted gs (f .parameters) 0 (tree 0) (termOf (f .parameters) 1 (f .body)) (resultType (f .sort))) in
+    let whole = rw zero-add at (abstracted gs (f .parameters) 0 (treeName 0) (termOf (f .parameters) 1 (f .body)) (resultType (f .sort))) in
     (λ d. whole .0 (judged gs d (record { from = λ m h. ((trees-differ (omega arith), tt), (tt, tt)) })), λ d. typed (f .body) (whole .1 d) (more none))
 
 -- ---- one function alone
@@ -294,12 +294,12 @@ unfixed : {Γ : List Binding} {Δ : List Name} {f : Name} {M : Term} {τ : Ty} �
 unfixed (Judges.T-Fix d) = d
 
 -- a function's type is an arrow
-fix-function : {M : Term} (k : ℕ) (ρ : Ty) → Judges (has (function 0) (arrows k ρ) ∷ []) [] M (arrows k ρ) → Judges [] [] (fix (function 0) M) (arrows k ρ)
+fix-function : {M : Term} (k : ℕ) (ρ : Ty) → Judges (has (functionName 0) (arrows k ρ) ∷ []) [] M (arrows k ρ) → Judges [] [] (fix (functionName 0) M) (arrows k ρ)
 unfolding arrows
 fix-function zero ρ d = Judges.T-Fix d
 fix-function (suc k) ρ d = Judges.T-Fix d
 
-pub fixed : (f : Function) → TypedFunction (signatureOf f ∷ []) f ↔ Judges [] [] (fix (function 0) (functionTerm f)) (functionType (signatureOf f))
+pub fixed : (f : Function) → TypedFunction (signatureOf f ∷ []) f ↔ Judges [] [] (fix (functionName 0) (functionTerm f)) (functionType (signatureOf f))
 unfolding functionNames functionType
 fixed f =
     let both = printed (signatureOf f ∷ []) f in

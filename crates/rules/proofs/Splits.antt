@@ -73,7 +73,7 @@ checks-types d = let u = uses d in record { used = u .used; joins = u .joins; ty
 checks-name : {Δ : List ℕ} {a : ℕ} {τ : Ty} → TypesName Δ a τ → (Δ′ : List ℕ) → ChecksName (Δ ++ Δ′) a τ Δ′
 checks-name TypesName.T-Var1 Δ′ = T-Var1
 
--- a derivation by Figure 6 is one by Figure 19 that leaves whatever stands behind
+-- a derivation by Figure 6 is one by Figure 19 that leaves whatever stands after
 pub types-checks :
     {gs : List Signature} {g n : ℕ} {Δ : List ℕ} {e : Expr} {τ : Ty}
     → Types gs g n Δ e τ
@@ -108,9 +108,9 @@ name-first T-Var1 = refl
 left-fits : {P : List ℕ → Type 0} {Δ Δ′ : List ℕ} → Uses P Δ Δ′ → length Δ ≤ mostPending → length Δ′ ≤ mostPending
 left-fits {Δ′ = Δ′} u h = let long = ap length (u .joins) ∙ length-append (u .used) Δ′ in omega arith
 
--- the line behind two parts' lines
-line-behind : (P : Line → Type 0) (ks ls : List Line) (l : Line) → Every P (ks ++ (ls ++ (l ∷ []))) → P l
-line-behind P ks ls l h = every-right P ls (l ∷ []) (every-right P ks (ls ++ (l ∷ [])) h) .0
+-- the line after two parts' lines
+line-after : (P : Line → Type 0) (ks ls : List Line) (l : Line) → Every P (ks ++ (ls ++ (l ∷ []))) → P l
+line-after P ks ls l h = every-right P ls (l ∷ []) (every-right P ks (ls ++ (l ∷ [])) h) .0
 
 -- where no list is longer than 16, the one before the whole is not
 before-fits :
@@ -121,12 +121,12 @@ unfolding lines
 before-fits (T-Var2 bound) h = h .0 .0
 before-fits T-Int h = h .0 .0
 before-fits (T-App known d) h = every-right NoLonger (linesApplied d) _ h .0 .0
-before-fits (T-Plus d₁ d₂) h = line-behind NoLonger (lines d₁) (lines d₂) _ h .0
+before-fits (T-Plus d₁ d₂) h = line-after NoLonger (lines d₁) (lines d₂) _ h .0
 before-fits (T-Leaf d) h = every-right NoLonger (lines d) _ h .0 .0
-before-fits (T-Node d₁ d₂) h = line-behind NoLonger (lines d₁) (lines d₂) _ h .0
-before-fits (T-Case name d₁ d₂) h = line-behind NoLonger (lines d₁) (lines d₂) _ h .0
-before-fits (Let-01 d₁ d₂) h = line-behind NoLonger (lines d₁) (lines d₂) _ h .0
-before-fits (IfZero-01 d₀ d₁ d₂) h = line-behind NoLonger (lines d₁) (lines d₂) _ (every-right NoLonger (lines d₀) _ h) .0
+before-fits (T-Node d₁ d₂) h = line-after NoLonger (lines d₁) (lines d₂) _ h .0
+before-fits (T-Case name d₁ d₂) h = line-after NoLonger (lines d₁) (lines d₂) _ h .0
+before-fits (Let-01 d₁ d₂) h = line-after NoLonger (lines d₁) (lines d₂) _ h .0
+before-fits (IfZero-01 d₀ d₁ d₂) h = line-after NoLonger (lines d₁) (lines d₂) _ (every-right NoLonger (lines d₀) _ h) .0
 
 -- both forms of the limit say the same of lines
 record Agree (ls : List Line) : Type 0 where
@@ -168,7 +168,7 @@ mutual
       let long : length Δ ≡ suc (length Δ′) = ap length (name-first name) in
       let h′ : length Δ′ ≤ mostPending = omega arith in
       agree-given {C = length Δ < mostPending}
-      (λ few. line-behind FewAtCase (lines d₁) (lines d₂) _ few)
+      (λ few. line-after FewAtCase (lines d₁) (lines d₂) _ few)
       (λ short. let more = before-fits d₂ (every-left NoLonger (lines d₂) _ (every-right NoLonger (lines d₁) _ short)) in omega arith)
       (λ few. agree-two _ (agree d₁ h′) (agree d₂ (omega arith)) few (h, left-fits (uses d₁) h′))
   agree (Let-01 d₁ d₂) h = let h′ = left-fits (uses d₁) h in agree-two _ (agree d₁ h) (agree d₂ h′) tt (h, left-fits (uses d₂) h′)

@@ -15,7 +15,7 @@ use Rattle.formats.proofs.Programs.{every-left, every-right}
 use Rattle.rules.specs.Types.{Ty, Int, Tree⁺, resultType, arrows, functionType, isInt, isTree, fits}
 use Rattle.rules.specs.Typing.{TypesName, T-Var1, Types, T-Var2, T-Int, T-App, T-Plus, T-Leaf, T-Node, T-Case, Let-01, IfZero-01, Applies, to-number, to-tree}
 use Rattle.rules.specs.Scopes.{scope, inside, entered}
-use Rattle.rules.specs.PassOne.{mostWords, named, typed, bareNumber, wordsTested, roomy, passOver, valueWords, wordsOf, wordsOfArgs}
+use Rattle.rules.specs.PassOne.{mostFrameWords, named, typed, bareNumber, wordsTested, roomy, passOver, wordsWithValue, wordsOf, wordsOfArgs}
 use Rattle.rules.proofs.Words.{words-call}
 use Rattle.rules.proofs.PassOne.{Passes, PassesArgs, pass-nothing, pass-more, pass-both}
 
@@ -31,7 +31,7 @@ applied-type (to-tree name) (suc k) ρ e = cc
 
 -- no fewer words stand than on entering
 no-fewer : (gs : List Signature) (w : ℕ) (e : Expr) → w ≤ wordsOf gs w e
-unfolding wordsOf valueWords
+unfolding wordsOf wordsWithValue
 no-fewer gs w (const i) = omega arith
 no-fewer gs w (var a) = omega arith
 no-fewer gs w (add p q) = let h = no-fewer gs w p in omega arith
@@ -42,11 +42,11 @@ no-fewer gs w (nodeOf p q) = let h = no-fewer gs w p in omega arith
 no-fewer gs w (caseOf a p q) = let h = no-fewer gs w q in omega arith
 no-fewer gs w (call a b xs) = of-call (nth gs b)
   where
-    value : (sort : Sort) → w ≤ valueWords sort w
+    value : (sort : Sort) → w ≤ wordsWithValue sort w
     value numberValued = omega arith
     value treeValued = omega arith
 
-    of-call : (o : Option Signature) → w ≤ elim o [ none ↦ w | some s ↦ max (valueWords (s .sort) w) (wordsOfArgs gs w xs) ]
+    of-call : (o : Option Signature) → w ≤ elim o [ none ↦ w | some s ↦ max (wordsWithValue (s .sort) w) (wordsOfArgs gs w xs) ]
     of-call none = omega arith
     of-call (some s) = let h = value (s .sort) in omega arith
 
@@ -81,10 +81,10 @@ value-fits treeValued = refl
 call-passes : (gs : List Signature) (g n w r a b : ℕ) (xs : Args) (s : Signature)
     → nth gs b ≡ some s
     → a < n
-    → valueWords (s .sort) w ≤ mostWords
+    → wordsWithValue (s .sort) w ≤ mostFrameWords
     → PassesArgs gs (Call a b) 0 (scope g n w (resultType (s .sort))) (suc r) xs
     → Passes gs (scope g n w (resultType (s .sort))) r (call a b xs)
-unfolding entered named typed wordsTested roomy valueWords
+unfolding entered named typed wordsTested roomy wordsWithValue
 call-passes gs g n w r a b xs s known bound few args =
     pass-more gs (scope g n w (resultType (s .sort))) r (Call a b) _
     (lt-ltb a n bound)
@@ -92,28 +92,28 @@ call-passes gs g n w r a b xs s known bound few args =
     (rw (known, wordsTested, roomy) (room (bareNumber s) refl))
     args
   where
-    room : (t : Bool) → bareNumber s ≡ t → elim t [ true ↦ ltb w mostWords | false ↦ true ] ≡ true
-    room true e = lt-ltb w mostWords (rw (bare-value s e) at few)
+    room : (t : Bool) → bareNumber s ≡ t → elim t [ true ↦ ltb w mostFrameWords | false ↦ true ] ≡ true
+    room true e = lt-ltb w mostFrameWords (rw (bare-value s e) at few)
     room false e = refl
 
 module _ (gs : List Signature) where
   -- what is to be shown of a derivation
   abbrev Fine : (g n : ℕ) (Δ : List ℕ) (e : Expr) (τ : Ty) → Type 0
-  Fine g n Δ e τ = (w r : ℕ) → Bound n Δ → wordsOf gs w e ≤ mostWords → Passes gs (scope g n w τ) r e
+  Fine g n Δ e τ = (w r : ℕ) → Bound n Δ → wordsOf gs w e ≤ mostFrameWords → Passes gs (scope g n w τ) r e
 
   abbrev FineArgs : (g n : ℕ) (Δ : List ℕ) (xs : Args) (a : ℕ) → Type 0
   FineArgs g n Δ xs a =
-      (b i w r : ℕ) (τ : Ty) → Bound n Δ → wordsOfArgs gs (w + i) xs ≤ mostWords → (a < n) × PassesArgs gs (Call a b) i (scope g n w τ) r xs
+      (b i w r : ℕ) (τ : Ty) → Bound n Δ → wordsOfArgs gs (w + i) xs ≤ mostFrameWords → (a < n) × PassesArgs gs (Call a b) i (scope g n w τ) r xs
 
   fine : {g n : ℕ} {Δ : List ℕ} {e : Expr} {τ : Ty} → Types gs g n Δ e τ → Fine g n Δ e τ
   unfolding entered inside named typed wordsTested roomy wordsOf isInt isTree functionType
   fine t = elim t as (λ g n Δ e τ t. Fine g n Δ e τ) (λ g n Δ σ xs a τ t. FineArgs g n Δ xs a) [
     | T-Var2 {g = g} {n = n} {x = x} x<g ↦ λ w r below few.
-        pass-more gs (scope g n w Int) r (Var x) [] (lt-ltb x g x<g) refl (lt-ltb w mostWords few) (pass-nothing gs)
+        pass-more gs (scope g n w Int) r (Var x) [] (lt-ltb x g x<g) refl (lt-ltb w mostFrameWords few) (pass-nothing gs)
     | T-Int {g = g} {n = n} {i = i} ↦ λ w r below few.
-        pass-more gs (scope g n w Int) r (Const i) [] refl refl (lt-ltb w mostWords few) (pass-nothing gs)
+        pass-more gs (scope g n w Int) r (Const i) [] refl refl (lt-ltb w mostFrameWords few) (pass-nothing gs)
     | T-App {g = g} {n = n} {a = a} {b = b} {xs = xs} {τ = τ} {s = s} known (applied → h) ↦ λ w r below few.
-        let few-here : max (valueWords (s .sort) w) (wordsOfArgs gs w xs) ≤ mostWords = rw (words-call gs w a b xs s known) at few in
+        let few-here : max (wordsWithValue (s .sort) w) (wordsOfArgs gs w xs) ≤ mostFrameWords = rw (words-call gs w a b xs s known) at few in
         let args = h b 0 w (suc r) τ below (rw add-zero (omega arith)) in
         let same : τ ≡ resultType (s .sort) = applied-type applied (s .parameters) _ refl in
         rw same (call-passes gs g n w r a b xs s known (args .0) (omega arith) (rw same at (args .1)))
@@ -129,7 +129,7 @@ module _ (gs : List Signature) where
         pass-more gs (scope g n w τ) r (Case a) _
         (lt-ltb a n (name-bound name (every-left _ Δ₁ Δ₂ below)))
         refl
-        (lt-ltb w mostWords (omega (arith, no-fewer gs (suc w) p)))
+        (lt-ltb w mostFrameWords (omega (arith, no-fewer gs (suc w) p)))
         (pass-both gs _ _ (h₁ (suc w) (suc r) rest (omega arith)) (h₂ w _ (omega arith, (omega arith, bound-more n Δ₂ rest)) (omega arith)))
     | Let-01 {g = g} {n = n} {Δ₁ = Δ₁} {Δ₂ = Δ₂} {τ = τ} (d₁ → h₁) (d₂ → h₂) ↦ λ w r below few.
         pass-more gs (scope g n w τ) r Let _ refl refl refl
@@ -139,8 +139,8 @@ module _ (gs : List Signature) where
         pass-more gs (scope g n w τ) r IfZero _ refl refl refl
         (pass-both gs _ _ (h₀ w (suc r) (every-left _ Δ₁ Δ₂ below) (omega arith)) (pass-both gs _ _ (h₁ w _ rest (omega arith)) (h₂ w _ rest (omega arith))))
     | to-number {Δ₁ = Δ₁} {Δ₂ = Δ₂} (d → h) (rest → k) ↦ λ b i w r τ below few.
-        let behind = k b (suc i) w _ τ (every-right _ Δ₁ Δ₂ below) (rw add-suc (omega arith)) in
-        (behind .0, pass-both gs _ _ (h (w + i) r (every-left _ Δ₁ Δ₂ below) (omega arith)) (behind .1))
+        let after = k b (suc i) w _ τ (every-right _ Δ₁ Δ₂ below) (rw add-suc (omega arith)) in
+        (after .0, pass-both gs _ _ (h (w + i) r (every-left _ Δ₁ Δ₂ below) (omega arith)) (after .1))
     | to-tree name ↦ λ b i w r τ below few. (name-bound name below, pass-nothing gs)
   ]
 
@@ -148,6 +148,6 @@ pub passes-one :
     (gs : List Signature) (g n w r : ℕ) (Δ : List ℕ) (τ : Ty) (e : Expr)
     → Types gs g n Δ e τ
     → Every (λ a. a < n) Δ
-    → wordsOf gs w e ≤ mostWords
+    → wordsOf gs w e ≤ mostFrameWords
     → passOver gs (entered (scope g n w τ) r e) ≡ done tt
 passes-one gs g n w r Δ τ e t = fine gs t w r

@@ -19,11 +19,11 @@ use Rattle.rules.specs.Types.{Ty, resultType, functionType, isInt, isTre
 use Rattle.rules.specs.Typing.{Types, T-Var2, T-Int, T-App, T-Plus, T-Leaf, T-Node, T-Case, Let-01, IfZero-01, to-number, to-tree, TypedFunction}
 use Rattle.rules.specs.Scopes.{Scope, scope, startOf, inside, Entry, entry, entered, enteredArgs, enteredAll}
 use Rattle.rules.specs.PassOne.{named, typed, passOne, name-not-bound, wrong-type, too-many-words, FirstFails, here, later}
-use Rattle.rules.specs.OrderChecker.{firstNode, Numbered, kindIn, InFunction, this-one, behind-it, Untyped}
+use Rattle.rules.specs.OrderChecker.{firstNode, Numbered, kindIn, InFunction, this-one, after-it, Untyped}
 use Rattle.rules.proofs.Entries.{kinds-entered, numbered}
 use Rattle.rules.proofs.PassOne.{pass-one}
 use Rattle.rules.proofs.Typed.{applied-type, Bound, bound-more, name-bound, value-fits}
-use Rattle.rules.proofs.Places.{Among, widen, own}
+use Rattle.rules.proofs.Positions.{Among, widen, own}
 
 -- ---- where Figure 6 types
 
@@ -133,9 +133,9 @@ module _ (gs : List Signature) where
   in-function P k (f ∷ fs) follows fails = elim (fails-split (entered (startOf f) k (f .body)) _ fails) [
     | inl first ↦
         let many = many-entered f k in
-        let place = fails-among k _ (numbered (f .body) (startOf f) k) first in
-        this-one {f = f} (place .from) (omega (arith, place .before)) (follows f k first)
-    | inr after ↦ behind-it (in-function P (k + size (f .body)) fs follows after)
+        let position = fails-among k _ (numbered (f .body) (startOf f) k) first in
+        this-one {f = f} (position .from) (omega (arith, position .before)) (follows f k first)
+    | inr after ↦ after-it (in-function P (k + size (f .body)) fs follows after)
   ]
 
   -- it has no derivation

@@ -13,7 +13,7 @@ use Rattle.formats.specs.Programs.{Expr, const, var, add, ifZero, letIn, leafOf
 use Rattle.formats.specs.Programs.{Applied, AppliedArgs, Sort, numberValued, treeValued, Signature, arityOf, Function, mostParameters, LawfulFunction}
 use Rattle.rules.specs.Types.{Ty, Int, Tree⁺, resultType, isInt}
 use Rattle.rules.specs.Scopes.{scope, Entry, entry, entered}
-use Rattle.rules.specs.PassOne.{mostWords, bareNumber, wordsTested, roomy, passOver, valueWords, wordsOf, wordsOfArgs}
+use Rattle.rules.specs.PassOne.{mostFrameWords, bareNumber, wordsTested, roomy, passOver, wordsWithValue, wordsOf, wordsOfArgs}
 use Rattle.rules.proofs.PassOne.{Passes, PassesArgs, pass-inv, pass-add, pass-ifZero, pass-let, pass-leaf, pass-node, pass-case, pass-call, pass-arg}
 
 -- ---- a number needs a word
@@ -21,12 +21,12 @@ use Rattle.rules.proofs.PassOne.{Passes, PassesArgs, pass-inv, pass-add
 -- where the words are tested, one more has room
 pub tested : (gs : List Signature) (g n w r : ℕ) (τ : Ty) (kind : Kind) (xs : List Entry) → wordsTested gs kind ≡ true
     → passOver gs (entry (scope g n w τ) r kind ∷ xs) ≡ done tt
-    → w < mostWords
+    → w < mostFrameWords
 unfolding roomy
-tested gs g n w r τ kind xs t e = ltb-true w mostWords (rw (t, roomy) at (pass-inv gs (scope g n w τ) r kind xs e .room))
+tested gs g n w r τ kind xs t e = ltb-true w mostFrameWords (rw (t, roomy) at (pass-inv gs (scope g n w τ) r kind xs e .room))
 
 -- a function's parameters are few words
-pub few-parameters : (gs : List Signature) (j : ℕ) (f : Function) → LawfulFunction gs j f → f .parameters ≤ mostWords
+pub few-parameters : (gs : List Signature) (j : ℕ) (f : Function) → LawfulFunction gs j f → f .parameters ≤ mostFrameWords
 unfolding mostParameters
 few-parameters gs zero f l = omega (arith, l .few-parameters)
 few-parameters gs (suc j) f l = omega (arith, l .few-parameters)
@@ -49,7 +49,7 @@ no-number e = absurd (false≢true (ap isInt (sym e)))
 mutual
   unfolding entered wordsTested countArgs arityOf
 
-  pub room : (gs : List Signature) (g n w r : ℕ) (e : Expr) → Applied (arityOf gs) e → Passes gs (scope g n w Int) r e → w < mostWords
+  pub room : (gs : List Signature) (g n w r : ℕ) (e : Expr) → Applied (arityOf gs) e → Passes gs (scope g n w Int) r e → w < mostFrameWords
   room gs g n w r (const i) a e = tested gs g n w r Int (Const i) _ refl e
   room gs g n w r (var v) a e = tested gs g n w r Int (Var v) _ refl e
   room gs g n w r (add p q) a e = room gs g n w _ p (a .0) (pass-add gs g n w r Int p q e .1)
@@ -65,9 +65,9 @@ mutual
       (λ alone. tested gs g n w r Int (Call v b) _ (rw (c .known, wordsTested) (bare (c .signature) (c .same) (sym arity ∙ alone))) e)
       (c .arguments)
 
-  room-args : (gs : List Signature) (g n w r : ℕ) (τ : Ty) (a b : ℕ) (xs : Args) → AppliedArgs (arityOf gs) xs → (countArgs xs ≡ 0 → w < mostWords)
+  room-args : (gs : List Signature) (g n w r : ℕ) (τ : Ty) (a b : ℕ) (xs : Args) → AppliedArgs (arityOf gs) xs → (countArgs xs ≡ 0 → w < mostFrameWords)
       → PassesArgs gs (Call a b) 0 (scope g n w τ) r xs
-      → w < mostWords
+      → w < mostFrameWords
   room-args gs g n w r τ a b noArgs h alone e = alone refl
   room-args gs g n w r τ a b (arg x xs) h alone e =
       let first = room gs g n (w + 0) r x (h .0) (pass-arg gs g n w r τ a b 0 x xs e .0) in
@@ -77,13 +77,13 @@ mutual
 
 -- the words of a Call whose function is known
 pub words-call : (gs : List Signature) (w a b : ℕ) (xs : Args) (s : Signature) → nth gs b ≡ some s
-    → wordsOf gs w (call a b xs) ≡ max (valueWords (s .sort) w) (wordsOfArgs gs w xs)
+    → wordsOf gs w (call a b xs) ≡ max (wordsWithValue (s .sort) w) (wordsOfArgs gs w xs)
 unfolding wordsOf
-words-call gs w a b xs s e = ap (λ o. elim o [ none ↦ w | some s ↦ max (valueWords (s .sort) w) (wordsOfArgs gs w xs) ]) e
+words-call gs w a b xs s e = ap (λ o. elim o [ none ↦ w | some s ↦ max (wordsWithValue (s .sort) w) (wordsOfArgs gs w xs) ]) e
 
 -- at least those that stand on entering
 mutual
-  unfolding wordsOf valueWords
+  unfolding wordsOf wordsWithValue
 
   pub words-least : (gs : List Signature) (w : ℕ) (e : Expr) → w ≤ wordsOf gs w e
   words-least gs w (const i) = omega arith
@@ -96,7 +96,7 @@ mutual
   words-least gs w (caseOf a p q) = omega (arith, words-least gs w q)
   words-least gs w (call a b xs) = known (words-least-args gs w xs) (nth gs b)
     where
-      known : w ≤ wordsOfArgs gs w xs → (o : Option Signature) → w ≤ elim o [ none ↦ w | some s ↦ max (valueWords (s .sort) w) (wordsOfArgs gs w xs) ]
+      known : w ≤ wordsOfArgs gs w xs → (o : Option Signature) → w ≤ elim o [ none ↦ w | some s ↦ max (wordsWithValue (s .sort) w) (wordsOfArgs gs w xs) ]
       known least none = le-refl w
       known least (some s) = omega arith
 
@@ -106,10 +106,10 @@ mutual
 
 -- the words stay within the limit
 mutual
-  unfolding entered wordsTested wordsOf valueWords resultType
+  unfolding entered wordsTested wordsOf wordsWithValue resultType
 
-  pub few-words : (gs : List Signature) (g n w r : ℕ) (τ : Ty) (e : Expr) → Applied (arityOf gs) e → w ≤ mostWords → Passes gs (scope g n w τ) r e
-      → wordsOf gs w e ≤ mostWords
+  pub few-words : (gs : List Signature) (g n w r : ℕ) (τ : Ty) (e : Expr) → Applied (arityOf gs) e → w ≤ mostFrameWords → Passes gs (scope g n w τ) r e
+      → wordsOf gs w e ≤ mostFrameWords
   few-words gs g n w r τ (const i) a h e = tested gs g n w r τ (Const i) _ refl e
   few-words gs g n w r τ (var v) a h e = tested gs g n w r τ (Var v) _ refl e
   few-words gs g n w r τ (add p q) a h e =
@@ -135,15 +135,15 @@ mutual
       let args = rw add-zero at (few-args gs g n w (suc r) τ v b 0 xs (a .1) (omega arith) (c .arguments)) in
       rw (words-call gs w v b xs (c .signature) (c .known)) (max-le (value (c .signature .sort) (c .same)) args)
     where
-      value : (sort : Sort) → τ ≡ resultType sort → valueWords sort w ≤ mostWords
+      value : (sort : Sort) → τ ≡ resultType sort → wordsWithValue sort w ≤ mostFrameWords
       value numberValued t = room gs g n w r (call v b xs) a (rw t at e)
       value treeValued t = h
 
-  few-args : (gs : List Signature) (g n w r : ℕ) (τ : Ty) (a b i : ℕ) (xs : Args) → AppliedArgs (arityOf gs) xs → w + i ≤ mostWords
+  few-args : (gs : List Signature) (g n w r : ℕ) (τ : Ty) (a b i : ℕ) (xs : Args) → AppliedArgs (arityOf gs) xs → w + i ≤ mostFrameWords
       → PassesArgs gs (Call a b) i (scope g n w τ) r xs
-      → wordsOfArgs gs (w + i) xs ≤ mostWords
+      → wordsOfArgs gs (w + i) xs ≤ mostFrameWords
   few-args gs g n w r τ a b i noArgs p h e = h
   few-args gs g n w r τ a b i (arg x xs) p h e =
       let c = pass-arg gs g n w r τ a b i x xs e in
-      let more : w + suc i ≤ mostWords = rw add-suc (room gs g n (w + i) r x (p .0) (c .0)) in
+      let more : w + suc i ≤ mostFrameWords = rw add-suc (room gs g n (w + i) r x (p .0) (c .0)) in
       max-le (few-words gs g n (w + i) r Int x (p .0) h (c .0)) (rw add-suc at (few-args gs g n w (r + size x) τ a b (suc i) xs (p .1) more (c .1)))

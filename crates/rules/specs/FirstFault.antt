@@ -12,9 +12,9 @@ use Rattle.rules.specs.Leftover.{InOrder, mostPending}
 pub data Spot : Type 0 where
   spot : ℕ → ℕ → ℕ → List ℕ → Expr → Ty → Spot
 
--- The walk goes on from list Δ at record r to list Δ′ behind the arguments xs, all in order.
+-- The walk goes on from list Δ at record r to list Δ′ after the arguments xs, all in order.
 pub data ArgsInOrder (gs : List Signature) (g n : ℕ) : ℕ → List ℕ → Args → List ℕ → Type 0 where
-  through : {r : ℕ} {Δ : List ℕ} → ArgsInOrder gs g n r Δ noArgs Δ
+  finished : {r : ℕ} {Δ : List ℕ} → ArgsInOrder gs g n r Δ noArgs Δ
   one-more :
       {r : ℕ} {Δ Δ′ Δ″ : List ℕ} {x : Expr} {xs : Args}
       → InOrder gs g n r Δ x Int Δ′
@@ -24,7 +24,7 @@ pub data ArgsInOrder (gs : List Signature) (g n : ℕ) : ℕ → List ℕ → Ar
 -- The walk enters one of the arguments, those before it being in order.
 pub data EntersArg (gs : List Signature) (g n : ℕ) : ℕ → List ℕ → Args → Spot → Type 0 where
   this-one : {r : ℕ} {Δ : List ℕ} {x : Expr} {xs : Args} → EntersArg gs g n r Δ (arg x xs) (spot g n r Δ x Int)
-  behind-it :
+  after-it :
       {r : ℕ} {Δ Δ′ : List ℕ} {x : Expr} {xs : Args} {s : Spot}
       → InOrder gs g n r Δ x Int Δ′
       → EntersArg gs g n (r + size x) Δ′ xs s
@@ -83,9 +83,9 @@ pub data Enters (gs : List Signature) : Spot → Spot → Type 0 where
       → Enters gs (spot g n r Δ (call a b xs) τ) s
 
 -- The walk comes from one expression to another, a part at a time.
-pub data Comes (gs : List Signature) : Spot → Spot → Type 0 where
-  here : {s : Spot} → Comes gs s s
-  further : {s s′ s″ : Spot} → Enters gs s s′ → Comes gs s′ s″ → Comes gs s s″
+pub data WalksTo (gs : List Signature) : Spot → Spot → Type 0 where
+  here : {s : Spot} → WalksTo gs s s
+  further : {s s′ s″ : Spot} → Enters gs s s′ → WalksTo gs s′ s″ → WalksTo gs s s″
 
 -- The tree is at the list's head.
 pub data IsHead (a : ℕ) : List ℕ → Type 0 where
@@ -127,19 +127,19 @@ pub data Faults (gs : List Signature) : Spot → ℕ → ℕ → Type 0 where
 
 -- The first fault in functions, the first node of the first at record r.
 pub data FirstFault (gs : List Signature) : ℕ → List Function → ℕ → ℕ → Type 0 where
-  within :
-      {r number place : ℕ} {f : Function} {fs : List Function} {s : Spot}
-      → Comes gs (spot (f .parameters) 1 r (0 ∷ []) (f .body) (resultType (f .sort))) s
-      → Faults gs s number place
-      → FirstFault gs r (f ∷ fs) number place
+  in-this-function :
+      {r number position : ℕ} {f : Function} {fs : List Function} {s : Spot}
+      → WalksTo gs (spot (f .parameters) 1 r (0 ∷ []) (f .body) (resultType (f .sort))) s
+      → Faults gs s number position
+      → FirstFault gs r (f ∷ fs) number position
   -- "trees left (at the function's first node)"
   trees-left :
       {r : ℕ} {f : Function} {fs : List Function} {Δ : List ℕ}
       → InOrder gs (f .parameters) 1 r (0 ∷ []) (f .body) (resultType (f .sort)) Δ
       → Δ ≢ []
       → FirstFault gs r (f ∷ fs) outOfOrder r
-  behind-it :
-      {r number place : ℕ} {f : Function} {fs : List Function}
+  after-it :
+      {r number position : ℕ} {f : Function} {fs : List Function}
       → InOrder gs (f .parameters) 1 r (0 ∷ []) (f .body) (resultType (f .sort)) []
-      → FirstFault gs (r + size (f .body)) fs number place
-      → FirstFault gs r (f ∷ fs) number place
+      → FirstFault gs (r + size (f .body)) fs number position
+      → FirstFault gs r (f ∷ fs) number position

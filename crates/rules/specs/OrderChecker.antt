@@ -17,12 +17,12 @@ use Rattle.rules.specs.Types.{Ty, resultType, functionType}
 use Rattle.rules.specs.Typing.{Types, TypedFunction}
 use Rattle.rules.specs.Leftover.{Checks, lines, FewAtCase, NoLonger, mostPending}
 use Rattle.rules.specs.Scopes.{Scope, inside, partScope, expectedIn, PartTyped, Entry, entry, enteredAll}
-use Rattle.rules.specs.PassOne.{mostWords, wordsOf, passOne, FirstFails}
-use Rattle.rules.specs.PassTwo.{passTwo, order, checkRecords, checkFile}
+use Rattle.rules.specs.PassOne.{mostFrameWords, wordsOf, passOne, FirstFails}
+use Rattle.rules.specs.PassTwo.{passTwo, bothPasses, checkRecords, checkFile}
 use Rattle.rules.specs.FirstFault.{FirstFault}
-use Rattle.rules.specs.Printed.{function, fix, Judges, functionTerm, JudgedFunction}
+use Rattle.rules.specs.Printed.{functionName, fix, Judges, functionTerm, JudgedFunction}
 
--- The record behind the header and the function records.
+-- The record after the header and the function records.
 abbrev pub firstNode : Program → ℕ
 firstNode program = suc (length (program .functions))
 
@@ -36,7 +36,7 @@ CheckedFunction gs r f = Checks gs (f .parameters) 1 r (0 ∷ []) (f .body) (res
 -- Figure 19, whose lists those are: there is one, and each has fewer than 16 at each Case.
 pub record AdmittedFunction (gs : List Signature) (r : ℕ) (f : Function) : Type 0 where
   pub typed : TypedFunction gs f
-  pub few-words : wordsOf gs (f .parameters) (f .body) ≤ mostWords
+  pub few-words : wordsOf gs (f .parameters) (f .body) ≤ mostFrameWords
   pub derivation : CheckedFunction gs r f
   pub few-pending : (d : CheckedFunction gs r f) → Every FewAtCase (lines d)
 
@@ -76,7 +76,7 @@ kindIn (entry sc r kind) = kind
 -- Record r is one of a function's, of which P holds; functions from this one on, its first node at record k.
 pub data InFunction (P : Function → Type 0) (r : ℕ) : ℕ → List Function → Type 0 where
   this-one : {k : ℕ} {f : Function} {fs : List Function} → k ≤ r → r < k + size (f .body) → P f → InFunction P r k (f ∷ fs)
-  behind-it : {k : ℕ} {f : Function} {fs : List Function} → InFunction P r (k + size (f .body)) fs → InFunction P r k (f ∷ fs)
+  after-it : {k : ℕ} {f : Function} {fs : List Function} → InFunction P r (k + size (f .body)) fs → InFunction P r k (f ∷ fs)
 
 -- The function has no derivation.
 abbrev pub Untyped : List Signature → ℕ → ℕ → List Function → Type 0
@@ -84,7 +84,7 @@ Untyped gs r k fs = InFunction (λ f. TypedFunction gs f → ⊥) r k fs
 
 -- More than 16 words stand at some point of the function's body.
 abbrev pub Overfull : List Signature → ℕ → ℕ → List Function → Type 0
-Overfull gs r k fs = InFunction (λ f. mostWords < wordsOf gs (f .parameters) (f .body)) r k fs
+Overfull gs r k fs = InFunction (λ f. mostFrameWords < wordsOf gs (f .parameters) (f .body)) r k fs
 
 -- ---- the theorems
 
@@ -94,7 +94,7 @@ pub record OrderChecker : Type 0 where
   -- holds for Δ₁ such that Δ = Δ₁, Δ′.")
   pub splits : (gs : List Signature) (g n r : ℕ) (Δ : List ℕ) (e : Expr) (τ : Ty) (Δ′ : List ℕ) → Checks gs g n r Δ e τ Δ′ ↔ Split gs g n Δ e τ Δ′
   -- A program passes both passes exactly when every function body has a derivation by Figure 6 and stays within the limits.
-  pub passes : (program : Program) → Lawful program → (order program ≡ done tt) ↔ Admitted program
+  pub passes : (program : Program) → Lawful program → (bothPasses program ≡ done tt) ↔ Admitted program
   -- So it is of records and of files: one passes exactly where it holds a program that the rules admit. (What they hold is always within the limits
   -- of "Program file".)
   pub records : (r : List ℕ) → Bytes r → (checkRecords r ≡ done tt) ↔ AdmittedRecords r
@@ -166,7 +166,7 @@ pub record OrderChecker : Type 0 where
       → passTwo program ≡ refusal outOfOrder r
       → Every (TypedFunction (signatures program)) (program .functions)
       → ⊥
-  -- It is that function whose record is told.
+  -- It is that function whose record is reported.
   pub untyped-there :
       (program : Program) (r : ℕ)
       → passTwo program ≡ refusal outOfOrder r
@@ -182,4 +182,4 @@ pub record OrderChecker : Type 0 where
   -- Where there is one function, that is T-Fix itself: its fixed point has the function's type under no names.
   pub fixed :
       (f : Function)
-      → TypedFunction (signatureOf f ∷ []) f ↔ Judges [] [] (fix (function 0) (functionTerm f)) (functionType (signatureOf f))
+      → TypedFunction (signatureOf f ∷ []) f ↔ Judges [] [] (fix (functionName 0) (functionTerm f)) (functionType (signatureOf f))

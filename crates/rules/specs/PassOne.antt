@@ -15,8 +15,8 @@ use Rattle.rules.specs.Types.{isInt, isTree, fits}
 use Rattle.rules.specs.Scopes.{Scope, scope, Entry, entry, enteredAll}
 
 -- 01, Words: "16 is the most".
-abbrev pub mostWords : ℕ
-mostWords = 16
+abbrev pub mostFrameWords : ℕ
+mostFrameWords = 16
 
 -- The name is bound.
 unfoldable pub named : Scope → Kind → Bool
@@ -60,7 +60,7 @@ wordsTested gs (Case a) = true
 wordsTested gs (Call a b) = elim (nth gs b) [ none ↦ false | some s ↦ bareNumber s ]
 
 unfoldable pub roomy : List Signature → Scope → Kind → Bool
-roomy gs (scope g n w τ) kind = elim (wordsTested gs kind) [ true ↦ ltb w mostWords | false ↦ true ]
+roomy gs (scope g n w τ) kind = elim (wordsTested gs kind) [ true ↦ ltb w mostFrameWords | false ↦ true ]
 
 -- A condition that holds, or its refusal at record r.
 abbrev pub holdsAt : Bool → ℕ → ℕ → Result (Unit {0})
@@ -111,9 +111,9 @@ pub data FirstFails (gs : List Signature) : List Entry → ℕ → ℕ → Type 
 
 -- 01, Words: "The word count is that of the value stack above the frame's base". The most words
 -- that stand while an expression is taken, w on entering it. A number is left on a word.
-unfoldable pub valueWords : Sort → ℕ → ℕ
-valueWords numberValued w = suc w
-valueWords treeValued w = w
+unfoldable pub wordsWithValue : Sort → ℕ → ℕ
+wordsWithValue numberValued w = suc w
+wordsWithValue treeValued w = w
 
 unfoldable mutual
   pub wordsOf : List Signature → ℕ → Expr → ℕ
@@ -125,7 +125,7 @@ unfoldable mutual
   wordsOf gs w (leafOf p) = wordsOf gs w p
   wordsOf gs w (nodeOf p q) = max (wordsOf gs w p) (wordsOf gs w q)
   wordsOf gs w (caseOf a p q) = max (wordsOf gs (suc w) p) (wordsOf gs w q)
-  wordsOf gs w (call a b xs) = elim (nth gs b) [ none ↦ w | some s ↦ max (valueWords (s .sort) w) (wordsOfArgs gs w xs) ]
+  wordsOf gs w (call a b xs) = elim (nth gs b) [ none ↦ w | some s ↦ max (wordsWithValue (s .sort) w) (wordsOfArgs gs w xs) ]
 
   pub wordsOfArgs : List Signature → ℕ → Args → ℕ
   wordsOfArgs gs w noArgs = w

@@ -25,8 +25,8 @@ sameNames (x ∷ xs) (y ∷ ys) = eqb x y && sameNames xs ys
 
 -- 01, Pass two: "Both branches of Case or IfZero must end with equal lists, compared once both are
 -- through", 11 at the Case or IfZero.
-unfoldable pub joined : ℕ → Result (List ℕ) → Result (List ℕ) → Result (List ℕ)
-joined r one other = andThen one (λ Δ₁. andThen other (λ Δ₂. check (sameNames Δ₁ Δ₂) outOfOrder r Δ₂))
+unfoldable pub equalBranches : ℕ → Result (List ℕ) → Result (List ℕ) → Result (List ℕ)
+equalBranches r one other = andThen one (λ Δ₁. andThen other (λ Δ₂. check (sameNames Δ₁ Δ₂) outOfOrder r Δ₂))
 
 -- From the list before the expression at record r to the list after it; n tree names are bound.
 unfoldable mutual
@@ -35,7 +35,7 @@ unfoldable mutual
   walk n r Δ (var a) = done Δ
   walk n r Δ (add p q) = andThen (walk n (suc r) Δ p) (λ Δ′. walk n (suc r + size p) Δ′ q)
   walk n r Δ (ifZero t z o) =
-      andThen (walk n (suc r) Δ t) (λ Δ′. joined r (walk n (suc r + size t) Δ′ z) (walk n (suc r + size t + size z) Δ′ o))
+      andThen (walk n (suc r) Δ t) (λ Δ′. equalBranches r (walk n (suc r + size t) Δ′ z) (walk n (suc r + size t + size z) Δ′ o))
   walk n r Δ (letIn p body) = andThen (walk n (suc r) Δ p) (λ Δ′. walk n (suc r + size p) Δ′ body)
   walk n r Δ (leafOf p) = walk n (suc r) Δ p
   walk n r Δ (nodeOf p q) = andThen (walk n (suc r) Δ p) (λ Δ′. walk n (suc r + size p) Δ′ q)
@@ -46,7 +46,7 @@ unfoldable mutual
       (takeHead a r Δ)
       (λ rest. andThen
       (holdsAt (ltb (length Δ) mostPending) tooManyPending r)
-      (λ u. joined r (walk n (suc r) rest p) (walk (suc (suc n)) (suc r + size p) (n ∷ (suc n ∷ rest)) q)))
+      (λ u. equalBranches r (walk n (suc r) rest p) (walk (suc (suc n)) (suc r + size p) (n ∷ (suc n ∷ rest)) q)))
   -- 01, Pass two: "Call takes the head after its arguments."
   walk n r Δ (call a b xs) = andThen (walkArgs n (suc r) Δ xs) (λ Δ′. takeHead a r Δ′)
 
@@ -70,13 +70,13 @@ passTwo program = walkAll (suc (length (program .functions))) (program .function
 
 -- Both passes. 01, The order of the tests: "A check row is finished for the whole file before the
 -- next begins".
-unfoldable pub order : Program → Result (Unit {0})
-order program = andThen (passOne program) (λ u. passTwo program)
+unfoldable pub bothPasses : Program → Result (Unit {0})
+bothPasses program = andThen (passOne program) (λ u. passTwo program)
 
 -- Flat records: the rows header to prefix form, then both passes. 01, Checking: "the translator
 -- needs both passes".
 unfoldable pub checkRecords : List ℕ → Result (Unit {0})
-checkRecords s = andThen (readProgram s) order
+checkRecords s = andThen (readProgram s) bothPasses
 
 -- A program file: the block rows first.
 unfoldable pub checkFile : List ℕ → Result (Unit {0})

@@ -9,9 +9,9 @@ use Rattle.rules.specs.Types.{Ty, Int, Tree⁻, Tree⁺, arrow, function
 -- Variables. 000, section 2.1: "bound variables are always different from each other and free
 -- variables"; names counted along the path are.
 pub data Name : Type 0 where
-  number : ℕ → Name
-  tree : ℕ → Name
-  function : ℕ → Name
+  numberName : ℕ → Name
+  treeName : ℕ → Name
+  functionName : ℕ → Name
 
 -- 000, Figure 3, terms; and 01, Let and IfZero.
 pub data Term : Type 0 where
@@ -28,9 +28,9 @@ pub data Term : Type 0 where
   -- fix f.M
   fix : Name → Term → Term
   -- leaf M
-  leaf : Term → Term
+  leafTerm : Term → Term
   -- node M₁ M₂
-  node : Term → Term → Term
+  nodeTerm : Term → Term → Term
   -- case M of leaf x ⇒ M₁ | node x₁ x₂ ⇒ M₂
   case : Term → Name → Term → Name → Name → Term → Term
   -- 01, Let and IfZero: let x = M₁ in M₂
@@ -82,12 +82,12 @@ pub data Judges : List Binding → List Name → Term → Ty → Type 0 where
       {Γ : List Binding} {f : Name} {M : Term} {σ τ : Ty}
       → Judges (has f (arrow σ τ) ∷ Γ) [] M (arrow σ τ)
       → Judges Γ [] (fix f M) (arrow σ τ)
-  T-Leaf : {Γ : List Binding} {Δ : List Name} {M : Term} → Judges Γ Δ M Int → Judges Γ Δ (leaf M) Tree⁺
+  T-Leaf : {Γ : List Binding} {Δ : List Name} {M : Term} → Judges Γ Δ M Int → Judges Γ Δ (leafTerm M) Tree⁺
   T-Node :
       {Γ : List Binding} {Δ₁ Δ₂ : List Name} {M N : Term}
       → Judges Γ Δ₁ M Tree⁺
       → Judges Γ Δ₂ N Tree⁺
-      → Judges Γ (Δ₁ ++ Δ₂) (node M N) Tree⁺
+      → Judges Γ (Δ₁ ++ Δ₂) (nodeTerm M N) Tree⁺
   T-Case :
       {Γ : List Binding} {Δ₁ Δ₂ : List Name} {M P Q : Term} {x x₁ x₂ : Name} {τ : Ty}
       → Different (x₁ ∷ (x₂ ∷ Δ₂))
@@ -115,15 +115,15 @@ pub data Judges : List Binding → List Name → Term → Ty → Type 0 where
 unfoldable mutual
   pub termOf : ℕ → ℕ → Expr → Term
   termOf g n (const i) = int i
-  termOf g n (var a) = name (number a)
+  termOf g n (var a) = name (numberName a)
   termOf g n (add p q) = plus (termOf g n p) (termOf g n q)
   termOf g n (ifZero t z o) = ifZero-01 (termOf g n t) (termOf g n z) (termOf g n o)
-  termOf g n (letIn p body) = let-01 (number g) (termOf g n p) (termOf (suc g) n body)
-  termOf g n (leafOf p) = leaf (termOf g n p)
-  termOf g n (nodeOf p q) = node (termOf g n p) (termOf g n q)
+  termOf g n (letIn p body) = let-01 (numberName g) (termOf g n p) (termOf (suc g) n body)
+  termOf g n (leafOf p) = leafTerm (termOf g n p)
+  termOf g n (nodeOf p q) = nodeTerm (termOf g n p) (termOf g n q)
   termOf g n (caseOf a p q) =
-      case (name (tree a)) (number g) (termOf (suc g) n p) (tree n) (tree (suc n)) (termOf g (suc (suc n)) q)
-  termOf g n (call a b xs) = app (applied g n (name (function b)) xs) (name (tree a))
+      case (name (treeName a)) (numberName g) (termOf (suc g) n p) (treeName n) (treeName (suc n)) (termOf g (suc (suc n)) q)
+  termOf g n (call a b xs) = app (applied g n (name (functionName b)) xs) (name (treeName a))
 
   -- A term applied to arguments, one after the other.
   pub applied : ℕ → ℕ → Term → Args → Term
@@ -133,16 +133,16 @@ unfoldable mutual
 -- λx.λy. .. M, over so many number names from k on.
 unfoldable pub lams : ℕ → ℕ → Term → Term
 lams k zero M = M
-lams k (suc j) M = lam (number k) (lams (suc k) j M)
+lams k (suc j) M = lam (numberName k) (lams (suc k) j M)
 
 -- A function's term: abstractions over its numbers, then over its tree.
 unfoldable pub functionTerm : Function → Term
-functionTerm f = lams 0 (f .parameters) (lam (tree 0) (termOf (f .parameters) 1 (f .body)))
+functionTerm f = lams 0 (f .parameters) (lam (treeName 0) (termOf (f .parameters) 1 (f .body)))
 
 -- Γ with the names of functions, the first of them number b, each with its type.
 unfoldable pub functionNames : ℕ → List Signature → List Binding
 functionNames b [] = []
-functionNames b (s ∷ ss) = has (function b) (functionType s) ∷ functionNames (suc b) ss
+functionNames b (s ∷ ss) = has (functionName b) (functionType s) ∷ functionNames (suc b) ss
 
 -- T-Fix for functions that call each other: with all their names in Γ at once, the function's term has its name's type.
 abbrev pub JudgedFunction : List Signature → Signature → Function → Type 0

@@ -1,38 +1,38 @@
--- What a stream run answers, a law for each way out of the functions that tell it.
+-- What a stream run answers, a law for each way out of the functions that report it.
 use Prim.Native.Nat.{ℕ}
 use mathlib.Core.List.{List, [], _∷_}
 use mathlib.Core.Path.{_≡_, refl}
 use Rattle.refusal.specs.declared.Refusal.{Refusal}
-use Rattle.refusal.specs.Number.{number}
+use Rattle.refusal.specs.Inner.Numbers.{number}
 use Rattle.refusal.specs.declared.Verdict.the-variants.{Passed, Refused}
-use Rattle.answers.specs.Told.{Stored}
-use Rattle.answers.proofs.Told.{told-ended, told-refused}
-use Rattle.machine.specs.Told.{answered}
+use Rattle.answers.specs.Slots.{Stored}
+use Rattle.answers.proofs.Slots.{reported-ended, reported-refused}
+use Rattle.machine.specs.Inner.Answers.{runAnswer}
 use Rattle.machine.specs.declared.Answer.{Answer}
-use Rattle.run_answers.specs.RunAnswer.{runPlaces, signExtended, placesWith, Stores, Answers}
+use Rattle.run_answers.specs.RunAnswer.{runSlots, signExtended, runSlotsOf, StoresRun, AnswersRun}
 
 -- ---- `store`
 
 -- the row, with its last number sign-extended
 pub store-row :
-    (ran : Answer) (n place word : ℕ) (before after : List ℕ) (r : ℕ)
+    (ran : Answer) (n position word : ℕ) (before after : List ℕ) (r : ℕ)
     → word ≡ signExtended (ran .number)
-    → Stored (place ∷ ran .units ∷ ran .read ∷ ran .written ∷ word ∷ []) n before after r
-    → Stores (answered ran) n place before after r
-store-row ran n place word before after r e s = rw (← e) s
+    → Stored (position ∷ ran .units ∷ ran .read ∷ ran .written ∷ word ∷ []) n before after r
+    → StoresRun (runAnswer ran) n position before after r
+store-row ran n position word before after r e s = rw (← e) s
 
--- ---- `tell_run`
+-- ---- `report_run`
 
 module _ (ran : Answer) (before after : List ℕ) (r : ℕ) where
-  pub run-ended : ran .verdict ≡ Passed → Stores (answered ran) 0 0 before after r → Answers (answered ran) before after r
-  run-ended = told-ended runPlaces (λ place. placesWith place (answered ran)) (λ place. refl) before after r (ran .verdict)
+  pub run-ended : ran .verdict ≡ Passed → StoresRun (runAnswer ran) 0 0 before after r → AnswersRun (runAnswer ran) before after r
+  run-ended = reported-ended runSlots (λ position. runSlotsOf position (runAnswer ran)) (λ position. refl) before after r (ran .verdict)
 
   pub run-refused :
-      (why : Refusal) (place n : ℕ)
-      → ran .verdict ≡ Refused why place
+      (why : Refusal) (position n : ℕ)
+      → ran .verdict ≡ Refused why position
       → n ≡ number why
-      → Stores (answered ran) n place before after r
-      → Answers (answered ran) before after r
-  run-refused = told-refused runPlaces (λ place. placesWith place (answered ran)) (λ place. refl) before after r (ran .verdict)
+      → StoresRun (runAnswer ran) n position before after r
+      → AnswersRun (runAnswer ran) before after r
+  run-refused = reported-refused runSlots (λ position. runSlotsOf position (runAnswer ran)) (λ position. refl) before after r (ran .verdict)
 
 pub ruleset run-ways = (run-ended, run-refused)

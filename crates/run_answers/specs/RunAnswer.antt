@@ -1,4 +1,4 @@
--- What a stream run answers: a number, and the places of a lent answer.
+-- What a stream run answers: a number, and the slots of a lent answer.
 use Prim.Native.Nat.{ℕ, suc, _+_, _-_, _^_, _<_}
 use mathlib.Core.Bool.{true, false}
 use mathlib.Core.List.{List, [], _∷_}
@@ -7,11 +7,11 @@ use lib.Dec.{ltb}
 use lib.IntN.{ℤ, pos, negsuc}
 use Rattle.formats.specs.Numbers.{signed32}
 use Rattle.meaning.specs.Running.{Answer}
-use Rattle.answers.specs.Told.{Stored, Told}
+use Rattle.answers.specs.Slots.{Stored, Reported}
 
--- How many places the answer takes.
-abbrev pub runPlaces : ℕ
-runPlaces = 5
+-- How many slots the answer takes.
+abbrev pub runSlots : ℕ
+runSlots = 5
 
 -- 01, Notation: "Labels, i and instruction numbers are two's complement." The number sign-extended:
 -- a 32-bit word as the 64-bit word that stands for the same number.
@@ -29,12 +29,12 @@ pub record Extends (w : ℕ) : Type 0 where
   -- that stands for the same number
   pub same-number : signed64 (signExtended w) ≡ signed32 w
 
--- Place 0: the refusal's place, 0 where the run ended. Then units, bytes read, bytes written and the number, sign-extended to 64 bits.
-abbrev pub placesWith : ℕ → Answer → List ℕ
-placesWith place a = place ∷ a .units ∷ a .bytesRead ∷ a .bytesWritten ∷ signExtended (a .number) ∷ []
+-- Place 0: the refusal's position, 0 where the run ended. Then units, bytes read, bytes written and the number, sign-extended to 64 bits.
+abbrev pub runSlotsOf : ℕ → Answer → List ℕ
+runSlotsOf position a = position ∷ a .units ∷ a .bytesRead ∷ a .bytesWritten ∷ signExtended (a .number) ∷ []
 
-abbrev pub Stores : Answer → ℕ → ℕ → List ℕ → List ℕ → ℕ → Type 0
-Stores a number place before after r = Stored (placesWith place a) number before after r
+abbrev pub StoresRun : Answer → ℕ → ℕ → List ℕ → List ℕ → ℕ → Type 0
+StoresRun a number position before after r = Stored (runSlotsOf position a) number before after r
 
-abbrev pub Answers : Answer → List ℕ → List ℕ → ℕ → Type 0
-Answers a before after r = Told runPlaces (λ place. placesWith place a) (a .outcome) before after r
+abbrev pub AnswersRun : Answer → List ℕ → List ℕ → ℕ → Type 0
+AnswersRun a before after r = Reported runSlots (λ position. runSlotsOf position a) (a .outcome) before after r

@@ -1,23 +1,23 @@
-// The answer of a stream run from C or Rust: a number, and the first places of an array that the caller lends.
+// The answer of a stream run from C or Rust: a number, and the first slots of an array that the caller lends.
 use machine::Answer;
 use refusal::Verdict;
 ghost use mathlib.Core.Path.{_≡_};
 ghost use lib.Dec.{leb};
 ghost use lib.ListN.{length};
-ghost use Rattle.machine.specs.Told.{answered};
-ghost use Rattle.run_answers.specs.RunAnswer.{runPlaces, signExtended, Stores, Answers};
+ghost use Rattle.machine.specs.Inner.Answers.{runAnswer};
+ghost use Rattle.run_answers.specs.RunAnswer.{runSlots, signExtended, StoresRun, AnswersRun};
 
-// How many places an answer takes.
-const RUN_PLACES: usize = 5;
+// How many slots an answer takes.
+const RUN_SLOTS: usize = 5;
 
 // 2^64 - 2^32: the upper 32 bits of a 64-bit word.
 const UPPER_BITS: u64 = 18446744069414584320;
 
-// Whether all places of the answer are lent.
+// Whether all slots of the answer are lent.
 pub fn has_room(answer: &[u64]) -> bool
-    ensures { λ r. ⌜ r ≡ leb runPlaces (length (now (answer .entry))) ⌝ }
+    ensures { λ r. ⌜ r ≡ leb runSlots (length (now (answer .entry))) ⌝ }
 {
-    RUN_PLACES <= answer.len()
+    RUN_SLOTS <= answer.len()
 }
 
 // The number that a 32-bit word stands for in two's complement, as a 64-bit word: sign-extended.
@@ -32,11 +32,11 @@ pub fn sign_extended(word: u32) -> u64
 }
 
 // The row of a refusal's position, units, bytes read, bytes written and the number, sign-extended to 64 bits.
-fn store(ran: Answer, number: u32, place: usize, answer: &mut [u64]) -> u32
-    ensures { λ r. ⌜ Stores (answered ran) number place (now (answer .entry)) (now (answer .exit)) r ⌝ }
+fn store(ran: Answer, number: u32, position: usize, answer: &mut [u64]) -> u32
+    ensures { λ r. ⌜ StoresRun (runAnswer ran) number position (now (answer .entry)) (now (answer .exit)) r ⌝ }
 {
     let row = [
-        place as u64,
+        position as u64,
         ran.units,
         ran.read as u64,
         ran.written as u64,
@@ -46,12 +46,12 @@ fn store(ran: Answer, number: u32, place: usize, answer: &mut [u64]) -> u32
 }
 
 // The answer of a stream run.
-pub fn tell_run(ran: Answer, answer: &mut [u64]) -> u32
-    ensures { λ r. ⌜ Answers (answered ran) (now (answer .entry)) (now (answer .exit)) r ⌝ }
+pub fn report_run(ran: Answer, answer: &mut [u64]) -> u32
+    ensures { λ r. ⌜ AnswersRun (runAnswer ran) (now (answer .entry)) (now (answer .exit)) r ⌝ }
 {
     let verdict = ran.verdict;
     match verdict {
         Verdict::Passed => store(ran, 0, 0, answer),
-        Verdict::Refused(why, place) => store(ran, refusal::number_of(why), place, answer),
+        Verdict::Refused(why, position) => store(ran, refusal::number_of(why), position, answer),
     }
 }

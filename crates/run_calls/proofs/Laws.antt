@@ -8,21 +8,21 @@ use borrow.Author.Tests.{lt-ltb, le-ltb}
 use lib.Dec.{leb}
 use lib.ListN.{length}
 use Rattle.formats.specs.Refusals.{spaceTooShort}
-use Rattle.machine.specs.Told.{answered}
+use Rattle.machine.specs.Inner.Answers.{runAnswer}
 use Rattle.machine.specs.declared.Answer.{Answer}
-use Rattle.runner.specs.Runs.{Runs}
-use Rattle.run_answers.specs.RunAnswer.{runPlaces, Answers}
+use Rattle.runner.specs.Inner.RunnerCall.{RunnerCall}
+use Rattle.run_answers.specs.RunAnswer.{runSlots, AnswersRun}
 use Rattle.run_answers.proofs.RunCall.{too-few, enough, not-called, called}
-use Rattle.run_calls.specs.RunsFile.{RunsFile}
+use Rattle.run_calls.specs.ProgramCall.{ProgramCall}
 
-module _ (file input output code values returns before : List ℕ) (fuel r : ℕ) (room : Bool) (test : room ≡ leb runPlaces (length before)) where
-  -- too few places: nothing is run
-  pub not-run : not room ≡ true → r ≡ spaceTooShort → RunsFile file input output output code code values values returns returns before before fuel r
+module _ (file input output code values returns before : List ℕ) (fuel r : ℕ) (room : Bool) (test : room ≡ leb runSlots (length before)) where
+  -- too few slots: nothing is run
+  pub not-run : not room ≡ true → r ≡ spaceTooShort → ProgramCall file input output output code code values values returns returns before before fuel r
   not-run u e =
-      let few = too-few runPlaces before room test u in
+      let few = too-few runSlots before room test u in
       record {
         run = not-called _ _ _ _ _ output values returns before r refl few e;
-        code-holds = rw (lt-ltb _ _ few) refl;
+        code-is = rw (lt-ltb _ _ few) refl;
         program-run = λ many. absurd (omega arith);
       }
 
@@ -30,14 +30,14 @@ module _ (file input output code values returns before : List ℕ) (fuel r : ℕ
   pub run-answered :
       (output′ code′ values′ returns′ after : List ℕ) (ran : Answer)
       → not room ≡ false
-      → Runs file input output output′ code code′ values values′ returns returns′ fuel ran
-      → Answers (answered ran) before after r
-      → RunsFile file input output output′ code code′ values values′ returns returns′ before after fuel r
+      → RunnerCall file input output output′ code code′ values values′ returns returns′ fuel ran
+      → AnswersRun (runAnswer ran) before after r
+      → ProgramCall file input output output′ code code′ values values′ returns returns′ before after fuel r
   run-answered output′ code′ values′ returns′ after ran u p a =
-      let many = enough runPlaces before room test u in
+      let many = enough runSlots before room test u in
       record {
         run = called _ _ _ _ _ output values returns before r output′ values′ returns′ after many (rw (← (p .answer)) a) (p .output-is) (p .words);
-        code-holds = rw (le-ltb _ _ many) (p .code-is);
+        code-is = rw (le-ltb _ _ many) (p .code-is);
         program-run = λ h. rw (← (p .answer)) (p .program-run);
       }
 

@@ -1,2 +1,2 @@
 -- What a run of a program file called from C or Rust answers.
-pub mod RunsFile
+pub mod ProgramCall

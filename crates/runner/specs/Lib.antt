@@ -1,2 +1,2 @@
 -- What a call of the runner gives.
-pub mod Runs
+pub mod Inner

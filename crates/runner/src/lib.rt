@@ -5,11 +5,11 @@ use refusal::Refusal;
 use refusal::Verdict;
 ghost use mathlib.Core.Path.{_≡_};
 ghost use lib.ListN.{length};
-ghost use Rattle.refusal.specs.Number.{number};
-ghost use Rattle.refusal.specs.Put.{Put};
-ghost use Rattle.machine.specs.Told.{answered};
+ghost use Rattle.refusal.specs.Inner.Numbers.{number};
+ghost use Rattle.refusal.specs.Inner.FilledBuffer.{FilledBuffer};
+ghost use Rattle.machine.specs.Inner.Answers.{runAnswer};
 ghost use Rattle.translation.specs.Calls.{prepared, refusedBefore};
-ghost use Rattle.runner.specs.Runs.{Runs, TooFewWords};
+ghost use Rattle.runner.specs.Inner.RunnerCall.{RunnerCall, TooFewWords};
 
 // The work words of a run.
 const VALUE_WORDS: usize = 16384;
@@ -22,31 +22,31 @@ fn too_few_words(file: &[u8]) -> Filled
 {
     let checked = order::check_file(file);
     match checked {
-        Verdict::Refused(why, place) => Filled::Refused(why, place),
+        Verdict::Refused(why, position) => Filled::Refused(why, position),
         Verdict::Passed => Filled::Refused(Refusal::SpaceTooShort, 0),
     }
 }
 
 // All that comes before a run that is lent so many value words and return words: the rows of the file, both passes, every 13, and then the program's
 // code is written to the start of `code`. A refusal leaves the buffer untouched.
-fn prepare(file: &[u8], code: &mut [u8], values: usize, places: usize) -> Filled
-    ensures { λ r. ⌜ Put (prepared (length (now (code .entry))) values places (now (file .entry))) (now (code .entry)) (now (code .exit)) r ⌝ }
+fn prepare(file: &[u8], code: &mut [u8], values: usize, returns: usize) -> Filled
+    ensures { λ r. ⌜ FilledBuffer (prepared (length (now (code .entry))) values returns (now (file .entry))) (now (code .entry)) (now (code .exit)) r ⌝ }
 {
     if values < VALUE_WORDS {
         return too_few_words(file);
     }
-    if places < RETURN_WORDS {
+    if returns < RETURN_WORDS {
         return too_few_words(file);
     }
     translate::translate_file(file, code)
 }
 
 // The answer of a call that is refused before its run.
-fn refused(why: Refusal, place: usize) -> Answer
-    ensures { λ r. ⌜ answered r ≡ refusedBefore (number why) place ⌝ }
+fn refused(why: Refusal, position: usize) -> Answer
+    ensures { λ r. ⌜ runAnswer r ≡ refusedBefore (number why) position ⌝ }
 {
     Answer {
-        verdict: Verdict::Refused(why, place),
+        verdict: Verdict::Refused(why, position),
         units: 0,
         read: 0,
         written: 0,
@@ -63,15 +63,15 @@ pub fn run(
     output: &mut [u8],
     code: &mut [u8],
     values: &mut [u32],
-    places: &mut [u64],
+    returns: &mut [u64],
 ) -> Answer
-    ensures { λ r. ⌜ Runs (now (file .entry)) (now (input .entry)) (now (output .entry)) (now (output .exit)) (now (code .entry)) (now (code .exit)) (now (values .entry)) (now (values .exit)) (now (places .entry)) (now (places .exit)) fuel r ⌝ }
+    ensures { λ r. ⌜ RunnerCall (now (file .entry)) (now (input .entry)) (now (output .entry)) (now (output .exit)) (now (code .entry)) (now (code .exit)) (now (values .entry)) (now (values .exit)) (now (returns .entry)) (now (returns .exit)) fuel r ⌝ }
 {
-    let laid = prepare(file, code, values.len(), places.len());
-    match laid {
-        Filled::Refused(why, place) => refused(why, place),
+    let emitted = prepare(file, code, values.len(), returns.len());
+    match emitted {
+        Filled::Refused(why, position) => refused(why, position),
         Filled::Written(bytes) => {
-            machine::perform(fuel, output, values, places, &code[..bytes], input)
+            machine::perform(fuel, output, values, returns, &code[..bytes], input)
         }
     }
 }

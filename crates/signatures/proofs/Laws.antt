@@ -25,19 +25,19 @@ pub ruleset header-read = (functions-are, nodes-are)
 
 module _ (s : List ℕ) (b n : ℕ) where
   -- the record's place, as the code has it
-  place : recordBytes * (1 + b) ≡ recordBytes * suc b
-  place = omega arith
+  position : recordBytes * (1 + b) ≡ recordBytes * suc b
+  position = omega arith
 
   pub sort-is : n ≡ getD s (recordBytes * (1 + b)) 0 → n ≡ sortIn s b
   unfolding sortIn recordAt
-  sort-is e = e ∙ ap (λ p. getD s p 0) place
+  sort-is e = e ∙ ap (λ p. getD s p 0) position
 
   pub arity-is : n ≡ getD s (recordBytes * (1 + b) + 1) 0 → n ≡ arityIn s b
   unfolding arityIn recordAt
-  arity-is e = e ∙ ap (λ p. getD s (p + 1) 0) place
+  arity-is e = e ∙ ap (λ p. getD s (p + 1) 0) position
 
   pub count-is : n ≡ numberAt 2 s (recordBytes * (1 + b) + 2) → n ≡ countIn s b
   unfolding countIn recordAt
-  count-is e = e ∙ ap (λ p. numberAt 2 s (p + 2)) place
+  count-is e = e ∙ ap (λ p. numberAt 2 s (p + 2)) position
 
 pub ruleset fields-read = (sort-is, arity-is, count-is)

@@ -1,2 +1,2 @@
 -- What a source run answers.
-pub mod Answers
+pub mod Inner

@@ -10,9 +10,9 @@ ghost use mathlib.Core.Path.{_≡_};
 ghost use lib.ListN.{length};
 ghost use Rattle.formats.specs.Results.{refusal};
 ghost use Rattle.formats.specs.Rows.{headerIn};
-ghost use Rattle.refusal.specs.Number.{number};
+ghost use Rattle.refusal.specs.Inner.Numbers.{number};
 ghost use Rattle.meaning.specs.SourceRun.{sourceRun};
-ghost use Rattle.source.specs.Answers.{answered, Named, Room, Evaluates, OfFile, Sourced};
+ghost use Rattle.source.specs.Inner.SourceAnswers.{sourceAnswer, Named, Room, Evaluates, OfFile, Sourced};
 
 // How a walk stops: ended, or with the fuel used up, or else with a call too many.
 const NOT_REFUSED: u32 = 0;
@@ -36,11 +36,11 @@ pub struct SourceAnswer {
 }
 
 // The answer of a run that is refused.
-fn refused(why: Refusal, place: usize, begun: u64) -> SourceAnswer
-    ensures { λ r. ⌜ answered r ≡ record { outcome = refusal (number why) place; begun = begun; bytesWritten = 0; number = 0 } ⌝ }
+fn refused(why: Refusal, position: usize, begun: u64) -> SourceAnswer
+    ensures { λ r. ⌜ sourceAnswer r ≡ record { outcome = refusal (number why) position; begun = begun; bytesWritten = 0; number = 0 } ⌝ }
 {
     SourceAnswer {
-        verdict: Verdict::Refused(why, place),
+        verdict: Verdict::Refused(why, position),
         begun: begun,
         written: 0,
         number: 0,
@@ -74,11 +74,11 @@ fn count_then_write(
     counting: &mut [u8],
     output: &mut [u8],
     values: &mut [u32],
-    places: &mut [u64],
+    returns: &mut [u64],
 ) -> SourceAnswer
-    ensures { λ r. ⌜ Evaluates (now (table .entry)) (now (input .entry)) first fuel (now (output .entry)) (now (output .exit)) (now (values .entry)) (now (values .exit)) (now (places .entry)) (now (places .exit)) r ⌝ }
+    ensures { λ r. ⌜ Evaluates (now (table .entry)) (now (input .entry)) first fuel (now (output .entry)) (now (output .exit)) (now (values .entry)) (now (values .exit)) (now (returns .entry)) (now (returns .exit)) r ⌝ }
 {
-    let counted = source_walk::walk(table, input, first, fuel, counting, values, places);
+    let counted = source_walk::walk(table, input, first, fuel, counting, values, returns);
     if counted.stop != NOT_REFUSED {
         return refused(why_stopped(counted.stop), 0, counted.begun);
     }
@@ -86,7 +86,7 @@ fn count_then_write(
         return refused(Refusal::OutputFull, 0, counted.begun);
     }
     if counted.written != 0 {
-        source_walk::walk(table, input, first, fuel, output, values, places);
+        source_walk::walk(table, input, first, fuel, output, values, returns);
     }
     SourceAnswer {
         verdict: Verdict::Passed,
@@ -104,9 +104,9 @@ fn evaluate(
     fuel: u64,
     output: &mut [u8],
     values: &mut [u32],
-    places: &mut [u64],
+    returns: &mut [u64],
 ) -> SourceAnswer
-    ensures { λ r. ⌜ Evaluates (now (table .entry)) (now (input .entry)) first fuel (now (output .entry)) (now (output .exit)) (now (values .entry)) (now (values .exit)) (now (places .entry)) (now (places .exit)) r ⌝ }
+    ensures { λ r. ⌜ Evaluates (now (table .entry)) (now (input .entry)) first fuel (now (output .entry)) (now (output .exit)) (now (values .entry)) (now (values .exit)) (now (returns .entry)) (now (returns .exit)) r ⌝ }
 {
     let mut nothing = [0u8; 1];
     count_then_write(
@@ -117,7 +117,7 @@ fn evaluate(
         &mut nothing,
         output,
         values,
-        places,
+        returns,
     )
 }
 
@@ -135,27 +135,27 @@ fn run_records(
     fuel: u64,
     output: &mut [u8],
     values: &mut [u32],
-    places: &mut [u64],
+    returns: &mut [u64],
 ) -> SourceAnswer
-    ensures { λ r. ⌜ OfFile (now (flat .entry)) (now (input .entry)) (now (output .entry)) (now (output .exit)) (now (values .entry)) (now (values .exit)) (now (places .entry)) (now (places .exit)) fuel r ⌝ }
+    ensures { λ r. ⌜ OfFile (now (flat .entry)) (now (input .entry)) (now (output .entry)) (now (output .exit)) (now (values .entry)) (now (values .exit)) (now (returns .entry)) (now (returns .exit)) fuel r ⌝ }
 {
     let mut table = [0u16; TABLE_WORDS];
     let decoded = decode::decode(flat, &mut table);
-    if let Verdict::Refused(why, place) = decoded {
-        return refused(why, place, 0);
+    if let Verdict::Refused(why, position) = decoded {
+        return refused(why, position, 0);
     }
     if values.len() < VALUE_WORDS {
         return refused(Refusal::SpaceTooShort, 0, 0);
     }
-    if places.len() < RETURN_WORDS {
+    if returns.len() < RETURN_WORDS {
         return refused(Refusal::SpaceTooShort, 0, 0);
     }
     let tree = tree::tree_answer(input);
     match tree {
-        TreeAnswer::Refused(why, place) => refused(why, place, 0),
+        TreeAnswer::Refused(why, position) => refused(why, position, 0),
         TreeAnswer::Tree(end) => {
             let first = first_node(flat);
-            evaluate(&table, input, first, fuel, output, values, places)
+            evaluate(&table, input, first, fuel, output, values, returns)
         }
     }
 }
@@ -168,16 +168,16 @@ pub fn run(
     fuel: u64,
     output: &mut [u8],
     values: &mut [u32],
-    places: &mut [u64],
+    returns: &mut [u64],
 ) -> SourceAnswer
-    ensures { λ r. ⌜ Sourced (sourceRun (now (file .entry)) (now (input .entry)) (now (output .entry)) fuel (length (now (values .entry))) (length (now (places .entry)))) (now (output .exit)) (now (values .entry)) (now (values .exit)) (now (places .entry)) (now (places .exit)) r ⌝ }
+    ensures { λ r. ⌜ Sourced (sourceRun (now (file .entry)) (now (input .entry)) (now (output .entry)) fuel (length (now (values .entry))) (length (now (returns .entry)))) (now (output .exit)) (now (values .entry)) (now (values .exit)) (now (returns .entry)) (now (returns .exit)) r ⌝ }
 {
     let mut flat = [0u8; MOST_BYTES];
-    let taken = block_reader::take_out(file, &mut flat);
+    let taken = block_reader::from_blocks(file, &mut flat);
     match taken {
-        Filled::Refused(why, place) => refused(why, place, 0),
+        Filled::Refused(why, position) => refused(why, position, 0),
         Filled::Written(bytes) => {
-            run_records(&flat[..bytes], input, fuel, output, values, places)
+            run_records(&flat[..bytes], input, fuel, output, values, returns)
         }
     }
 }

@@ -1,2 +1,2 @@
--- Laws for the functions that tell the answer of a source run.
+-- Laws for the functions that report the answer of a source run.
 pub mod Laws

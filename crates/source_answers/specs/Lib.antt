@@ -1,3 +1,3 @@
 -- What a source run answers from C or Rust.
-pub mod SourcePlaces
+pub mod SourceSlots
 pub mod SourceCall

@@ -7,25 +7,25 @@ use lib.Dec.{leb}
 use lib.ListN.{length}
 use Rattle.formats.specs.Refusals.{spaceTooShort}
 use Rattle.meaning.specs.SourceRun.{SourceRan}
-use Rattle.source.specs.Answers.{answered, Sourced}
+use Rattle.source.specs.Inner.SourceAnswers.{sourceAnswer, Sourced}
 use Rattle.source.specs.declared.SourceAnswer.{SourceAnswer}
 use Rattle.run_answers.proofs.RunCall.{too-few, enough, not-called, called}
-use Rattle.source_answers.specs.SourcePlaces.{sourcePlaces, Answers}
+use Rattle.source_answers.specs.SourceSlots.{sourceSlots, AnswersSource}
 use Rattle.source_answers.specs.SourceCall.{SourceCall}
 
-module _ (due : SourceRan) (output values returns before : List ℕ) (r : ℕ) (room : Bool) (test : room ≡ leb sourcePlaces (length before)) where
-  -- too few places: nothing is run
+module _ (due : SourceRan) (output values returns before : List ℕ) (r : ℕ) (room : Bool) (test : room ≡ leb sourceSlots (length before)) where
+  -- too few slots: nothing is run
   pub not-run : not room ≡ true → r ≡ spaceTooShort → SourceCall due output output values values returns returns before before r
-  not-run u e = not-called _ _ _ _ _ output values returns before r refl (too-few sourcePlaces before room test u) e
+  not-run u e = not-called _ _ _ _ _ output values returns before r refl (too-few sourceSlots before room test u) e
 
   -- what was run is answered
   pub run-answered :
       (output′ values′ returns′ after : List ℕ) (ran : SourceAnswer)
       → not room ≡ false
       → Sourced due output′ values values′ returns returns′ ran
-      → Answers (answered ran) before after r
+      → AnswersSource (sourceAnswer ran) before after r
       → SourceCall due output output′ values values′ returns returns′ before after r
   run-answered output′ values′ returns′ after ran u p a =
-      called _ _ _ _ _ output values returns before r output′ values′ returns′ after (enough sourcePlaces before room test u) (rw (← (p .answer)) a) (p .output) (p .words)
+      called _ _ _ _ _ output values returns before r output′ values′ returns′ after (enough sourceSlots before room test u) (rw (← (p .answer)) a) (p .output) (p .words)
 
 pub ruleset ways = (not-run, run-answered)

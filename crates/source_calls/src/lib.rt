@@ -5,9 +5,9 @@ ghost use Rattle.meaning.specs.SourceRun.{sourceRun};
 ghost use Rattle.source_answers.specs.SourceCall.{SourceCall};
 
 // The source run of a program file: its meaning on the tree that begins `input`, for programs that pass pass one, in or out of order. The refusal's
-// number, 0 where the run ended; the refusal's place, expressions begun, bytes written and the number, sign-extended to 64 bits, go to the answer's first
-// four places. A refusal leaves `output` untouched. Fewer than 16,384 `values` or 2,048 `returns`: 13. Refused with 1 to 13, 15, 16 or 20, a call leaves them
-// untouched; what they hold after a run is free. With fewer than four places in `answer`: 13, and all buffers are untouched.
+// number, 0 where the run ended; the refusal's position, expressions begun, bytes written and the number, sign-extended to 64 bits, go to the answer's first
+// four slots. A refusal leaves `output` untouched. Fewer than 16,384 `values` or 2,048 `returns`: 13. Refused with 1 to 13, 15, 16 or 20, a call leaves them
+// untouched; what they hold after a run is free. With fewer than four slots in `answer`: 13, and all buffers are untouched.
 pub fn source(
     file: &[u8],
     input: &[u8],
@@ -23,5 +23,5 @@ pub fn source(
         return refusal::number_of(Refusal::SpaceTooShort);
     }
     let ran = source::run(file, input, fuel, output, values, returns);
-    source_answers::tell_source(ran, answer)
+    source_answers::report_source(ran, answer)
 }

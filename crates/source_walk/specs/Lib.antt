@@ -1,2 +1,2 @@
 -- The walk of the source run, as a function.
-pub mod Loop
+pub mod Inner

@@ -2,18 +2,18 @@
 // expressions or calls.
 use stages::BEGIN;
 use stages::ENDED;
+use stages::FINISHED;
 use stages::OPEN;
 use stages::STUCK;
 use stages::Stage;
-use stages::THROUGH;
 ghost use mathlib.Core.Path.{_≡_};
-ghost use Rattle.source_walk.specs.Loop.{weightOf, finished, BeginsOne, Climbs, OpensOne, Turns, Walks};
+ghost use Rattle.source_walk.specs.Inner.Loop.{weightOf, finished, BeginsOne, Climbs, OpensOne, Turns, Walks};
 
 // While records are finished this falls.
 fn weight_of(s: Stage) -> usize
     ensures { λ r. ⌜ r ≡ weightOf s ⌝ }
 {
-    if s.mode == THROUGH {
+    if s.mode == FINISHED {
         return 1 + 65536 * (s.calls as usize) + (s.node as usize);
     }
     0
@@ -25,15 +25,15 @@ fn climb(
     input: &[u8],
     output: &mut [u8],
     values: &mut [u32],
-    places: &[u64],
+    returns: &[u64],
     start: Stage,
 ) -> Stage
-    ensures { λ r. ⌜ Climbs (now (table .entry)) (now (input .entry)) (now (places .entry)) (now (output .entry)) (now (output .exit)) (now (values .entry)) (now (values .exit)) start r ⌝ }
+    ensures { λ r. ⌜ Climbs (now (table .entry)) (now (input .entry)) (now (returns .entry)) (now (output .entry)) (now (output .exit)) (now (values .entry)) (now (values .exit)) start r ⌝ }
 {
     let mut s = start;
-    while s.mode == THROUGH {
-        let at = result_bytes::say_last(table, output, s);
-        let mut next = finish_record::rise(table, input, values, places, s);
+    while s.mode == FINISHED {
+        let at = result_bytes::emit_last(table, output, s);
+        let mut next = finish_record::rise(table, input, values, returns, s);
         next.written = at;
         if weight_of(s) <= weight_of(next) {
             return stages::staged_at(next, STUCK, 0, 0);
@@ -47,18 +47,18 @@ fn climb(
 fn begin_one(table: &[u16], input: &[u8], output: &mut [u8], values: &mut [u32], s: Stage) -> Stage
     ensures { λ r. ⌜ BeginsOne (now (table .entry)) (now (input .entry)) (now (output .entry)) (now (output .exit)) (now (values .entry)) (now (values .exit)) s r ⌝ }
 {
-    let at = result_bytes::say_first(table, output, s);
+    let at = result_bytes::emit_first(table, output, s);
     let mut next = begin_record::begin(table, input, values, s);
     next.written = at;
     next
 }
 
 // A call opens, if one is to be opened.
-fn open_one(table: &[u16], input: &[u8], values: &mut [u32], places: &mut [u64], s: Stage) -> Stage
-    ensures { λ r. ⌜ OpensOne (now (table .entry)) (now (input .entry)) (now (values .entry)) (now (values .exit)) (now (places .entry)) (now (places .exit)) s r ⌝ }
+fn open_one(table: &[u16], input: &[u8], values: &mut [u32], returns: &mut [u64], s: Stage) -> Stage
+    ensures { λ r. ⌜ OpensOne (now (table .entry)) (now (input .entry)) (now (values .entry)) (now (values .exit)) (now (returns .entry)) (now (returns .exit)) s r ⌝ }
 {
     if s.mode == OPEN {
-        return open_call::open(table, input, values, places, s);
+        return open_call::open(table, input, values, returns, s);
     }
     s
 }
@@ -69,14 +69,14 @@ fn turn(
     input: &[u8],
     output: &mut [u8],
     values: &mut [u32],
-    places: &mut [u64],
+    returns: &mut [u64],
     s: Stage,
 ) -> Stage
-    ensures { λ r. ⌜ Turns (now (table .entry)) (now (input .entry)) (now (output .entry)) (now (output .exit)) (now (values .entry)) (now (values .exit)) (now (places .entry)) (now (places .exit)) s r ⌝ }
+    ensures { λ r. ⌜ Turns (now (table .entry)) (now (input .entry)) (now (output .entry)) (now (output .exit)) (now (values .entry)) (now (values .exit)) (now (returns .entry)) (now (returns .exit)) s r ⌝ }
 {
     let begun = begin_one(table, input, output, values, s);
-    let settled = climb(table, input, output, values, places, begun);
-    open_one(table, input, values, places, settled)
+    let settled = climb(table, input, output, values, returns, begun);
+    open_one(table, input, values, returns, settled)
 }
 
 // How a walk stops: 0 where it ended, else a refusal's number; the expressions begun, the bytes written, the number.
@@ -122,9 +122,9 @@ pub fn walk(
     fuel: u64,
     output: &mut [u8],
     values: &mut [u32],
-    places: &mut [u64],
+    returns: &mut [u64],
 ) -> Walked
-    ensures { λ r. ⌜ Walks (now (table .entry)) (now (input .entry)) first fuel (now (output .entry)) (now (output .exit)) (now (values .entry)) (now (values .exit)) (now (places .entry)) (now (places .exit)) r ⌝ }
+    ensures { λ r. ⌜ Walks (now (table .entry)) (now (input .entry)) first fuel (now (output .entry)) (now (output .exit)) (now (values .entry)) (now (values .exit)) (now (returns .entry)) (now (returns .exit)) r ⌝ }
 {
     let mut s = Stage {
         mode: BEGIN,
@@ -138,7 +138,7 @@ pub fn walk(
     };
     let mut begun: u64 = 0;
     while begun < fuel {
-        s = turn(table, input, output, values, places, s);
+        s = turn(table, input, output, values, returns, s);
         begun = begun + 1;
         if s.mode != BEGIN {
             return finish(s, begun);

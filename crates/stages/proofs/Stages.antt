@@ -5,61 +5,61 @@ use mathlib.Core.Logic.{_≢_}
 use mathlib.Core.Path.{_≡_, refl}
 use borrow.Author.Tests.{eq-eqb, ne-eqb}
 use lib.ListN.{set, length-set}
-use Rattle.stepwise.specs.Steps.{Turn, begin, through, opens, ended, deep, stuck}
+use Rattle.stepwise.specs.Inner.Steps.{Turn, begin, finished, opens, ended, deep, stuck}
 use Rattle.stepwise.proofs.Steps.{off}
 use Rattle.stages.specs.declared.Stage.{Stage}
-use Rattle.stages.specs.Stages.{toBegin, isThrough, toOpen, hasEnded, tooManyOpen, isStuck, stateOf, turnOf, staged, withWritten, stageOf, wordsOf, placesOf, Reaches}
+use Rattle.stages.specs.Inner.Stages.{toBegin, isFinished, toOpen, hasEnded, tooManyOpen, isStuck, stateOf, turnOf, staged, withWritten, stageOf, wordsOf, returnsOf, Reaches}
 
 -- ---- the turn of a stage
 
-module _ (values places : List ℕ) (s : Stage) where
-  pub turn-begin : s .mode ≡ toBegin → turnOf values places s ≡ begin (s .node) (stateOf values places s)
+module _ (values returns : List ℕ) (s : Stage) where
+  pub turn-begin : s .mode ≡ toBegin → turnOf values returns s ≡ begin (s .node) (stateOf values returns s)
   unfolding turnOf
   turn-begin e = rw (turnOf, eq-eqb _ _ e)
 
-  pub turn-through : s .mode ≡ isThrough → turnOf values places s ≡ through (s .node) (s .number) (stateOf values places s)
+  pub turn-finished : s .mode ≡ isFinished → turnOf values returns s ≡ finished (s .node) (s .number) (stateOf values returns s)
   unfolding turnOf
-  turn-through e = rw (turnOf, off _ 1 0 e refl, eq-eqb _ _ e)
+  turn-finished e = rw (turnOf, off _ 1 0 e refl, eq-eqb _ _ e)
 
-  pub turn-open : s .mode ≡ toOpen → turnOf values places s ≡ opens (s .node) (stateOf values places s)
+  pub turn-open : s .mode ≡ toOpen → turnOf values returns s ≡ opens (s .node) (stateOf values returns s)
   unfolding turnOf
   turn-open e = rw (turnOf, off _ 2 0 e refl, off _ 2 1 e refl, eq-eqb _ _ e)
 
-  pub turn-ended : s .mode ≡ hasEnded → turnOf values places s ≡ ended (s .number)
+  pub turn-ended : s .mode ≡ hasEnded → turnOf values returns s ≡ ended (s .number)
   unfolding turnOf
   turn-ended e = rw (turnOf, off _ 3 0 e refl, off _ 3 1 e refl, off _ 3 2 e refl, eq-eqb _ _ e)
 
-  pub turn-deep : s .mode ≡ tooManyOpen → turnOf values places s ≡ deep (s .node)
+  pub turn-deep : s .mode ≡ tooManyOpen → turnOf values returns s ≡ deep (s .node)
   unfolding turnOf
   turn-deep e = rw (turnOf, off _ 4 0 e refl, off _ 4 1 e refl, off _ 4 2 e refl, off _ 4 3 e refl, eq-eqb _ _ e)
 
   -- no other mode is one of these
-  pub turn-none : s .mode ≢ toBegin → s .mode ≢ isThrough → s .mode ≢ toOpen → s .mode ≢ hasEnded → s .mode ≢ tooManyOpen → turnOf values places s ≡ stuck
+  pub turn-none : s .mode ≢ toBegin → s .mode ≢ isFinished → s .mode ≢ toOpen → s .mode ≢ hasEnded → s .mode ≢ tooManyOpen → turnOf values returns s ≡ stuck
   unfolding turnOf
   turn-none a b c d e = rw (turnOf, ne-eqb _ _ a, ne-eqb _ _ b, ne-eqb _ _ c, ne-eqb _ _ d, ne-eqb _ _ e)
 
 -- the bytes written are no matter of what is to be done next
-pub turn-written : (values places : List ℕ) (s : Stage) (at : ℕ) → turnOf values places (withWritten s at) ≡ turnOf values places s
+pub turn-written : (values returns : List ℕ) (s : Stage) (at : ℕ) → turnOf values returns (withWritten s at) ≡ turnOf values returns s
 unfolding turnOf
-turn-written values places s at = refl
+turn-written values returns s at = refl
 
 -- ---- a step
 
 -- the stage of a turn stands for it
-pub turn-again : (values places : List ℕ) (s : Stage) (t : Turn) → turnOf (wordsOf values t) (placesOf places t) (stageOf s t) ≡ t
-unfolding turnOf stageOf wordsOf placesOf
-turn-again values places s (begin r t) = refl
-turn-again values places s (through r x t) = refl
-turn-again values places s (opens r t) = refl
-turn-again values places s (ended x) = refl
-turn-again values places s (deep r) = refl
-turn-again values places s stuck = refl
+pub turn-again : (values returns : List ℕ) (s : Stage) (t : Turn) → turnOf (wordsOf values t) (returnsOf returns t) (stageOf s t) ≡ t
+unfolding turnOf stageOf wordsOf returnsOf
+turn-again values returns s (begin r t) = refl
+turn-again values returns s (finished r x t) = refl
+turn-again values returns s (opens r t) = refl
+turn-again values returns s (ended x) = refl
+turn-again values returns s (deep r) = refl
+turn-again values returns s stuck = refl
 
 -- the bytes written stay
 pub same-written : (s : Stage) (t : Turn) → stageOf s t .written ≡ s .written
 unfolding stageOf
 same-written s (begin r t) = refl
-same-written s (through r x t) = refl
+same-written s (finished r x t) = refl
 same-written s (opens r t) = refl
 same-written s (ended x) = refl
 same-written s (deep r) = refl
@@ -67,37 +67,37 @@ same-written s stuck = refl
 
 -- ---- what a step reaches
 
-module _ (values places : List ℕ) (s : Stage) where
+module _ (values returns : List ℕ) (s : Stage) where
   -- the words stay
-  pub reach-begin : (r : ℕ) → Reaches (begin r (stateOf values places s)) values values places places s (staged s toBegin r 0)
-  unfolding stageOf wordsOf placesOf
-  reach-begin r = record { stage = refl; words = refl; returns = refl; words-long = refl; returns-long = refl }
+  pub reach-begin : (r : ℕ) → Reaches (begin r (stateOf values returns s)) values values returns returns s (staged s toBegin r 0)
+  unfolding stageOf wordsOf returnsOf
+  reach-begin r = record { stage = refl; words = refl; returns-are = refl; words-long = refl; returns-long = refl }
 
-  pub reach-through : (r x : ℕ) → Reaches (through r x (stateOf values places s)) values values places places s (staged s isThrough r x)
-  unfolding stageOf wordsOf placesOf
-  reach-through r x = record { stage = refl; words = refl; returns = refl; words-long = refl; returns-long = refl }
+  pub reach-finished : (r x : ℕ) → Reaches (finished r x (stateOf values returns s)) values values returns returns s (staged s isFinished r x)
+  unfolding stageOf wordsOf returnsOf
+  reach-finished r x = record { stage = refl; words = refl; returns-are = refl; words-long = refl; returns-long = refl }
 
-  pub reach-open : (r : ℕ) → Reaches (opens r (stateOf values places s)) values values places places s (staged s toOpen r 0)
-  unfolding stageOf wordsOf placesOf
-  reach-open r = record { stage = refl; words = refl; returns = refl; words-long = refl; returns-long = refl }
+  pub reach-open : (r : ℕ) → Reaches (opens r (stateOf values returns s)) values values returns returns s (staged s toOpen r 0)
+  unfolding stageOf wordsOf returnsOf
+  reach-open r = record { stage = refl; words = refl; returns-are = refl; words-long = refl; returns-long = refl }
 
-  pub reach-ended : (x : ℕ) → Reaches (ended x) values values places places s (staged s hasEnded 0 x)
-  unfolding stageOf wordsOf placesOf
-  reach-ended x = record { stage = refl; words = refl; returns = refl; words-long = refl; returns-long = refl }
+  pub reach-ended : (x : ℕ) → Reaches (ended x) values values returns returns s (staged s hasEnded 0 x)
+  unfolding stageOf wordsOf returnsOf
+  reach-ended x = record { stage = refl; words = refl; returns-are = refl; words-long = refl; returns-long = refl }
 
-  pub reach-deep : (r : ℕ) → Reaches (deep r) values values places places s (staged s tooManyOpen r 0)
-  unfolding stageOf wordsOf placesOf
-  reach-deep r = record { stage = refl; words = refl; returns = refl; words-long = refl; returns-long = refl }
+  pub reach-deep : (r : ℕ) → Reaches (deep r) values values returns returns s (staged s tooManyOpen r 0)
+  unfolding stageOf wordsOf returnsOf
+  reach-deep r = record { stage = refl; words = refl; returns-are = refl; words-long = refl; returns-long = refl }
 
-  pub reach-stuck : Reaches stuck values values places places s (staged s isStuck (s .node) 0)
-  unfolding stageOf wordsOf placesOf
-  reach-stuck = record { stage = refl; words = refl; returns = refl; words-long = refl; returns-long = refl }
+  pub reach-stuck : Reaches stuck values values returns returns s (staged s isStuck (s .node) 0)
+  unfolding stageOf wordsOf returnsOf
+  reach-stuck = record { stage = refl; words = refl; returns-are = refl; words-long = refl; returns-long = refl }
 
   -- a number is put on a value word
-  pub put-begin : (i y r : ℕ) → Reaches (begin r (stateOf (set values i y) places s)) values (set values i y) places places s (staged s toBegin r 0)
-  unfolding stageOf wordsOf placesOf
-  put-begin i y r = record { stage = refl; words = refl; returns = refl; words-long = length-set values i y; returns-long = refl }
+  pub put-begin : (i y r : ℕ) → Reaches (begin r (stateOf (set values i y) returns s)) values (set values i y) returns returns s (staged s toBegin r 0)
+  unfolding stageOf wordsOf returnsOf
+  put-begin i y r = record { stage = refl; words = refl; returns-are = refl; words-long = length-set values i y; returns-long = refl }
 
-  pub put-open : (i y r : ℕ) → Reaches (opens r (stateOf (set values i y) places s)) values (set values i y) places places s (staged s toOpen r 0)
-  unfolding stageOf wordsOf placesOf
-  put-open i y r = record { stage = refl; words = refl; returns = refl; words-long = length-set values i y; returns-long = refl }
+  pub put-open : (i y r : ℕ) → Reaches (opens r (stateOf (set values i y) returns s)) values (set values i y) returns returns s (staged s toOpen r 0)
+  unfolding stageOf wordsOf returnsOf
+  put-open i y r = record { stage = refl; words = refl; returns-are = refl; words-long = length-set values i y; returns-long = refl }

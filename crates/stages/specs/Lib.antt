@@ -1,2 +1,2 @@
 -- What the stages of a source run stand for.
-pub mod Stages
+pub mod Inner

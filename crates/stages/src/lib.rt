@@ -1,11 +1,11 @@
 // How far a source run is: the stage of its loop.
 ghost use mathlib.Core.Path.{_≡_};
-ghost use Rattle.stages.specs.Stages.{staged};
+ghost use Rattle.stages.specs.Inner.Stages.{staged};
 
 // What is to be done next: a record begins, a record is finished, a call opens; the run has ended, a call too many would open, or the rows lead nowhere.
 pub const BEGIN: u32 = 0;
 
-pub const THROUGH: u32 = 1;
+pub const FINISHED: u32 = 1;
 
 pub const OPEN: u32 = 2;
 
@@ -16,7 +16,7 @@ pub const DEEP: u32 = 4;
 pub const STUCK: u32 = 5;
 
 // What is to be done next, by its number (`specs/Stages`); the record that it is done to, and the record's number where it is finished; how many calls wait, and
-// the place of the frame's tree; a tree that was passed, by its place and its end (0 as long as there is none); and the bytes written.
+// the position of the frame's tree; a tree that was passed, by its position and its end (0 as long as there is none); and the bytes written.
 pub struct Stage {
     pub mode: u32,
     pub node: u16,

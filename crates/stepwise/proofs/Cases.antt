@@ -6,30 +6,30 @@ use lib.Dec.{lit<}
 use lib.ListN.{length}
 use Rattle.formats.specs.Numbers.{Bytes, bytesOf, numberOf, numberAt, sum32}
 use Rattle.formats.specs.Results.{done}
-use Rattle.formats.specs.Tokens.{tokens, tagOf, tagAt, labelAt, partsAt, byTag, treeAt, firstTree}
+use Rattle.formats.specs.Tokens.{tokens, tagOf, tagAt, labelAt, branchesAt, treeByTag, treeAt, firstTree}
 use Rattle.formats.specs.Records.{nth}
 use Rattle.formats.specs.Programs.{const, var, add, ifZero, letIn, call, noArgs, arg, prefix, prefixes, size}
 use Rattle.formats.specs.Programs.{numberValued, arityOf, total, signatureOf, Program, mostRecords, Every}
 use Rattle.formats.proofs.ProgramCases.{grow, grow-lawful}
 use Rattle.formats.proofs.Results.{then-inv}
 use Rattle.rules.specs.PassOne.{passOne}
-use Rattle.rules.specs.PassTwo.{order}
+use Rattle.rules.specs.PassTwo.{bothPasses}
 use Rattle.rules.proofs.Cases.{numbered, programOf, grow-passes}
 use Rattle.meaning.specs.Levels.{atLevel}
 use Rattle.meaning.specs.Running.{valueWords, returnWords, mostCalls}
 use Rattle.meaning.specs.Evaluation.{resultBytes, resultNumber}
-use Rattle.meaning.specs.OpenCalls.{gives, after, next, numberOr, treeOr, resultTree, evaluate, evaluateArgs, firstRecord, called, evaluation}
+use Rattle.meaning.specs.OpenCalls.{gives, afterBegun, followedBy, numberOr, treeOr, resultTree, evaluate, evaluateArgs, firstRecord, called, evaluation}
 use Rattle.meaning.specs.Meaning.{PassesOne}
 use Rattle.meaning.proofs.MeaningCases.{two-leaves}
-use Rattle.stepwise.specs.Rows.{callsFunction, actionOf, codeOf, roleOf, slotOf, namesIn, keepsIn, casesIn, operandOf, treeOf, moreOf, rowsOf, rowsOfArgs, behindArgs}
-use Rattle.stepwise.specs.Rows.{rowsOfAll, rowWords, rowsIn, tabled}
-use Rattle.stepwise.specs.Steps.{begin, State, deep, beginning, opening}
-use Rattle.stepwise.specs.Comes.{told, toldOf, Comes}
+use Rattle.stepwise.specs.Inner.Rows.{callsFunction, actionOf, codeOf, roleOf, slotOf, namesIn, keepsIn, casesIn, operandOf, treeOf, moreOf, rowsOf, rowsOfArgs, afterArgs}
+use Rattle.stepwise.specs.Inner.Rows.{rowsOfAll, rowWords, rowsIn, tabled}
+use Rattle.stepwise.specs.Inner.Steps.{begin, State, deep, beginning, opening}
+use Rattle.stepwise.specs.Inner.Outcomes.{reported, reportedOf, Comes}
 use Rattle.stepwise.proofs.Whole.{comes}
 
 -- ---- rows
 
--- Grow: action, operand, tree, the rest; role, parent, slot, the record behind. Case at record 2, Leaf at 3, Add at 4, Node at 7.
+-- Grow: action, operand, tree, the rest; role, parent, slot, the record after. Case at record 2, Leaf at 3, Add at 4, Node at 7.
 grow-rows : rowsIn grow
     ≡ 4 ∷ 0 ∷ 0 ∷ 0 ∷ 0 ∷ 0 ∷ 0 ∷ 10
     ∷ 2 ∷ 0 ∷ 0 ∷ 0 ∷ 4 ∷ 2 ∷ 0 ∷ 7
@@ -43,7 +43,7 @@ grow-rows : rowsIn grow
 unfolding grow rowsOfAll rowsOf actionOf codeOf roleOf slotOf namesIn keepsIn casesIn operandOf treeOf moreOf firstRecord arityOf nth total signatureOf size prefix
 grow-rows = refl
 
--- A Call of two arguments behind a number kept, the first one's word below that; a Let over two parameters, an IfZero in its body.
+-- A Call of two arguments after a number kept, the first one's word below that; a Let over two parameters, an IfZero in its body.
 pair : Program
 pair = programOf
     (numbered (add (const 70000) (call 0 1 (arg (const 3) (arg (const 4) noArgs))))
@@ -64,7 +64,7 @@ pair-rows : rowsIn pair
     ∷ 1 ∷ 0 ∷ 0 ∷ 0 ∷ 4 ∷ 12 ∷ 0 ∷ 15
     ∷ 1 ∷ 1 ∷ 0 ∷ 0 ∷ 4 ∷ 12 ∷ 0 ∷ 16
     ∷ []
-unfolding pair programOf numbered rowsOfAll rowsOf rowsOfArgs behindArgs actionOf codeOf roleOf slotOf namesIn keepsIn casesIn operandOf treeOf moreOf firstRecord arityOf nth total signatureOf size prefix prefixes
+unfolding pair programOf numbered rowsOfAll rowsOf rowsOfArgs afterArgs actionOf codeOf roleOf slotOf namesIn keepsIn casesIn operandOf treeOf moreOf firstRecord arityOf nth total signatureOf size prefix prefixes
 pair-rows = refl
 
 -- the names of trees inside two Cases, at records 2 and 5: the frame's tree, the first Case's left and right tree, then the second's
@@ -89,38 +89,38 @@ each-byte (x ∷ s) h (suc i) = each-byte s (h .1) i
 
 -- the first is the tree that Grow is run on
 five-seven-read : firstTree five-seven ≡ done two-leaves
-unfolding five-seven two-leaves firstTree treeAt byTag partsAt labelAt tagAt tagOf numberAt numberOf tokens bytesOf
+unfolding five-seven two-leaves firstTree treeAt treeByTag branchesAt labelAt tagAt tagOf numberAt numberOf tokens bytesOf
 five-seven-read = refl
 
 -- Grow passes pass one
 grow-one : PassesOne grow
-unfolding order
+unfolding bothPasses
 grow-one = record { lawful = grow-lawful; passes = then-inv (passOne grow) _ tt grow-passes .first }
 
--- its evaluation begins 14 expressions and tells the second
-grow-told : next (evaluation grow mostCalls two-leaves) toldOf ≡ after 14 (gives (told 0 six-eight))
-unfolding evaluation called evaluate evaluateArgs next after resultNumber resultTree resultBytes numberOr treeOr atLevel sum32 nth firstRecord total signatureOf size prefix prefixes grow two-leaves tokens bytesOf six-eight
-grow-told = refl
+-- its evaluation begins 14 expressions and reports the second
+grow-reported : followedBy (evaluation grow mostCalls two-leaves) reportedOf ≡ afterBegun 14 (gives (reported 0 six-eight))
+unfolding evaluation called evaluate evaluateArgs followedBy afterBegun resultNumber resultTree resultBytes numberOr treeOr atLevel sum32 nth firstRecord total signatureOf size prefix prefixes grow two-leaves tokens bytesOf six-eight
+grow-reported = refl
 
 -- so do the steps, over words and return words that hold anything
-grow-steps : (table words places : List ℕ)
+grow-steps : (table words returns : List ℕ)
     → rowWords * mostRecords ≤ length table
     → valueWords ≤ length words
-    → returnWords ≤ length places
-    → Comes (tabled table grow) five-seven [] (begin 2 (record { words = words; places = places; calls = 0; tree = 0; known = 0; end = 0 }))
-    (after 14 (gives (told 0 six-eight)))
+    → returnWords ≤ length returns
+    → Comes (tabled table grow) five-seven [] (begin 2 (record { words = words; returns = returns; calls = 0; tree = 0; known = 0; end = 0 }))
+    (afterBegun 14 (gives (reported 0 six-eight)))
 unfolding grow five-seven
-grow-steps table words places room values returns =
-    rw grow-told at
-    (comes grow five-seven table words places two-leaves grow-one
+grow-steps table words returns room values returns-lent =
+    rw grow-reported at
+    (comes grow five-seven table words returns two-leaves grow-one
     (each-byte five-seven (lit< tt, (lit< tt, (lit< tt, (lit< tt, (lit< tt, (lit< tt, (lit< tt, (lit< tt, (lit< tt, (lit< tt, (lit< tt, tt))))))))))))
-    five-seven-read room values returns)
+    five-seven-read room values returns-lent)
 
 -- ---- one step
 
 -- A Call of one argument at record 1, its frame the last that may be open.
 last-frame : State
-last-frame = record { words = []; places = []; calls = 1023; tree = 0; known = 0; end = 0 }
+last-frame = record { words = []; returns = []; calls = 1023; tree = 0; known = 0; end = 0 }
 
 -- its argument begins all the same
 deep-arguments : beginning (0 ∷ 0 ∷ 0 ∷ 0 ∷ 0 ∷ 0 ∷ 0 ∷ 0 ∷ callsFunction ∷ 5 ∷ 0 ∷ 1 ∷ []) [] 0 1 last-frame ≡ begin 2 last-frame

@@ -1,4 +1,4 @@
--- Steps one by one, from what comes behind to what comes before: a law for each thing that may become of a record.
+-- Steps one by one, from what comes after to what comes before: a law for each thing that may be the outcome of a record.
 use Prim.Native.Nat.{ℕ, suc, _+_, _*_, _≤_, _<_}
 use mathlib.Core.List.{List, [], _∷_, _++_, append-nil}
 use mathlib.Core.Logic.{_≢_}
@@ -8,20 +8,20 @@ use lib.ListN.{length, getD}
 use Rattle.formats.specs.Numbers.{sum32, numberAt}
 use Rattle.formats.specs.Refusals.{tooManyCalls}
 use Rattle.formats.specs.Tokens.{leaf, leafTag, nodeTag, leafBytes, tokens}
-use Rattle.meaning.specs.OpenCalls.{Outcome, gives, stops, begins, next}
-use Rattle.stepwise.specs.Rows.{whole, kept, added, tested, passed, labelled, followed, lastArgument}
-use Rattle.stepwise.specs.Steps.{State, Turn, begin, through, opens, ended, recordLimit, mostWaiting}
-use Rattle.stepwise.specs.Rows.{givesConstant, givesNamed, entersPart, tagsNode, looksAtTree, callsFunction}
-use Rattle.stepwise.specs.Steps.{actionAt, treeAt, operandAt, moreAt, roleAt, parentAt, slotAt, behindAt}
-use Rattle.stepwise.specs.Steps.{Found, the-own, wordAt, withWord, withEnd, framed, beginning, closing, rising, weight}
-use Rattle.stepwise.specs.Comes.{Told, told, Comes, at-begin, at-through, at-open, at-end, at-deep}
+use Rattle.meaning.specs.OpenCalls.{Outcome, gives, stops, begins, followedBy}
+use Rattle.stepwise.specs.Inner.Rows.{whole, kept, added, tested, passed, labelled, followed, lastArgument}
+use Rattle.stepwise.specs.Inner.Steps.{State, Turn, begin, finished, opens, ended, recordLimit, mostWaiting}
+use Rattle.stepwise.specs.Inner.Rows.{givesConstant, givesNamed, entersPart, tagsNode, looksAtTree, callsFunction}
+use Rattle.stepwise.specs.Inner.Steps.{actionAt, treeAt, operandAt, moreAt, roleAt, parentAt, slotAt, afterAt}
+use Rattle.stepwise.specs.Inner.Steps.{Found, the-own, wordAt, withWord, withEnd, framed, beginning, closing, rising, weight}
+use Rattle.stepwise.specs.Inner.Outcomes.{Reported, reported, Comes, at-begin, at-finished, at-open, at-end, at-deep}
 use Rattle.stepwise.proofs.Steps.{begins-const, begins-var, begins-leaf, begins-node, begins-bare, begins-args, begins-first, said-node, said-nothing}
 use Rattle.stepwise.proofs.Steps.{rises-whole, rises-kept, rises-added, rises-zero, rises-other, rises-passed}
 use Rattle.stepwise.proofs.Steps.{rises-labelled, rises-followed, rises-last, closes-first, said-leaf, said-none, opens-deep, opens-frame}
 
 -- what follows what follows
-pub next-next : {A B C : Type 0} (o : Outcome A) (f : A → Outcome B) (g : B → Outcome C) → next (next o f) g ≡ next o (λ x. next (f x) g)
-unfolding next
+pub next-next : {A B C : Type 0} (o : Outcome A) (f : A → Outcome B) (g : B → Outcome C) → followedBy (followedBy o f) g ≡ followedBy o (λ x. followedBy (f x) g)
+unfolding followedBy
 next-next (gives x) f g = refl
 next-next (stops why r) f g = refl
 next-next (begins o) f g = ap begins (next-next o f g)
@@ -30,7 +30,7 @@ next-next (begins o) f g = ap begins (next-next o f g)
 own : (T input : List ℕ) (r : ℕ) (s : State) → treeAt T r ≡ 0 → Found T input s (treeAt T r) (s .tree)
 own T input r s none = rw none the-own
 
-module _ (T input : List ℕ) {out : List ℕ} {o : Outcome Told} where
+module _ (T input : List ℕ) {out : List ℕ} {o : Outcome Reported} where
   -- ---- a record begins
 
   module _ (p r : ℕ) (s : State) (low : r < recordLimit) (found : Found T input s (treeAt T r) p) where
@@ -53,14 +53,14 @@ module _ (T input : List ℕ) {out : List ℕ} {o : Outcome Told} where
 
     -- a Case on a node
     pub begin-node :
-        (behind : ℕ)
+        (after : ℕ)
         → actionAt T r ≡ looksAtTree
         → p < length input
         → getD input p 0 ≢ leafTag
-        → behindAt T (suc r) ≡ behind
-        → Comes T input out (begin behind s) o
+        → afterAt T (suc r) ≡ after
+        → Comes T input out (begin after s) o
         → Comes T input out (begin r s) (begins o)
-    begin-node behind kind within tag is c =
+    begin-node after kind within tag is c =
         begin-quiet _ (λ e. absurd (omega arith)) (begins-node T input p r s kind within tag) (rw is c)
 
     -- a Call without arguments, and with some
@@ -84,12 +84,12 @@ module _ (T input : List ℕ) {out : List ℕ} {o : Outcome Told} where
 
   -- the other kinds name no tree
   module _ (r : ℕ) (s : State) (low : r < recordLimit) (none : treeAt T r ≡ 0) where
-    pub begin-const : (i : ℕ) → actionAt T r ≡ givesConstant → operandAt T r + 65536 * moreAt T r ≡ i → Comes T input out (through r i s) o
+    pub begin-const : (i : ℕ) → actionAt T r ≡ givesConstant → operandAt T r + 65536 * moreAt T r ≡ i → Comes T input out (finished r i s) o
         → Comes T input out (begin r s) (begins o)
     begin-const i kind is c =
         begin-quiet _ r s low (own T input r s none) _ (λ e. absurd (omega arith)) (begins-const T input (s .tree) r s kind) (rw is c)
 
-    pub begin-var : (a : ℕ) → actionAt T r ≡ givesNamed → operandAt T r ≡ a → Comes T input out (through r (wordAt s a) s) o
+    pub begin-var : (a : ℕ) → actionAt T r ≡ givesNamed → operandAt T r ≡ a → Comes T input out (finished r (wordAt s a) s) o
         → Comes T input out (begin r s) (begins o)
     begin-var a kind is c =
         begin-quiet _ r s low (own T input r s none) _ (λ e. absurd (omega arith)) (begins-var T input (s .tree) r s kind) (rw is c)
@@ -113,86 +113,86 @@ module _ (T input : List ℕ) {out : List ℕ} {o : Outcome Told} where
               (λ e. absurd (omega arith)) (λ e. absurd (omega arith)),
         ) c)
 
-  -- ---- a record is through
+  -- ---- a record is finished
 
   module _ (r x : ℕ) (s : State) where
     -- nothing is written, but by a Leaf
-    through-quiet : (t : Turn) → roleAt T r ≢ labelled → rising T input r x s ≡ t → weight t < weight (through r x s) → Comes T input out t o
-        → Comes T input out (through r x s) o
-    through-quiet t role is less c =
-        at-through {out = out} {r = r} {x = x} {s = s} {o = o} (rw is less) (rw (said-none T r x role, append-nil, is) c)
+    finished-quiet : (t : Turn) → roleAt T r ≢ labelled → rising T input r x s ≡ t → weight t < weight (finished r x s) → Comes T input out t o
+        → Comes T input out (finished r x s) o
+    finished-quiet t role is less c =
+        at-finished {out = out} {r = r} {x = x} {s = s} {o = o} (rw is less) (rw (said-none T r x role, append-nil, is) c)
 
     -- the number is put on a word, and the next part begins
-    pub through-kept : (slot behind : ℕ) → roleAt T r ≡ kept → slotAt T r ≡ slot → behindAt T r ≡ behind
-        → Comes T input out (begin behind (withWord s slot x)) o
-        → Comes T input out (through r x s) o
+    pub finished-kept : (slot after : ℕ) → roleAt T r ≡ kept → slotAt T r ≡ slot → afterAt T r ≡ after
+        → Comes T input out (begin after (withWord s slot x)) o
+        → Comes T input out (finished r x s) o
     unfolding weight
-    through-kept slot behind role is then c =
-        through-quiet _ (λ e. absurd (omega arith)) (rises-kept T input r x s role) (omega arith) (rw (is, then) c)
+    finished-kept slot after role is then c =
+        finished-quiet _ (λ e. absurd (omega arith)) (rises-kept T input r x s role) (omega arith) (rw (is, then) c)
 
     -- it is added to the one kept
-    pub through-added : (slot parent y : ℕ) → roleAt T r ≡ added → slotAt T r ≡ slot → parentAt T r ≡ parent → parent < r → wordAt s slot ≡ y
-        → Comes T input out (through parent (sum32 y x) s) o
-        → Comes T input out (through r x s) o
+    pub finished-added : (slot parent y : ℕ) → roleAt T r ≡ added → slotAt T r ≡ slot → parentAt T r ≡ parent → parent < r → wordAt s slot ≡ y
+        → Comes T input out (finished parent (sum32 y x) s) o
+        → Comes T input out (finished r x s) o
     unfolding weight
-    through-added slot parent y role is above earlier word c =
-        through-quiet (through parent (sum32 (wordAt s slot) x) s) (λ e. absurd (omega arith)) (rw (← is, ← above) (rises-added T input r x s role))
+    finished-added slot parent y role is above earlier word c =
+        finished-quiet (finished parent (sum32 (wordAt s slot) x) s) (λ e. absurd (omega arith)) (rw (← is, ← above) (rises-added T input r x s role))
         (omega arith) (rw word c)
 
     -- a test that is zero, and another
-    pub through-zero : (behind : ℕ) → roleAt T r ≡ tested → x ≡ 0 → behindAt T r ≡ behind → Comes T input out (begin behind s) o
-        → Comes T input out (through r x s) o
+    pub finished-zero : (after : ℕ) → roleAt T r ≡ tested → x ≡ 0 → afterAt T r ≡ after → Comes T input out (begin after s) o
+        → Comes T input out (finished r x s) o
     unfolding weight
-    through-zero behind role z then c =
-        through-quiet _ (λ e. absurd (omega arith)) (rises-zero T input r x s role z) (omega arith) (rw then c)
+    finished-zero after role z then c =
+        finished-quiet _ (λ e. absurd (omega arith)) (rises-zero T input r x s role z) (omega arith) (rw then c)
 
-    pub through-other : (middle behind : ℕ) → roleAt T r ≡ tested → x ≢ 0 → behindAt T r ≡ middle → behindAt T middle ≡ behind
-        → Comes T input out (begin behind s) o
-        → Comes T input out (through r x s) o
+    pub finished-other : (middle after : ℕ) → roleAt T r ≡ tested → x ≢ 0 → afterAt T r ≡ middle → afterAt T middle ≡ after
+        → Comes T input out (begin after s) o
+        → Comes T input out (finished r x s) o
     unfolding weight
-    through-other middle behind role some then last c =
-        through-quiet _ (λ e. absurd (omega arith)) (rises-other T input r x s role some) (omega arith) (rw (then, last) c)
+    finished-other middle after role some then last c =
+        finished-quiet _ (λ e. absurd (omega arith)) (rises-other T input r x s role some) (omega arith) (rw (then, last) c)
 
     -- the value is the whole's
-    pub through-passed : (parent : ℕ) → roleAt T r ≡ passed → parentAt T r ≡ parent → parent < r → Comes T input out (through parent x s) o
-        → Comes T input out (through r x s) o
+    pub finished-passed : (parent : ℕ) → roleAt T r ≡ passed → parentAt T r ≡ parent → parent < r → Comes T input out (finished parent x s) o
+        → Comes T input out (finished r x s) o
     unfolding weight
-    through-passed parent role above earlier c =
-        through-quiet (through parent x s) (λ e. absurd (omega arith)) (rw (← above) (rises-passed T input r x s role)) (omega arith) c
+    finished-passed parent role above earlier c =
+        finished-quiet (finished parent x s) (λ e. absurd (omega arith)) (rw (← above) (rises-passed T input r x s role)) (omega arith) c
 
     -- a leaf is written
-    pub through-labelled : (parent : ℕ) → roleAt T r ≡ labelled → parentAt T r ≡ parent → parent < r
-        → Comes T input (out ++ tokens (leaf x)) (through parent 0 s) o
-        → Comes T input out (through r x s) o
+    pub finished-labelled : (parent : ℕ) → roleAt T r ≡ labelled → parentAt T r ≡ parent → parent < r
+        → Comes T input (out ++ tokens (leaf x)) (finished parent 0 s) o
+        → Comes T input out (finished r x s) o
     unfolding weight
-    through-labelled parent role above earlier c =
-        at-through {out = out} {r = r} {x = x} {s = s} {o = o} (rw (rises-labelled T input r x s role, above) (omega arith))
+    finished-labelled parent role above earlier c =
+        at-finished {out = out} {r = r} {x = x} {s = s} {o = o} (rw (rises-labelled T input r x s role, above) (omega arith))
         (rw (said-leaf T r x role, rises-labelled T input r x s role, above) c)
 
     -- the next part begins
-    pub through-followed : (behind : ℕ) → roleAt T r ≡ followed → behindAt T r ≡ behind → Comes T input out (begin behind s) o
-        → Comes T input out (through r x s) o
+    pub finished-followed : (after : ℕ) → roleAt T r ≡ followed → afterAt T r ≡ after → Comes T input out (begin after s) o
+        → Comes T input out (finished r x s) o
     unfolding weight
-    through-followed behind role then c =
-        through-quiet _ (λ e. absurd (omega arith)) (rises-followed T input r x s role) (omega arith) (rw then c)
+    finished-followed after role then c =
+        finished-quiet _ (λ e. absurd (omega arith)) (rises-followed T input r x s role) (omega arith) (rw then c)
 
     -- the number is put on a word, and the call opens
-    pub through-last : (slot parent : ℕ) → roleAt T r ≡ lastArgument → slotAt T r ≡ slot → parentAt T r ≡ parent
+    pub finished-last : (slot parent : ℕ) → roleAt T r ≡ lastArgument → slotAt T r ≡ slot → parentAt T r ≡ parent
         → Comes T input out (opens parent (withWord s slot x)) o
-        → Comes T input out (through r x s) o
+        → Comes T input out (finished r x s) o
     unfolding weight
-    through-last slot parent role is above c =
-        through-quiet _ (λ e. absurd (omega arith)) (rises-last T input r x s role) (omega arith) (rw (is, above) c)
+    finished-last slot parent role is above c =
+        finished-quiet _ (λ e. absurd (omega arith)) (rises-last T input r x s role) (omega arith) (rw (is, above) c)
 
     -- a body in the first frame, and in another
-    pub through-end : roleAt T r ≡ whole → s .calls ≡ 0 → o ≡ gives (told x out) → Comes T input out (through r x s) o
+    pub finished-end : roleAt T r ≡ whole → s .calls ≡ 0 → o ≡ gives (reported x out) → Comes T input out (finished r x s) o
     unfolding weight
-    through-end role first is =
-        through-quiet (ended x) (λ e. absurd (omega arith)) (rises-whole T input r x s role ∙ closes-first T input x s first) (omega arith) (rw is at-end)
+    finished-end role first is =
+        finished-quiet (ended x) (λ e. absurd (omega arith)) (rises-whole T input r x s role ∙ closes-first T input x s first) (omega arith) (rw is at-end)
 
-    pub through-call : (parent : ℕ) (s′ : State) → roleAt T r ≡ whole → closing T input x s ≡ through parent x s′ → s .calls ≡ suc (s′ .calls) → parent < 65536
-        → Comes T input out (through parent x s′) o
-        → Comes T input out (through r x s) o
+    pub finished-call : (parent : ℕ) (s′ : State) → roleAt T r ≡ whole → closing T input x s ≡ finished parent x s′ → s .calls ≡ suc (s′ .calls) → parent < 65536
+        → Comes T input out (finished parent x s′) o
+        → Comes T input out (finished r x s) o
     unfolding weight
-    through-call parent s′ role is fewer low c =
-        through-quiet (through parent x s′) (λ e. absurd (omega arith)) (rises-whole T input r x s role ∙ is) (omega (arith, fewer)) c
+    finished-call parent s′ role is fewer low c =
+        finished-quiet (finished parent x s′) (λ e. absurd (omega arith)) (rises-whole T input r x s role ∙ is) (omega (arith, fewer)) c

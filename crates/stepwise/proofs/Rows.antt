@@ -1,4 +1,4 @@
--- The rows of an expression in a table: its own row first, then those of its parts, one behind the other; and the bodies of a program in its table.
+-- The rows of an expression in a table: its own row first, then those of its parts, one after the other; and the bodies of a program in its table.
 use Prim.Native.Nat.{ℕ, zero, suc, _+_, _*_, _≤_, _<_}
 use mathlib.Core.List.{List, [], _∷_, _++_, map}
 use mathlib.Core.Option.{some, Option·some-injective, Option·none-ne-some}
@@ -13,9 +13,9 @@ use Rattle.formats.specs.Programs.{Expr, const, var, add, ifZero, letIn, leafOf
 use Rattle.formats.specs.Programs.{arityOf, total, Function, signatureOf, Program, signatures, mostFunctions, mostNodes, mostRecords}
 use Rattle.formats.proofs.Written.{wrote}
 use Rattle.meaning.specs.OpenCalls.{firstRecord}
-use Rattle.walks.specs.Standing.{headOf}
-use Rattle.stepwise.specs.Rows.{Place, rowWords, actionOf, operandOf, treeOf, moreOf, rowOf, partPlace, rowsOf, rowsOfArgs, behindArgs, bodyPlace, rowsOfAll, rowsIn, tabled}
-use Rattle.stepwise.specs.Steps.{actionAt, operandAt, treeAt, moreAt, roleAt, parentAt, slotAt, behindAt}
+use Rattle.walks.specs.Inner.Standing.{headOf}
+use Rattle.stepwise.specs.Inner.Rows.{Location, rowWords, actionOf, operandOf, treeOf, moreOf, rowOf, partLocation, rowsOf, rowsOfArgs, afterArgs, bodyLocation, rowsOfAll, rowsIn, tabled}
+use Rattle.stepwise.specs.Inner.Steps.{actionAt, operandAt, treeAt, moreAt, roleAt, parentAt, slotAt, afterAt}
 
 -- ---- words in a table
 
@@ -23,11 +23,11 @@ use Rattle.stepwise.specs.Steps.{actionAt, operandAt, treeAt, moreAt, ro
 pub record Shows (T : List ℕ) (p : ℕ) (vs : List ℕ) : Type 0 where
   pub there : (i : ℕ) → i < length vs → getD T (p + i) 0 ≡ getD vs i 0
 
--- the place goes by its number
-shows-place : {T vs : List ℕ} {p q : ℕ} → p ≡ q → Shows T p vs → Shows T q vs
-shows-place {T} {vs} e h = subst (λ (k : ℕ). Shows T k vs) e h
+-- the offset goes by its number
+shows-offset : {T vs : List ℕ} {p q : ℕ} → p ≡ q → Shows T p vs → Shows T q vs
+shows-offset {T} {vs} e h = subst (λ (k : ℕ). Shows T k vs) e h
 
--- joined words stand one behind the other
+-- joined words stand one after the other
 shows-left : {T : List ℕ} {p : ℕ} (us vs : List ℕ) → Shows T p (us ++ vs) → Shows T p us
 shows-left us vs h = record { there = λ i below. h .there i (omega (arith, length-append us vs)) ∙ List·getD-append us vs 0 i below }
 
@@ -124,7 +124,7 @@ module _ (entry arity : ℕ → ℕ) where
   mutual
     unfolding rowsOf rowsOfArgs
 
-    rows-long : (p : Place) (r : ℕ) (e : Expr) → Long (rowsOf entry arity p r e) (size e)
+    rows-long : (p : Location) (r : ℕ) (e : Expr) → Long (rowsOf entry arity p r e) (size e)
     rows-long p r (const i) = long-own (size-const i) long-none
     rows-long p r (var a) = long-own (size-var a) long-none
     rows-long p r (add x y) = long-own (size-add x y) (long-joined (rows-long _ _ x) (rows-long _ _ y))
@@ -135,7 +135,7 @@ module _ (entry arity : ℕ → ℕ) where
     rows-long p r (caseOf a x y) = long-own (size-case x y a) (long-joined (rows-long _ _ x) (rows-long _ _ y))
     rows-long p r (call a b xs) = long-own (size-call a b xs) (rows-long-args _ _ _ _ _ xs)
 
-    rows-long-args : (p : Place) (kind : Kind) (r i k : ℕ) (xs : Args) → Long (rowsOfArgs entry arity p kind r i k xs) (sizeArgs xs)
+    rows-long-args : (p : Location) (kind : Kind) (r i k : ℕ) (xs : Args) → Long (rowsOfArgs entry arity p kind r i k xs) (sizeArgs xs)
     rows-long-args p kind r i k noArgs = long-as (sym size-none) long-none
     rows-long-args p kind r i k (arg x xs) = long-as (sym (size-arg x xs)) (long-joined (rows-long _ _ x) (rows-long-args _ _ _ _ _ xs))
 
@@ -145,35 +145,35 @@ module _ (entry arity : ℕ → ℕ) where
   rows-long-all r (f ∷ fs) = long-joined (rows-long _ _ (f .body)) (rows-long-all _ fs)
 
   -- the same as equations
-  pub length-rows : (p : Place) (r : ℕ) (e : Expr) → length (rowsOf entry arity p r e) ≡ rowWords * size e
+  pub length-rows : (p : Location) (r : ℕ) (e : Expr) → length (rowsOf entry arity p r e) ≡ rowWords * size e
   length-rows p r e = rows-long p r e .long
 
-  pub length-rows-args : (p : Place) (kind : Kind) (r i k : ℕ) (xs : Args) → length (rowsOfArgs entry arity p kind r i k xs) ≡ rowWords * sizeArgs xs
+  pub length-rows-args : (p : Location) (kind : Kind) (r i k : ℕ) (xs : Args) → length (rowsOfArgs entry arity p kind r i k xs) ≡ rowWords * sizeArgs xs
   length-rows-args p kind r i k xs = rows-long-args p kind r i k xs .long
 
   pub length-rows-all : (r : ℕ) (fs : List Function) → length (rowsOfAll entry arity r fs) ≡ rowWords * total (map signatureOf fs)
   length-rows-all r fs = rows-long-all r fs .long
 
-  -- the record behind arguments
-  pub behind-args : (k : ℕ) (xs : Args) → behindArgs entry arity k xs ≡ k + sizeArgs xs
-  unfolding behindArgs
-  behind-args k noArgs = rw (size-none, add-zero)
-  behind-args k (arg x xs) = behind-args (k + size x) xs ∙ rw (size-arg x xs, add-assoc)
+  -- the record after arguments
+  pub after-args : (k : ℕ) (xs : Args) → afterArgs entry arity k xs ≡ k + sizeArgs xs
+  unfolding afterArgs
+  after-args k noArgs = rw (size-none, add-zero)
+  after-args k (arg x xs) = after-args (k + size x) xs ∙ rw (size-arg x xs, add-assoc)
 
   -- ---- an expression's own row
 
   -- it is the first of the expression's rows, and says where these end
-  record Fronted (p : Place) (r : ℕ) (e : Expr) : Type 0 where
+  record Fronted (p : Location) (r : ℕ) (e : Expr) : Type 0 where
     rest : List ℕ
     both : rowsOf entry arity p r e ≡ rowOf entry arity p (r + size e) (headOf e) ++ rest
 
-  -- what it says, told by the record behind
-  own-front : (p : Place) (r : ℕ) (e : Expr) (behind : ℕ) (rest : List ℕ) → behind ≡ r + size e
-      → rowsOf entry arity p r e ≡ rowOf entry arity p behind (headOf e) ++ rest → Fronted p r e
-  own-front p r e behind rest same both =
+  -- what it says, reported by the record after
+  own-front : (p : Location) (r : ℕ) (e : Expr) (after : ℕ) (rest : List ℕ) → after ≡ r + size e
+      → rowsOf entry arity p r e ≡ rowOf entry arity p after (headOf e) ++ rest → Fronted p r e
+  own-front p r e after rest same both =
       record { rest = rest; both = both ∙ ap (λ (k : ℕ). rowOf entry arity p k (headOf e) ++ rest) same }
 
-  fronted : (p : Place) (r : ℕ) (e : Expr) → Fronted p r e
+  fronted : (p : Location) (r : ℕ) (e : Expr) → Fronted p r e
   unfolding rowsOf headOf
   fronted p r (const i) = own-front p r (const i) _ [] (omega (arith, size-const i)) refl
   fronted p r (var a) = own-front p r (var a) _ [] (omega (arith, size-var a)) refl
@@ -183,19 +183,19 @@ module _ (entry arity : ℕ → ℕ) where
   fronted p r (leafOf x) = own-front p r (leafOf x) _ _ (omega (arith, size-leaf x)) refl
   fronted p r (nodeOf x y) = own-front p r (nodeOf x y) _ _ (omega (arith, size-node x y)) refl
   fronted p r (caseOf a x y) = own-front p r (caseOf a x y) _ _ (omega (arith, size-case x y a)) refl
-  fronted p r (call a b xs) = own-front p r (call a b xs) _ _ (omega (arith, size-call a b xs, behind-args (suc r) xs)) refl
+  fronted p r (call a b xs) = own-front p r (call a b xs) _ _ (omega (arith, size-call a b xs, after-args (suc r) xs)) refl
 
   module _ (T : List ℕ) where
     -- the rows of e stand in T
-    pub record Stands (p : Place) (r : ℕ) (e : Expr) : Type 0 where
+    pub record Stands (p : Location) (r : ℕ) (e : Expr) : Type 0 where
       pub rows : Shows T (rowWords * r) (rowsOf entry arity p r e)
 
     -- .. and those of arguments, from part i of the record r on, the first at record k
-    pub record StandArgs (p : Place) (kind : Kind) (r i k : ℕ) (xs : Args) : Type 0 where
+    pub record StandArgs (p : Location) (kind : Kind) (r i k : ℕ) (xs : Args) : Type 0 where
       pub rows : Shows T (rowWords * k) (rowsOfArgs entry arity p kind r i k xs)
 
     -- a record's row, field by field
-    pub record HasRow (p : Place) (r end : ℕ) (k : Kind) : Type 0 where
+    pub record HasRow (p : Location) (r end : ℕ) (k : Kind) : Type 0 where
       pub action : actionAt T r ≡ actionOf k
       pub operand : operandAt T r ≡ operandOf entry arity p k
       pub tree : treeAt T r ≡ treeOf entry arity p k
@@ -203,10 +203,10 @@ module _ (entry arity : ℕ → ℕ) where
       pub role : roleAt T r ≡ p .role
       pub parent : parentAt T r ≡ p .parent
       pub slot : slotAt T r ≡ p .slot
-      pub behind : behindAt T r ≡ end
+      pub after : afterAt T r ≡ end
 
     -- a row that stands has its fields
-    row-fields : (p : Place) (r end : ℕ) (k : Kind) → Shows T (rowWords * r) (rowOf entry arity p end k) → HasRow p r end k
+    row-fields : (p : Location) (r end : ℕ) (k : Kind) → Shows T (rowWords * r) (rowOf entry arity p end k) → HasRow p r end k
     row-fields p r end k h =
         record {
           action = h .there 0 (lit< tt);
@@ -216,11 +216,11 @@ module _ (entry arity : ℕ → ℕ) where
           role = h .there 4 (lit< tt);
           parent = h .there 5 (lit< tt);
           slot = h .there 6 (lit< tt);
-          behind = h .there 7 (lit< tt);
+          after = h .there 7 (lit< tt);
         }
 
     -- an expression's own row stands
-    pub own-row : (p : Place) (r : ℕ) (e : Expr) → Stands p r e → HasRow p r (r + size e) (headOf e)
+    pub own-row : (p : Location) (r : ℕ) (e : Expr) → Stands p r e → HasRow p r (r + size e) (headOf e)
     own-row p r e h =
         let f = fronted p r e in
         row-fields p r (r + size e) (headOf e)
@@ -228,65 +228,65 @@ module _ (entry arity : ℕ → ℕ) where
 
     -- ---- its parts
 
-    -- what stands behind a row
-    behind-own : {a b c d e f g h : ℕ} {vs : List ℕ} (r : ℕ) → Shows T (rowWords * r) (a ∷ b ∷ c ∷ d ∷ e ∷ f ∷ g ∷ h ∷ vs) → Shows T (rowWords * suc r) vs
-    behind-own {a} {b} {c} {d} {e} {f} {g} {h} {vs} r s =
-        shows-place (omega arith) (shows-right (a ∷ b ∷ c ∷ d ∷ e ∷ f ∷ g ∷ h ∷ []) vs s)
+    -- what stands after a row
+    after-own : {a b c d e f g h : ℕ} {vs : List ℕ} (r : ℕ) → Shows T (rowWords * r) (a ∷ b ∷ c ∷ d ∷ e ∷ f ∷ g ∷ h ∷ vs) → Shows T (rowWords * suc r) vs
+    after-own {a} {b} {c} {d} {e} {f} {g} {h} {vs} r s =
+        shows-offset (omega arith) (shows-right (a ∷ b ∷ c ∷ d ∷ e ∷ f ∷ g ∷ h ∷ []) vs s)
 
     -- an expression in front of others
-    part-first : (p : Place) (r : ℕ) (e : Expr) (vs : List ℕ) → Shows T (rowWords * r) (rowsOf entry arity p r e ++ vs)
+    part-first : (p : Location) (r : ℕ) (e : Expr) (vs : List ℕ) → Shows T (rowWords * r) (rowsOf entry arity p r e ++ vs)
         → Stands p r e × Shows T (rowWords * (r + size e)) vs
     part-first p r e vs s =
-        let place : rowWords * r + length (rowsOf entry arity p r e) ≡ rowWords * (r + size e) = omega (arith, length-rows p r e) in
-        (record { rows = shows-left (rowsOf entry arity p r e) vs s }, shows-place place (shows-right (rowsOf entry arity p r e) vs s))
+        let offset : rowWords * r + length (rowsOf entry arity p r e) ≡ rowWords * (r + size e) = omega (arith, length-rows p r e) in
+        (record { rows = shows-left (rowsOf entry arity p r e) vs s }, shows-offset offset (shows-right (rowsOf entry arity p r e) vs s))
 
     -- two expressions
-    two-parts : (p q : Place) (r : ℕ) (x y : Expr) → Shows T (rowWords * r) (rowsOf entry arity p r x ++ rowsOf entry arity q (r + size x) y)
+    two-parts : (p q : Location) (r : ℕ) (x y : Expr) → Shows T (rowWords * r) (rowsOf entry arity p r x ++ rowsOf entry arity q (r + size x) y)
         → Stands p r x × Stands q (r + size x) y
     two-parts p q r x y s =
         let both = part-first p r x (rowsOf entry arity q (r + size x) y) s in
         (both .0, record { rows = both .1 })
 
     -- the parts of each kind
-    module _ {p : Place} {r : ℕ} where
+    module _ {p : Location} {r : ℕ} where
       pub add-parts : {x y : Expr} → Stands p r (add x y)
-          → Stands (partPlace entry arity p Add r 0) (suc r) x × Stands (partPlace entry arity p Add r 1) (suc r + size x) y
+          → Stands (partLocation entry arity p Add r 0) (suc r) x × Stands (partLocation entry arity p Add r 1) (suc r + size x) y
       unfolding rowsOf
-      add-parts {x} {y} h = two-parts _ _ (suc r) x y (behind-own r (h .rows))
+      add-parts {x} {y} h = two-parts _ _ (suc r) x y (after-own r (h .rows))
 
       pub ifZero-parts : {t z o : Expr} → Stands p r (ifZero t z o)
-          → Stands (partPlace entry arity p IfZero r 0) (suc r) t
-          × (Stands (partPlace entry arity p IfZero r 1) (suc r + size t) z × Stands (partPlace entry arity p IfZero r 2) (suc r + size t + size z) o)
+          → Stands (partLocation entry arity p IfZero r 0) (suc r) t
+          × (Stands (partLocation entry arity p IfZero r 1) (suc r + size t) z × Stands (partLocation entry arity p IfZero r 2) (suc r + size t + size z) o)
       unfolding rowsOf
       ifZero-parts {t} {z} {o} h =
-          let first = part-first _ (suc r) t _ (behind-own r (h .rows)) in
+          let first = part-first _ (suc r) t _ (after-own r (h .rows)) in
           (first .0, two-parts _ _ (suc r + size t) z o (first .1))
 
       pub let-parts : {x body : Expr} → Stands p r (letIn x body)
-          → Stands (partPlace entry arity p Let r 0) (suc r) x × Stands (partPlace entry arity p Let r 1) (suc r + size x) body
+          → Stands (partLocation entry arity p Let r 0) (suc r) x × Stands (partLocation entry arity p Let r 1) (suc r + size x) body
       unfolding rowsOf
-      let-parts {x} {body} h = two-parts _ _ (suc r) x body (behind-own r (h .rows))
+      let-parts {x} {body} h = two-parts _ _ (suc r) x body (after-own r (h .rows))
 
-      pub leaf-part : {x : Expr} → Stands p r (leafOf x) → Stands (partPlace entry arity p Leaf r 0) (suc r) x
+      pub leaf-part : {x : Expr} → Stands p r (leafOf x) → Stands (partLocation entry arity p Leaf r 0) (suc r) x
       unfolding rowsOf
-      leaf-part h = record { rows = behind-own r (h .rows) }
+      leaf-part h = record { rows = after-own r (h .rows) }
 
       pub node-parts : {x y : Expr} → Stands p r (nodeOf x y)
-          → Stands (partPlace entry arity p Node r 0) (suc r) x × Stands (partPlace entry arity p Node r 1) (suc r + size x) y
+          → Stands (partLocation entry arity p Node r 0) (suc r) x × Stands (partLocation entry arity p Node r 1) (suc r + size x) y
       unfolding rowsOf
-      node-parts {x} {y} h = two-parts _ _ (suc r) x y (behind-own r (h .rows))
+      node-parts {x} {y} h = two-parts _ _ (suc r) x y (after-own r (h .rows))
 
       pub case-parts : {a : ℕ} {x y : Expr} → Stands p r (caseOf a x y)
-          → Stands (partPlace entry arity p (Case a) r 0) (suc r) x × Stands (partPlace entry arity p (Case a) r 1) (suc r + size x) y
+          → Stands (partLocation entry arity p (Case a) r 0) (suc r) x × Stands (partLocation entry arity p (Case a) r 1) (suc r + size x) y
       unfolding rowsOf
-      case-parts {a} {x} {y} h = two-parts _ _ (suc r) x y (behind-own r (h .rows))
+      case-parts {a} {x} {y} h = two-parts _ _ (suc r) x y (after-own r (h .rows))
 
       pub call-args : {a b : ℕ} {xs : Args} → Stands p r (call a b xs) → StandArgs p (Call a b) r 0 (suc r) xs
       unfolding rowsOf
-      call-args h = record { rows = behind-own r (h .rows) }
+      call-args h = record { rows = after-own r (h .rows) }
 
       pub args-first : {kind : Kind} {i k : ℕ} {x : Expr} {xs : Args} → StandArgs p kind r i k (arg x xs)
-          → Stands (partPlace entry arity p kind r i) k x × StandArgs p kind r (suc i) (k + size x) xs
+          → Stands (partLocation entry arity p kind r i) k x × StandArgs p kind r (suc i) (k + size x) xs
       unfolding rowsOfArgs
       args-first {kind} {i} {k} {x} {xs} h =
           let both = part-first _ k x (rowsOfArgs entry arity p kind r (suc i) (k + size x) xs) (h .rows) in
@@ -296,14 +296,14 @@ module _ (entry arity : ℕ → ℕ) where
 
     -- the body of function b among functions whose rows stand
     body-stands : (r : ℕ) (fs : List Function) (b : ℕ) {f : Function} → nth fs b ≡ some f → Shows T (rowWords * r) (rowsOfAll entry arity r fs)
-        → Stands (bodyPlace entry arity f) (r + total (take b (map signatureOf fs))) (f .body)
+        → Stands (bodyLocation entry arity f) (r + total (take b (map signatureOf fs))) (f .body)
     unfolding nth rowsOfAll total signatureOf
     body-stands r [] b {f} e s = absurd (Option·none-ne-some f e)
     body-stands r (g ∷ fs) zero {f} e s =
-        let here = part-first (bodyPlace entry arity g) r (g .body) (rowsOfAll entry arity (r + size (g .body)) fs) s .0 in
+        let here = part-first (bodyLocation entry arity g) r (g .body) (rowsOfAll entry arity (r + size (g .body)) fs) s .0 in
         rw (← Option·some-injective g f e, add-zero) here
     body-stands r (g ∷ fs) (suc b) e s =
-        let later = part-first (bodyPlace entry arity g) r (g .body) (rowsOfAll entry arity (r + size (g .body)) fs) s .1 in
+        let later = part-first (bodyLocation entry arity g) r (g .body) (rowsOfAll entry arity (r + size (g .body)) fs) s .1 in
         rw (← add-assoc) (body-stands (r + size (g .body)) fs b e later)
 
 -- ---- of a program
@@ -340,7 +340,7 @@ pub bodies-stand : (program : Program) (table : List ℕ)
     → rowWords * mostRecords ≤ length table → length (program .functions) ≤ mostFunctions → total (signatures program) ≤ mostNodes
     → (b : ℕ) (f : Function) → nth (program .functions) b ≡ some f
     → Stands (firstRecord program) (arityOf (signatures program)) (tabled table program)
-    (bodyPlace (firstRecord program) (arityOf (signatures program)) f) (firstRecord program b) (f .body)
+    (bodyLocation (firstRecord program) (arityOf (signatures program)) f) (firstRecord program b) (f .body)
 bodies-stand program table room functions nodes b f e =
     rw (first-record program b)
     (body-stands (firstRecord program) (arityOf (signatures program)) (tabled table program) _ (program .functions) b e (rows-stand program table room functions nodes))

@@ -21,26 +21,26 @@ use Rattle.formats.specs.Programs.{Expr, const, var, add, ifZero, letIn, leafOf
 use Rattle.formats.specs.Programs.{Sort, numberValued, treeValued, Signature, arityOf, Function, signatureOf, Program, signatures}
 use Rattle.formats.proofs.Records.{nth-mapped}
 use Rattle.formats.proofs.Tokens.{joined-tokens}
-use Rattle.rules.specs.PassOne.{mostWords, wordsOf, wordsOfArgs}
-use Rattle.walks.specs.Standing.{headOf}
+use Rattle.rules.specs.PassOne.{mostFrameWords, wordsOf, wordsOfArgs}
+use Rattle.walks.specs.Inner.Standing.{headOf}
 use Rattle.rules.proofs.Words.{words-call, words-least, words-least-args}
 use Rattle.meaning.specs.Levels.{atLevel}
 use Rattle.meaning.specs.Running.{valueWords, returnWords}
 use Rattle.meaning.specs.Evaluation.{Value, number, tree, Environment, treeNamed, withNumber, withTrees, resultBytes, resultNumber}
-use Rattle.meaning.specs.OpenCalls.{Outcome, gives, begins, next, numberOr, treeOr, resultTree, evaluate, evaluateArgs, firstRecord, called}
+use Rattle.meaning.specs.OpenCalls.{Outcome, gives, begins, followedBy, numberOr, treeOr, resultTree, evaluate, evaluateArgs, firstRecord, called}
 use Rattle.meaning.proofs.Levels.{level-newest, level-older, level-found, level-below}
 use Rattle.meaning.proofs.Proper.{Proper, proper-const, proper-var, proper-add, proper-ifZero, proper-let, proper-leaf}
 use Rattle.meaning.proofs.Proper.{proper-node, proper-case, proper-call, proper-none, proper-arg, count-proper}
 use Rattle.meaning.proofs.Sorts.{ValuesOf, valueOf}
-use Rattle.stepwise.specs.Rows.{Place, passed, lastWord, codeOf, partPlace}
-use Rattle.stepwise.specs.Rows.{callsFunction, actionOf, roleOf, slotOf, namesIn, keepsIn, casesIn, operandOf, treeOf, moreOf}
-use Rattle.stepwise.specs.Steps.{State, Turn, begin, through, opens, frameWords, recordLimit, mostWaiting, wordAt, withWord, withEnd}
-use Rattle.stepwise.specs.Steps.{actionAt, operandAt, treeAt, moreAt, roleAt, parentAt, slotAt, Found}
-use Rattle.stepwise.specs.Comes.{Told, Comes}
+use Rattle.stepwise.specs.Inner.Rows.{Location, passed, lastWord, codeOf, partLocation}
+use Rattle.stepwise.specs.Inner.Rows.{callsFunction, actionOf, roleOf, slotOf, namesIn, keepsIn, casesIn, operandOf, treeOf, moreOf}
+use Rattle.stepwise.specs.Inner.Steps.{State, Turn, begin, finished, opens, frameWords, recordLimit, mostWaiting, wordAt, withWord, withEnd}
+use Rattle.stepwise.specs.Inner.Steps.{actionAt, operandAt, treeAt, moreAt, roleAt, parentAt, slotAt, Found}
+use Rattle.stepwise.specs.Inner.Outcomes.{Reported, Comes}
 use Rattle.stepwise.proofs.Words.{Leaves, leaves-all, leaves-both, leaves-less, leaves-word, leaves-end, word-named, word-kept, word-set, word-other}
 use Rattle.stepwise.proofs.Moves.{next-next, begin-leaf, begin-node, begin-bare, begin-args, begin-const, begin-var, begin-first, begin-pair}
-use Rattle.stepwise.proofs.Moves.{through-kept, through-added, through-zero, through-other, through-passed}
-use Rattle.stepwise.proofs.Moves.{through-labelled, through-followed, through-last}
+use Rattle.stepwise.proofs.Moves.{finished-kept, finished-added, finished-zero, finished-other, finished-passed}
+use Rattle.stepwise.proofs.Moves.{finished-labelled, finished-followed, finished-last}
 use Rattle.stepwise.proofs.Rows.{Stands, StandArgs, HasRow, own-row}
 use Rattle.stepwise.proofs.Rows.{add-parts, ifZero-parts, let-parts, leaf-part, node-parts, case-parts, call-args, args-first}
 use Rattle.stepwise.proofs.Rows.{size-const, size-var, size-add, size-ifZero, size-let, size-leaf, size-node, size-case, sizeArgs, size-call, size-arg}
@@ -82,7 +82,7 @@ module _ (program : Program) (T input : List ℕ) (k : ℕ) where
   -- There is room for every call that may still be opened.
   pub record Roomy (s : State) : Type 0 where
     pub values : valueWords ≤ length (s .words)
-    pub returns : returnWords ≤ length (s .places)
+    pub returns : returnWords ≤ length (s .returns)
     pub allowed : s .calls + k ≡ mostWaiting
 
   -- The state agrees with an environment of g numbers and n trees: the numbers are on the frame's first words, the trees are found from record r on, and
@@ -103,7 +103,7 @@ module _ (program : Program) (T input : List ℕ) (k : ℕ) where
   roomy-left : {names keeps : ℕ} {s s′ : State} → Leaves input names keeps s s′ → Roomy s → Roomy s′
   roomy-left left room = record {
     values = omega (arith, left .as-many-words, room .values);
-    returns = omega (arith, left .as-many-places, room .returns);
+    returns = omega (arith, left .as-many-returns, room .returns);
     allowed = omega (arith, left .calls, room .allowed);
   }
 
@@ -150,26 +150,26 @@ module _ (program : Program) (T input : List ℕ) (k : ℕ) where
 
   -- ---- what is to be shown
 
-  -- From every value of this sort, behind what is left of the state, it comes to an outcome.
-  pub record Follows (sort : Sort) (names keeps r : ℕ) (s : State) (out : List ℕ) (κ : Value → Outcome Told) : Type 0 where
+  -- From every value of this sort, after what is left of the state, it comes to an outcome.
+  pub record Follows (sort : Sort) (names keeps r : ℕ) (s : State) (out : List ℕ) (κ : Value → Outcome Reported) : Type 0 where
     pub from :
         (v : ValuesOf sort) (s′ : State)
         → Leaves input names keeps s s′
-        → Comes T input (out ++ resultBytes (valueOf sort v)) (through r (resultNumber (valueOf sort v)) s′) (κ (valueOf sort v))
+        → Comes T input (out ++ resultBytes (valueOf sort v)) (finished r (resultNumber (valueOf sort v)) s′) (κ (valueOf sort v))
 
   -- Of an expression of a sort under so many names.
   abbrev pub Sim : (g n : ℕ) (sort : Sort) (e : Expr) → Type 0
   Sim g n sort e =
-      (p : Place) (r w : ℕ) (E : Environment) (s : State)
+      (p : Location) (r w : ℕ) (E : Environment) (s : State)
       → Stands entry arity T p r e
       → r + size e ≤ recordLimit
       → p .names ≡ g
       → g + p .keeps ≡ w
-      → wordsOf gs w e ≤ mostWords
+      → wordsOf gs w e ≤ mostFrameWords
       → Agrees g n (p .cases) r E s
-      → (out : List ℕ) (κ : Value → Outcome Told)
+      → (out : List ℕ) (κ : Value → Outcome Reported)
       → Follows sort g (p .keeps) r s out κ
-      → Comes T input out (begin r s) (next (evaluate (called program k) E r e) κ)
+      → Comes T input out (begin r s) (followedBy (evaluate (called program k) E r e) κ)
 
   -- The word of a Call's argument, where so many numbers are kept before the first.
   abbrev pub onWord : State → ℕ → ℕ → ℕ
@@ -181,7 +181,7 @@ module _ (program : Program) (T input : List ℕ) (k : ℕ) where
   turnOf (arg x xs) r j s = begin j s
 
   -- From so many numbers, each on its word.
-  pub record FollowsArgs (count names keeps r : ℕ) (s : State) (out : List ℕ) (κ : List ℕ → Outcome Told) : Type 0 where
+  pub record FollowsArgs (count names keeps r : ℕ) (s : State) (out : List ℕ) (κ : List ℕ → Outcome Reported) : Type 0 where
     pub from :
         (numbers : List ℕ) (s′ : State)
         → length numbers ≡ count
@@ -192,29 +192,29 @@ module _ (program : Program) (T input : List ℕ) (k : ℕ) where
   -- Of so many arguments, from part i of the Call at record r on.
   abbrev pub SimArgs : (g n count : ℕ) (xs : Args) → Type 0
   SimArgs g n count xs =
-      (p : Place) (a b r i j w : ℕ) (E : Environment) (s : State) (before : List ℕ)
+      (p : Location) (a b r i j w : ℕ) (E : Environment) (s : State) (before : List ℕ)
       → StandArgs entry arity T p (Call a b) r i j xs
       → j + sizeArgs xs ≤ recordLimit
       → p .names ≡ g
       → g + (p .keeps + i) ≡ w
-      → wordsOfArgs gs w xs ≤ mostWords
+      → wordsOfArgs gs w xs ≤ mostFrameWords
       → i + count ≡ arity b
       → length before ≡ i
       → Holding (onWord s (p .keeps)) before
       → Agrees g n (p .cases) j E s
-      → (out : List ℕ) (κ : List ℕ → Outcome Told)
+      → (out : List ℕ) (κ : List ℕ → Outcome Reported)
       → FollowsArgs (arity b) g (p .keeps) r s out κ
-      → Comes T input out (turnOf xs r j s) (next (evaluateArgs (called program k) E j xs before) κ)
+      → Comes T input out (turnOf xs r j s) (followedBy (evaluateArgs (called program k) E j xs before) κ)
 
   -- A call of f is ready to open: its row names f's first record, its numbers are on their words, its tree and its frame's
   -- own tree lie at their places, and what is known of an end is right.
   pub record Ready (r b : ℕ) (f : Function) (numbers : List ℕ) (t : Tree) (s : State) : Type 0 where
     pub low : r < recordLimit
-    pub place : ℕ
-    pub found : Found T input s (treeAt T r) place
+    pub offset : ℕ
+    pub found : Found T input s (treeAt T r) offset
     pub own : Tree
     pub own-lies : Lies input (s .tree) own
-    pub lies : Lies input place t
+    pub lies : Lies input offset t
     pub cached : Cached input (s .known) (s .end)
     pub body : operandAt T r ≡ entry b
     pub count : moreAt T r ≡ f .parameters
@@ -230,30 +230,30 @@ module _ (program : Program) (T input : List ℕ) (k : ℕ) where
       → nth (program .functions) b ≡ some f
       → Ready r b f numbers t s
       → names ≤ frameWords
-      → (out : List ℕ) (κ : Value → Outcome Told)
+      → (out : List ℕ) (κ : Value → Outcome Reported)
       → Follows (f .sort) names keeps r s out κ
-      → Comes T input out (opens r s) (next (called program k r b numbers t) κ)
+      → Comes T input out (opens r s) (followedBy (called program k r b numbers t) κ)
 
   -- ---- what follows
 
   -- a number writes nothing
   follows-number :
-      {names keeps r : ℕ} {s : State} {out : List ℕ} {κ : Value → Outcome Told}
-      → ((i : ℕ) (s′ : State) → Leaves input names keeps s s′ → Comes T input out (through r i s′) (κ (number i)))
+      {names keeps r : ℕ} {s : State} {out : List ℕ} {κ : Value → Outcome Reported}
+      → ((i : ℕ) (s′ : State) → Leaves input names keeps s s′ → Comes T input out (finished r i s′) (κ (number i)))
       → Follows numberValued names keeps r s out κ
   unfolding resultBytes resultNumber
   follows-number f = record { from = λ i s′ left. rw append-nil (f i s′ left) }
 
   number-given :
-      {names keeps r : ℕ} {s : State} {out : List ℕ} {κ : Value → Outcome Told}
+      {names keeps r : ℕ} {s : State} {out : List ℕ} {κ : Value → Outcome Reported}
       → Follows numberValued names keeps r s out κ
-      → (i : ℕ) (s′ : State) → Leaves input names keeps s s′ → Comes T input out (through r i s′) (κ (number i))
+      → (i : ℕ) (s′ : State) → Leaves input names keeps s s′ → Comes T input out (finished r i s′) (κ (number i))
   unfolding resultBytes resultNumber
   number-given follow i s′ left = rw append-nil at (follow .from i s′ left)
 
   -- a part whose value is the whole's: what follows it is what follows the whole
   follows-passed :
-      (sort : Sort) {names keeps r : ℕ} {s : State} {out : List ℕ} {κ : Value → Outcome Told} (q names′ keeps′ : ℕ) (s′ : State)
+      (sort : Sort) {names keeps r : ℕ} {s : State} {out : List ℕ} {κ : Value → Outcome Reported} (q names′ keeps′ : ℕ) (s′ : State)
       → roleAt T q ≡ passed
       → parentAt T q ≡ r
       → r < q
@@ -264,27 +264,27 @@ module _ (program : Program) (T input : List ℕ) (k : ℕ) where
       → Follows sort names′ keeps′ q s′ out κ
   follows-passed sort {names} {keeps} {r} {s} q names′ keeps′ s′ role parent earlier fewer less left follow = record {
     from = λ v s″ left′.
-        through-passed T input q _ s″ r role parent earlier
+        finished-passed T input q _ s″ r role parent earlier
         (follow .from v s″ (leaves-both names keeps s s′ s″ left (leaves-less names keeps names′ keeps′ s′ s″ fewer less left′)));
   }
 
   -- what follows a value, an expression begun, and what follows
-  module _ {A : Type 0} {out : List ℕ} {t : Turn} (κ : A → Outcome Told) where
-    comes-value : (v : A) → Comes T input out t (κ v) → Comes T input out t (next (gives v) κ)
-    unfolding next
+  module _ {A : Type 0} {out : List ℕ} {t : Turn} (κ : A → Outcome Reported) where
+    comes-value : (v : A) → Comes T input out t (κ v) → Comes T input out t (followedBy (gives v) κ)
+    unfolding followedBy
     comes-value v c = c
 
-    comes-begun : (o : Outcome A) → Comes T input out t (begins (next o κ)) → Comes T input out t (next (begins o) κ)
-    unfolding next
+    comes-begun : (o : Outcome A) → Comes T input out t (begins (followedBy o κ)) → Comes T input out t (followedBy (begins o) κ)
+    unfolding followedBy
     comes-begun o c = c
 
-    comes-next : {B : Type 0} (o : Outcome B) (f : B → Outcome A) → Comes T input out t (next o (λ x. next (f x) κ))
-        → Comes T input out t (next (next o f) κ)
+    comes-next : {B : Type 0} (o : Outcome B) (f : B → Outcome A) → Comes T input out t (followedBy o (λ x. followedBy (f x) κ))
+        → Comes T input out t (followedBy (followedBy o f) κ)
     comes-next o f c = rw (next-next o f κ) c
 
   -- ---- kind by kind
 
-  -- a constant is through at once
+  -- a constant is finished at once
   sim-const : {g n : ℕ} (i : ℕ) → Sim g n numberValued (const i)
   unfolding evaluate headOf actionOf treeOf operandOf moreOf
   sim-const i p r w E s stands inside names words few agrees out κ follow =
@@ -320,7 +320,7 @@ module _ (program : Program) (T input : List ℕ) (k : ℕ) where
       (follows-number λ i s₁ left₁.
       let left₂ : Leaves input g (p .keeps) s₁ (withWord s₁ slot i) = leaves-word g (p .keeps) s₁ slot i (omega arith) (omega arith) in
       let both = leaves-both g (p .keeps) s s₁ (withWord s₁ slot i) left₁ left₂ in
-      through-kept T input (suc r) i s₁ slot (suc r + size x) (row-x .role) (row-x .slot) (row-x .behind)
+      finished-kept T input (suc r) i s₁ slot (suc r + size x) (row-x .role) (row-x .slot) (row-x .after)
       (comes-next κ _ _
       (sim-y _ (suc r + size x) (suc w) E (withWord s₁ slot i) (parts .1) (omega arith) names (omega arith) (omega arith)
       (agrees-left agrees (suc r + size x) (omega arith) both) out _
@@ -328,7 +328,7 @@ module _ (program : Program) (T input : List ℕ) (k : ℕ) where
       let on-slot : wordAt s₃ slot ≡ i =
       word-kept g (suc (p .keeps)) (withWord s₁ slot i) s₃ left₃ slot (omega arith) (omega arith)
       ∙ word-set s₁ slot i (word-there s₁ slot (roomy-left left₁ (agrees .roomy)) (omega arith)) in
-      through-added T input (suc r + size x) j s₃ slot r i (row-y .role) (row-y .slot) (row-y .parent) (omega arith) on-slot
+      finished-added T input (suc r + size x) j s₃ slot r i (row-y .role) (row-y .slot) (row-y .parent) (omega arith) on-slot
       (comes-value κ _ (number-given follow (sum32 i j) s₃
       (leaves-both g (p .keeps) s (withWord s₁ slot i) s₃ both
       (leaves-less g (p .keeps) g (suc (p .keeps)) (withWord s₁ slot i) s₃ (le-refl g) (omega arith) left₃)))))))))))
@@ -346,20 +346,20 @@ module _ (program : Program) (T input : List ℕ) (k : ℕ) where
       let picks :
       (i : ℕ) (s₁ : State)
       → Leaves input g (p .keeps) s s₁
-      → Comes T input out (through (suc r) i s₁)
-      (next
+      → Comes T input out (finished (suc r) i s₁)
+      (followedBy
       (elim i [
         | zero ↦ evaluate (called program k) E (suc r + size t) z
         | suc j ↦ evaluate (called program k) E (suc r + size t + size z) o
       ]) κ) = elim [
         | zero ↦ λ s₁ left₁.
-            through-zero T input (suc r) 0 s₁ (suc r + size t) (row-t .role) refl (row-t .behind)
+            finished-zero T input (suc r) 0 s₁ (suc r + size t) (row-t .role) refl (row-t .after)
             (sim-z _ (suc r + size t) w E s₁ (parts .1 .0) (omega arith) names words (omega arith)
             (agrees-left agrees (suc r + size t) (omega arith) left₁) out κ
             (follows-passed sort (suc r + size t) g (p .keeps) s₁ (row-z .role) (row-z .parent) (omega arith) (le-refl _) (le-refl _) left₁ follow))
         | suc j ↦ λ s₁ left₁.
-            through-other T input (suc r) (suc j) s₁ (suc r + size t) (suc r + size t + size z) (row-t .role) (λ e. absurd (omega arith)) (row-t .behind)
-            (row-z .behind)
+            finished-other T input (suc r) (suc j) s₁ (suc r + size t) (suc r + size t + size z) (row-t .role) (λ e. absurd (omega arith)) (row-t .after)
+            (row-z .after)
             (sim-o _ (suc r + size t + size z) w E s₁ (parts .1 .1) (omega arith) names words (omega arith)
             (agrees-left agrees (suc r + size t + size z) (omega arith) left₁) out κ
             (follows-passed sort (suc r + size t + size z) g (p .keeps) s₁ (row-o .role) (row-o .parent) (omega arith) (le-refl _) (le-refl _) left₁ follow))
@@ -386,7 +386,7 @@ module _ (program : Program) (T input : List ℕ) (k : ℕ) where
       (sim-x _ (suc r) w E s (parts .0) (omega arith) names words (omega arith) (agrees-left agrees (suc r) (omega arith) (leaves-all g 0 s)) out _
       (follows-number λ i s₁ left₁.
       let left₂ : Leaves input g (p .keeps) s₁ (withWord s₁ g i) = leaves-word g (p .keeps) s₁ g i (le-refl g) (omega arith) in
-      through-kept T input (suc r) i s₁ g (suc r + size x) (row-x .role) (row-x .slot ∙ names) (row-x .behind)
+      finished-kept T input (suc r) i s₁ g (suc r + size x) (row-x .role) (row-x .slot ∙ names) (row-x .after)
       (sim-body _ (suc r + size x) (suc w) (withNumber i E) (withWord s₁ g i) (parts .1) (omega arith) (ap suc names) (omega arith) (omega arith)
       (agrees-number (agrees-left agrees (suc r + size x) (omega arith) left₁) i (suc r + size x) (le-refl _) (omega arith)) out κ
       (follows-passed sort (suc r + size x) (suc g) (p .keeps) (withWord s₁ g i) (row-body .role) (row-body .parent) (omega arith) (omega arith) (le-refl _)
@@ -405,7 +405,7 @@ module _ (program : Program) (T input : List ℕ) (k : ℕ) where
       (comes-next κ _ _
       (sim-x _ (suc r) w E s part (omega arith) names words few (agrees-left agrees (suc r) (omega arith) (leaves-all g 0 s)) out _
       (follows-number λ i s₁ left₁.
-      through-labelled T input (suc r) i s₁ r (row-x .role) (row-x .parent) (omega arith) (comes-value κ _ (follow .from (leaf i) s₁ left₁))))))
+      finished-labelled T input (suc r) i s₁ r (row-x .role) (row-x .parent) (omega arith) (comes-value κ _ (follow .from (leaf i) s₁ left₁))))))
 
   -- the tag, then the two trees in order
   sim-node : {g n : ℕ} (x y : Expr) → Sim g n treeValued x → Sim g n treeValued y → Sim g n treeValued (nodeOf x y)
@@ -423,13 +423,13 @@ module _ (program : Program) (T input : List ℕ) (k : ℕ) where
       (out ++ (nodeTag ∷ [])) _
       (record {
         from = λ l s₁ left₁.
-            through-followed T input (suc r) 0 s₁ (suc r + size x) (row-x .role) (row-x .behind)
+            finished-followed T input (suc r) 0 s₁ (suc r + size x) (row-x .role) (row-x .after)
             (comes-next κ _ _
             (sim-y _ (suc r + size x) w E s₁ (parts .1) (omega arith) names words (omega arith) (agrees-left agrees (suc r + size x) (omega arith) left₁)
             (out ++ (nodeTag ∷ []) ++ tokens l) _
             (record {
               from = λ u s₂ left₂.
-                  through-passed T input (suc r + size x) 0 s₂ r (row-y .role) (row-y .parent) (omega arith)
+                  finished-passed T input (suc r + size x) 0 s₂ r (row-y .role) (row-y .parent) (omega arith)
                   (comes-value κ _ (rw (joined-tokens out l u) (follow .from (node l u) s₂ (leaves-both g (p .keeps) s s₁ s₂ left₁ left₂))));
             })));
       }))))
@@ -446,31 +446,31 @@ module _ (program : Program) (T input : List ℕ) (k : ℕ) where
       row = own-row entry arity T p r (caseOf a x y) stands
 
       parts :
-          Stands entry arity T (partPlace entry arity p (Case a) r 0) (suc r) x
-          × Stands entry arity T (partPlace entry arity p (Case a) r 1) (suc r + size x) y
+          Stands entry arity T (partLocation entry arity p (Case a) r 0) (suc r) x
+          × Stands entry arity T (partLocation entry arity p (Case a) r 1) (suc r + size x) y
       parts = case-parts entry arity T stands
 
-      row-x : HasRow entry arity T (partPlace entry arity p (Case a) r 0) (suc r) (suc r + size x) (headOf x)
+      row-x : HasRow entry arity T (partLocation entry arity p (Case a) r 0) (suc r) (suc r + size x) (headOf x)
       row-x = own-row entry arity T _ (suc r) x (parts .0)
 
-      row-y : HasRow entry arity T (partPlace entry arity p (Case a) r 1) (suc r + size x) (suc r + size x + size y) (headOf y)
+      row-y : HasRow entry arity T (partLocation entry arity p (Case a) r 1) (suc r + size x) (suc r + size x + size y) (headOf y)
       row-y = own-row entry arity T _ (suc r + size x) y (parts .1)
 
-      on-tree : (t : Tree) → treeNamed E a ≡ some t → Comes T input out (begin r s) (next (evaluate (called program k) E r (caseOf a x y)) κ)
+      on-tree : (t : Tree) → treeNamed E a ≡ some t → Comes T input out (begin r s) (followedBy (evaluate (called program k) E r (caseOf a x y)) κ)
       on-tree (leaf i) is =
           let looked = agrees .named .each a (leaf i) is in
           let there = lies-leaf (looked .lies) in
           let long = size-case x y a in
           let least = words-least gs (suc w) x in
           let s₁ : State = withWord s g i in
-          let s₂ : State = withEnd s₁ (looked .place) (looked .place + leafBytes) in
+          let s₂ : State = withEnd s₁ (looked .offset) (looked .offset + leafBytes) in
           let end-known : Leaves input (suc g) (p .keeps) s₁ s₂ = leaves-end _ _ s₁ _ _ (λ before. cached-leaf (looked .lies)) in
           let both : Leaves input g (p .keeps) s s₂ =
           leaves-both g (p .keeps) s s₁ s₂ (leaves-word g (p .keeps) s g i (le-refl g) (omega arith))
           (leaves-less g (p .keeps) (suc g) (p .keeps) s₁ s₂ (omega arith) (le-refl _) end-known) in
           rw is
           (comes-begun κ _
-          (begin-leaf T input (looked .place) r s (omega arith) (rw (row .tree) (looked .found s refl (agrees .cached))) g i (row .action) (row .operand ∙ names)
+          (begin-leaf T input (looked .offset) r s (omega arith) (rw (row .tree) (looked .found s refl (agrees .cached))) g i (row .action) (row .operand ∙ names)
           (there .within) (there .tag) (there .label)
           (sim-x _ (suc r) (suc w) (withNumber i E) s₂ (parts .0) (omega arith) (ap suc names) (omega arith) (omega arith)
           (agrees-left (agrees-number agrees i (suc r) (omega arith) (omega arith)) (suc r) (le-refl _) end-known) out κ
@@ -481,8 +481,8 @@ module _ (program : Program) (T input : List ℕ) (k : ℕ) where
           let long = size-case x y a in
           rw is
           (comes-begun κ _
-          (begin-node T input (looked .place) r s (omega arith) (rw (row .tree) (looked .found s refl (agrees .cached))) (suc r + size x) (row .action)
-          (there .0) (there .1) (row-x .behind)
+          (begin-node T input (looked .offset) r s (omega arith) (rw (row .tree) (looked .found s refl (agrees .cached))) (suc r + size x) (row .action)
+          (there .0) (there .1) (row-x .after)
           (sim-y _ (suc r + size x) w (withTrees l u E) s (parts .1) (omega arith) names words (omega arith)
           (agrees-trees agrees a l u (suc r + size x) (omega arith) (row .tree) is) out κ
           (follows-passed sort (suc r + size x) g (p .keeps) s (row-y .role) (row-y .parent) (omega arith) (le-refl _) (le-refl _)
@@ -494,20 +494,20 @@ module _ (program : Program) (T input : List ℕ) (k : ℕ) where
   sim-none {g} p a b r i j w E s before stands inside names words few many so-far held agrees out κ follow =
       comes-value κ _ (follow .from before s (omega arith) held (leaves-all g (p .keeps) s))
 
-  -- behind an argument the next one begins, or the call opens
-  arg-through :
-      {out : List ℕ} {o : Outcome Told} (p : Place) (a b r i j v : ℕ) (x : Expr) (xs : Args) (s : State)
-      → HasRow entry arity T (partPlace entry arity p (Call a b) r i) j (j + size x) (headOf x)
+  -- after an argument the next one begins, or the call opens
+  arg-finished :
+      {out : List ℕ} {o : Outcome Reported} (p : Location) (a b r i j v : ℕ) (x : Expr) (xs : Args) (s : State)
+      → HasRow entry arity T (partLocation entry arity p (Call a b) r i) j (j + size x) (headOf x)
       → i + suc (countArgs xs) ≡ arity b
       → Comes T input out (turnOf xs r (j + size x) (withWord s (lastWord - (p .keeps + i)) v)) o
-      → Comes T input out (through j v s) o
+      → Comes T input out (finished j v s) o
   unfolding turnOf countArgs roleOf slotOf
-  arg-through p a b r i j v x noArgs s row many c =
+  arg-finished p a b r i j v x noArgs s row many c =
       let last : suc i ≡ arity b = omega arith in
-      through-last T input j v s _ r (rw (eq-eqb _ _ last, roleOf) at (row .role)) (row .slot) (row .parent) c
-  arg-through p a b r i j v x (arg y ys) s row many c =
+      finished-last T input j v s _ r (rw (eq-eqb _ _ last, roleOf) at (row .role)) (row .slot) (row .parent) c
+  arg-finished p a b r i j v x (arg y ys) s row many c =
       let more : suc i ≢ arity b = λ e. absurd (omega arith) in
-      through-kept T input j v s _ (j + size x) (rw (ne-eqb _ _ more, roleOf) at (row .role)) (row .slot) (row .behind) c
+      finished-kept T input j v s _ (j + size x) (rw (ne-eqb _ _ more, roleOf) at (row .role)) (row .slot) (row .after) c
 
   -- each argument's number is kept on the next word down
   sim-arg :
@@ -533,7 +533,7 @@ module _ (program : Program) (T input : List ℕ) (k : ℕ) where
       ∙ word-kept g (p .keeps + i) s s₁ left₁ (lastWord - (p .keeps + c)) (omega arith) (omega arith) in
       let newest : onWord s₂ (p .keeps) (length before) ≡ v =
       rw so-far (word-set s₁ slot v (word-there s₁ slot (roomy-left left₁ (agrees .roomy)) (omega arith))) in
-      arg-through p a b r i j v x xs s₁ row (omega arith)
+      arg-finished p a b r i j v x xs s₁ row (omega arith)
       (sim-xs p a b r (suc i) (j + size x) (suc w) E s₂ (v ∷ before) (parts .1) (omega arith) names (omega arith) (omega arith) (omega arith) (ap suc so-far)
       (holding-more (onWord s₂ (p .keeps)) v before newest (holding-same (onWord s (p .keeps)) (onWord s₂ (p .keeps)) before earlier held))
       (agrees-left agrees (j + size x) (omega arith) both) out κ
@@ -548,19 +548,19 @@ module _ (program : Program) (T input : List ℕ) (k : ℕ) where
 
   -- a Call's first argument begins, or the call opens
   call-begins :
-      {out : List ℕ} {o : Outcome Told} (place r : ℕ) (xs : Args) (s : State)
+      {out : List ℕ} {o : Outcome Reported} (offset r : ℕ) (xs : Args) (s : State)
       → r < recordLimit
-      → Found T input s (treeAt T r) place
+      → Found T input s (treeAt T r) offset
       → actionAt T r ≡ callsFunction
       → moreAt T r ≡ countArgs xs
       → Comes T input out (turnOf xs r (suc r) s) o
       → Comes T input out (begin r s) (begins o)
   unfolding turnOf countArgs
-  call-begins place r noArgs s low found kind more c = begin-bare T input place r s low found kind more c
-  call-begins place r (arg x xs) s low found kind more c = begin-args T input place r s low found kind (λ e. absurd (omega (arith, more))) c
+  call-begins offset r noArgs s low found kind more c = begin-bare T input offset r s low found kind more c
+  call-begins offset r (arg x xs) s low found kind more c = begin-args T input offset r s low found kind (λ e. absurd (omega (arith, more))) c
 
   -- the first argument's word
-  first-slot : (p : Place) (a b r : ℕ) (xs : Args) → 0 < countArgs xs → StandArgs entry arity T p (Call a b) r 0 (suc r) xs
+  first-slot : (p : Location) (a b r : ℕ) (xs : Args) → 0 < countArgs xs → StandArgs entry arity T p (Call a b) r 0 (suc r) xs
       → slotAt T (suc r) ≡ lastWord - (p .keeps + 0)
   unfolding countArgs slotOf
   first-slot p a b r noArgs some-there stands = absurd (omega arith)
@@ -585,13 +585,13 @@ module _ (program : Program) (T input : List ℕ) (k : ℕ) where
       let its : arity b ≡ f .parameters = arity-known b f known in
       let named = level-found (E .trees) a (omega (arith, agrees .trees)) in
       let looked = agrees .named .each a (named .entry) (named .is) in
-      let found : (s′ : State) → s′ .tree ≡ s .tree → Cached input (s′ .known) (s′ .end) → Found T input s′ (treeAt T r) (looked .place) =
+      let found : (s′ : State) → s′ .tree ≡ s .tree → Cached input (s′ .known) (s′ .end) → Found T input s′ (treeAt T r) (looked .offset) =
       λ s′ same cached. rw (row .tree) (looked .found s′ same cached) in
       let its-own = level-found (E .trees) 0 (omega (arith, agrees .trees)) in
       let slots : 0 < f .parameters → slotAt T (suc r) ≡ lastWord - (p .keeps + 0) = λ some-there. first-slot p a b r xs (omega arith) args in
       rw (named .is)
       (comes-begun κ _
-      (call-begins (looked .place) r xs s (omega arith) (found s refl (agrees .cached)) (row .action) (row .more ∙ its ∙ sym counted)
+      (call-begins (looked .offset) r xs s (omega arith) (found s refl (agrees .cached)) (row .action) (row .more ∙ its ∙ sym counted)
       (comes-next κ _ _
       (sim-xs p a b r 0 (suc r) w E s [] args (omega arith) names (omega arith) (omega arith) (omega arith) refl (record { each = λ c i e. none-there c i e })
       (agrees-left agrees (suc r) (omega arith) (leaves-all g 0 s)) out _
@@ -600,7 +600,7 @@ module _ (program : Program) (T input : List ℕ) (k : ℕ) where
             calls r b f numbers (named .entry) g (p .keeps) s′ known
             (record {
               low = omega arith;
-              place = looked .place;
+              offset = looked .offset;
               found = found s′ (left .tree) (left .cached (agrees .cached));
               own = its-own .entry;
               own-lies = rw (left .tree) (named-own s (agrees .cached) (agrees .named) (its-own .is));

@@ -1,4 +1,4 @@
--- Laws of the steps, one for each thing that may become of a record.
+-- Laws of the steps, one for each thing that may be the outcome of a record.
 use Prim.Native.Nat.{ℕ, suc, _+_, _*_, _%_, _≤_, _<_}
 use mathlib.Core.List.{List, [], _∷_}
 use mathlib.Core.Logic.{_≢_}
@@ -9,11 +9,11 @@ use lib.Dec.{eqb}
 use lib.ListN.{length, getD}
 use Rattle.formats.specs.Numbers.{sum32, numberAt}
 use Rattle.formats.specs.Tokens.{leaf, leafTag, nodeTag, leafBytes, tokens}
-use Rattle.stepwise.specs.Rows.{givesConstant, givesNamed, tagsNode, looksAtTree, callsFunction}
-use Rattle.stepwise.specs.Rows.{whole, kept, added, tested, passed, labelled, followed, lastArgument}
-use Rattle.stepwise.specs.Steps.{State, begin, through, opens, ended, deep, stuck, actionAt, operandAt, moreAt, roleAt, parentAt, slotAt, behindAt}
-use Rattle.stepwise.specs.Steps.{wordAt, withWord, withEnd, framed, mostWaiting, looking, beginning, saidFirst, knownAfter, closing, following, rising}
-use Rattle.stepwise.specs.Steps.{saidLast, opening}
+use Rattle.stepwise.specs.Inner.Rows.{givesConstant, givesNamed, tagsNode, looksAtTree, callsFunction}
+use Rattle.stepwise.specs.Inner.Rows.{whole, kept, added, tested, passed, labelled, followed, lastArgument}
+use Rattle.stepwise.specs.Inner.Steps.{State, begin, finished, opens, ended, deep, stuck, actionAt, operandAt, moreAt, roleAt, parentAt, slotAt, afterAt}
+use Rattle.stepwise.specs.Inner.Steps.{wordAt, withWord, withEnd, framed, mostWaiting, looking, beginning, emittedFirst, knownAfter, closing, following, rising}
+use Rattle.stepwise.specs.Inner.Steps.{emittedLast, opening}
 
 -- a number that is this one is no other
 pub off : (k m n : ℕ) → k ≡ m → eqb m n ≡ false → eqb k n ≡ false
@@ -22,11 +22,11 @@ off k m n e h = ap (λ i. eqb i n) e ∙ h
 -- ---- a record begins
 
 module _ (T input : List ℕ) (p r : ℕ) (s : State) where
-  pub begins-const : actionAt T r ≡ givesConstant → beginning T input p r s ≡ through r (operandAt T r + 65536 * moreAt T r) s
+  pub begins-const : actionAt T r ≡ givesConstant → beginning T input p r s ≡ finished r (operandAt T r + 65536 * moreAt T r) s
   unfolding beginning
   begins-const k = simp (beginning, eq-eqb _ _ k)
 
-  pub begins-var : actionAt T r ≡ givesNamed → beginning T input p r s ≡ through r (wordAt s (operandAt T r)) s
+  pub begins-var : actionAt T r ≡ givesNamed → beginning T input p r s ≡ finished r (wordAt s (operandAt T r)) s
   unfolding beginning
   begins-var k = simp (beginning, off _ 1 0 k refl, eq-eqb _ _ k)
 
@@ -40,7 +40,7 @@ module _ (T input : List ℕ) (p r : ℕ) (s : State) where
   unfolding looking
   looks-leaf there tag = simp (looking, lt-ltb _ _ there, eq-eqb _ _ tag)
 
-  pub looks-node : p < length input → getD input p 0 ≢ leafTag → looking T input p r s ≡ begin (behindAt T (suc r)) s
+  pub looks-node : p < length input → getD input p 0 ≢ leafTag → looking T input p r s ≡ begin (afterAt T (suc r)) s
   unfolding looking
   looks-node there tag = simp (looking, lt-ltb _ _ there, ne-eqb _ _ tag)
 
@@ -52,7 +52,7 @@ module _ (T input : List ℕ) (p r : ℕ) (s : State) where
       → beginning T input p r s ≡ begin (suc r) (withEnd (withWord s (operandAt T r) (numberAt 4 input (suc p))) p (p + leafBytes))
   begins-leaf k there tag = rw (begins-case k) (looks-leaf there tag)
 
-  pub begins-node : actionAt T r ≡ looksAtTree → p < length input → getD input p 0 ≢ leafTag → beginning T input p r s ≡ begin (behindAt T (suc r)) s
+  pub begins-node : actionAt T r ≡ looksAtTree → p < length input → getD input p 0 ≢ leafTag → beginning T input p r s ≡ begin (afterAt T (suc r)) s
   begins-node k there tag = rw (begins-case k) (looks-node there tag)
 
   pub begins-bare : actionAt T r ≡ callsFunction → moreAt T r ≡ 0 → beginning T input p r s ≡ opens r s
@@ -69,26 +69,26 @@ module _ (T input : List ℕ) (p r : ℕ) (s : State) where
   begins-first a b c d = simp (beginning, ne-eqb _ _ a, ne-eqb _ _ b, ne-eqb _ _ c, ne-eqb _ _ d)
 
 -- what is written
-pub said-node : (T : List ℕ) (r : ℕ) → actionAt T r ≡ tagsNode → saidFirst T r ≡ nodeTag ∷ []
-unfolding saidFirst
-said-node T r k = simp (saidFirst, eq-eqb _ _ k)
+pub said-node : (T : List ℕ) (r : ℕ) → actionAt T r ≡ tagsNode → emittedFirst T r ≡ nodeTag ∷ []
+unfolding emittedFirst
+said-node T r k = simp (emittedFirst, eq-eqb _ _ k)
 
-pub said-nothing : (T : List ℕ) (r : ℕ) → actionAt T r ≢ tagsNode → saidFirst T r ≡ []
-unfolding saidFirst
-said-nothing T r k = simp (saidFirst, ne-eqb _ _ k)
+pub said-nothing : (T : List ℕ) (r : ℕ) → actionAt T r ≢ tagsNode → emittedFirst T r ≡ []
+unfolding emittedFirst
+said-nothing T r k = simp (emittedFirst, ne-eqb _ _ k)
 
--- ---- a record is through
+-- ---- a record is finished
 
 module _ (T : List ℕ) (r x : ℕ) (s : State) where
-  pub follows-passed : roleAt T r ≡ passed → following T r x s ≡ through (parentAt T r) x s
+  pub follows-passed : roleAt T r ≡ passed → following T r x s ≡ finished (parentAt T r) x s
   unfolding following
   follows-passed k = simp (following, eq-eqb _ _ k)
 
-  pub follows-labelled : roleAt T r ≡ labelled → following T r x s ≡ through (parentAt T r) 0 s
+  pub follows-labelled : roleAt T r ≡ labelled → following T r x s ≡ finished (parentAt T r) 0 s
   unfolding following
   follows-labelled k = simp (following, off _ 5 4 k refl, eq-eqb _ _ k)
 
-  pub follows-followed : roleAt T r ≡ followed → following T r x s ≡ begin (behindAt T r) s
+  pub follows-followed : roleAt T r ≡ followed → following T r x s ≡ begin (afterAt T r) s
   unfolding following
   follows-followed k = simp (following, off _ 6 4 k refl, off _ 6 5 k refl, eq-eqb _ _ k)
 
@@ -102,19 +102,19 @@ module _ (T input : List ℕ) (r x : ℕ) (s : State) where
   unfolding rising
   rises-whole k = simp (rising, eq-eqb _ _ k)
 
-  pub rises-kept : roleAt T r ≡ kept → rising T input r x s ≡ begin (behindAt T r) (withWord s (slotAt T r) x)
+  pub rises-kept : roleAt T r ≡ kept → rising T input r x s ≡ begin (afterAt T r) (withWord s (slotAt T r) x)
   unfolding rising
   rises-kept k = simp (rising, off _ 1 0 k refl, eq-eqb _ _ k)
 
-  pub rises-added : roleAt T r ≡ added → rising T input r x s ≡ through (parentAt T r) (sum32 (wordAt s (slotAt T r)) x) s
+  pub rises-added : roleAt T r ≡ added → rising T input r x s ≡ finished (parentAt T r) (sum32 (wordAt s (slotAt T r)) x) s
   unfolding rising
   rises-added k = simp (rising, off _ 2 0 k refl, off _ 2 1 k refl, eq-eqb _ _ k)
 
-  pub rises-zero : roleAt T r ≡ tested → x ≡ 0 → rising T input r x s ≡ begin (behindAt T r) s
+  pub rises-zero : roleAt T r ≡ tested → x ≡ 0 → rising T input r x s ≡ begin (afterAt T r) s
   unfolding rising
   rises-zero k z = simp (rising, off _ 3 0 k refl, off _ 3 1 k refl, off _ 3 2 k refl, eq-eqb _ _ k, eq-eqb _ _ z)
 
-  pub rises-other : roleAt T r ≡ tested → x ≢ 0 → rising T input r x s ≡ begin (behindAt T (behindAt T r)) s
+  pub rises-other : roleAt T r ≡ tested → x ≢ 0 → rising T input r x s ≡ begin (afterAt T (afterAt T r)) s
   unfolding rising
   rises-other k o = simp (rising, off _ 3 0 k refl, off _ 3 1 k refl, off _ 3 2 k refl, eq-eqb _ _ k, ne-eqb _ _ o)
 
@@ -128,13 +128,13 @@ module _ (T input : List ℕ) (r x : ℕ) (s : State) where
   unfolding rising
   late k e a b c d = simp (rising, off _ k 0 e a, off _ k 1 e b, off _ k 2 e c, off _ k 3 e d)
 
-  pub rises-passed : roleAt T r ≡ passed → rising T input r x s ≡ through (parentAt T r) x s
+  pub rises-passed : roleAt T r ≡ passed → rising T input r x s ≡ finished (parentAt T r) x s
   rises-passed k = late 4 k refl refl refl refl ∙ follows-passed T r x s k
 
-  pub rises-labelled : roleAt T r ≡ labelled → rising T input r x s ≡ through (parentAt T r) 0 s
+  pub rises-labelled : roleAt T r ≡ labelled → rising T input r x s ≡ finished (parentAt T r) 0 s
   rises-labelled k = late 5 k refl refl refl refl ∙ follows-labelled T r x s k
 
-  pub rises-followed : roleAt T r ≡ followed → rising T input r x s ≡ begin (behindAt T r) s
+  pub rises-followed : roleAt T r ≡ followed → rising T input r x s ≡ begin (afterAt T r) s
   rises-followed k = late 6 k refl refl refl refl ∙ follows-followed T r x s k
 
   pub rises-last : roleAt T r ≡ lastArgument → rising T input r x s ≡ opens (parentAt T r) (withWord s (slotAt T r) x)
@@ -148,26 +148,26 @@ closes-first T input x s k = simp (closing, k)
 
 pub closes-waiting : (T input : List ℕ) (x n : ℕ) (s : State) → s .calls ≡ suc n
     → closing T input x s
-    ≡ through (getD (s .places) (2 * n) 0 % 65536) x
+    ≡ finished (getD (s .returns) (2 * n) 0 % 65536) x
     (record {
       words = s .words;
-      places = s .places;
+      returns = s .returns;
       calls = n;
-      tree = getD (s .places) (suc (2 * n)) 0;
-      known = knownAfter T input (getD (s .places) (2 * n) 0 % 65536) (getD (s .places) (suc (2 * n)) 0) s;
+      tree = getD (s .returns) (suc (2 * n)) 0;
+      known = knownAfter T input (getD (s .returns) (2 * n) 0 % 65536) (getD (s .returns) (suc (2 * n)) 0) s;
       end = s .end;
     })
 unfolding closing
 closes-waiting T input x n s k = simp (closing, k)
 
 -- what is written
-pub said-leaf : (T : List ℕ) (r x : ℕ) → roleAt T r ≡ labelled → saidLast T r x ≡ tokens (leaf x)
-unfolding saidLast
-said-leaf T r x k = simp (saidLast, eq-eqb _ _ k)
+pub said-leaf : (T : List ℕ) (r x : ℕ) → roleAt T r ≡ labelled → emittedLast T r x ≡ tokens (leaf x)
+unfolding emittedLast
+said-leaf T r x k = simp (emittedLast, eq-eqb _ _ k)
 
-pub said-none : (T : List ℕ) (r x : ℕ) → roleAt T r ≢ labelled → saidLast T r x ≡ []
-unfolding saidLast
-said-none T r x k = simp (saidLast, ne-eqb _ _ k)
+pub said-none : (T : List ℕ) (r x : ℕ) → roleAt T r ≢ labelled → emittedLast T r x ≡ []
+unfolding emittedLast
+said-none T r x k = simp (emittedLast, ne-eqb _ _ k)
 
 -- ---- a call opens
 

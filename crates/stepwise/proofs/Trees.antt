@@ -1,4 +1,4 @@
--- Trees that lie in the input, one whose end is known, and those named at a record, each with its code and its place.
+-- Trees that lie in the input, one whose end is known, and those named at a record, each with its code and its offset.
 use Prim.Native.Nat.{ℕ, zero, suc, _+_, _-_, _*_, _/_, _%_, _≤_, _<_, zero-le}
 use mathlib.Core.Bool.{Bool, true, false, _&&_}
 use mathlib.Core.List.{List, [], _∷_, _++_}
@@ -12,30 +12,30 @@ use borrow.Author.Tests.{eqb-true, eqb-false, ltb-true}
 use lib.ListN.{length, getD, take, drop, length-append, take-append-drop, List·getD-append}
 use lib.Seq.{getD-at}
 use Rattle.formats.specs.Numbers.{Bytes, bytesOf, numberOf, numberAt}
-use Rattle.formats.specs.Places.{one-more}
-use Rattle.formats.specs.Places.{Lies as BytesLie}
+use Rattle.formats.specs.Buffers.{one-more}
+use Rattle.formats.specs.Buffers.{Lies as BytesLie}
 use Rattle.formats.specs.Results.{done}
 use Rattle.formats.specs.Tokens.{Tree, leaf, node, Labelled, depth, leafTag, nodeTag, labelBytes, leafBytes, tokens, mostDepth, firstTree, firstEnd, endFrom}
 use Rattle.formats.proofs.Numbers.{length-bytesOf, number-bytesOf, numberAt-whole}
-use Rattle.formats.proofs.Places.{lies-part, lies-within}
-use Rattle.formats.proofs.Places.{lies-left as bytes-left, lies-right as bytes-right}
+use Rattle.formats.proofs.Buffers.{lies-part, lies-within}
+use Rattle.formats.proofs.Buffers.{lies-left as bytes-left, lies-right as bytes-right}
 use Rattle.formats.proofs.Reader.{tree-reader}
 use Rattle.formats.proofs.Results.{done-injective, both-held}
 use Rattle.formats.proofs.Tokens.{stands}
 use Rattle.meaning.specs.Levels.{atLevel}
 use Rattle.meaning.proofs.Levels.{level-newest, level-older, level-below}
-use Rattle.stepwise.specs.Rows.{codeOf}
-use Rattle.stepwise.specs.Steps.{State, treeAt, Found, the-own, the-left, the-right, the-known, onRight, knownAfter}
+use Rattle.stepwise.specs.Inner.Rows.{codeOf}
+use Rattle.stepwise.specs.Inner.Steps.{State, treeAt, Found, the-own, the-left, the-right, the-known, onRight, knownAfter}
 
 -- ---- trees in the input
 
--- t's tokens stand at place p of the input, and t is a tree that the reader takes
+-- t's tokens stand at offset p of the input, and t is a tree that the reader takes
 pub record Lies (input : List ℕ) (p : ℕ) (t : Tree) : Type 0 where
   pub there : BytesLie input p (tokens t)
   pub labelled : Labelled t
   pub shallow : depth t ≤ mostDepth
 
--- a leaf's tag, and its label behind it
+-- a leaf's tag, and its label after it
 pub record LeafThere (input : List ℕ) (p x : ℕ) : Type 0 where
   pub within : p < length input
   pub tag : getD input p 0 ≡ leafTag
@@ -55,7 +55,7 @@ leaf-there {input} {p} {x} fits (one-more there is more) =
 pub lies-leaf : {input : List ℕ} {p x : ℕ} → Lies input p (leaf x) → LeafThere input p x
 lies-leaf h = leaf-there (h .labelled) (h .there)
 
--- a node's tag, and its trees one behind the other
+-- a node's tag, and its trees one after the other
 record NodeThere (input : List ℕ) (p : ℕ) (l r : Tree) : Type 0 where
   within : p < length input
   tag : getD input p 0 ≡ nodeTag
@@ -72,11 +72,11 @@ node-shallow : (l r : Tree) → depth (node l r) ≤ mostDepth → (depth l ≤ 
 unfolding depth
 node-shallow l r h = (omega arith, omega arith)
 
--- the place is within the input, and no leaf's tag stands there
+-- the offset is within the input, and no leaf's tag stands there
 pub lies-node : {input : List ℕ} {p : ℕ} {l r : Tree} → Lies input p (node l r) → (p < length input) × (getD input p 0 ≢ leafTag)
 lies-node h = let n = node-there (h .there) in let tag = n .tag in (n .within, λ e. absurd (omega arith))
 
--- the left tree is behind the tag
+-- the left tree is after the tag
 pub lies-left : {input : List ℕ} {p : ℕ} {l r : Tree} → Lies input p (node l r) → Lies input (suc p) l
 lies-left {l = l} {r = r} h =
     record { there = node-there (h .there) .left; labelled = h .labelled .0; shallow = node-shallow l r (h .shallow) .0 }
@@ -91,7 +91,7 @@ end-found {input} {p} {t} h =
     let taken : firstTree (drop p input) ≡ done t = ap firstTree joined ∙ tree-reader .takes t _ (h .labelled) (h .shallow) in
     ap (endFrom 0) taken ∙ ap done (zero-add n)
 
--- the right tree is behind the left one
+-- the right tree is after the left one
 lies-right : {input : List ℕ} {p : ℕ} {l r : Tree} → Lies input p (node l r) → Lies input (suc p + length (tokens l)) r
 lies-right {l = l} {r = r} h =
     record { there = node-there (h .there) .right; labelled = h .labelled .1; shallow = node-shallow l r (h .shallow) .1 }
@@ -143,9 +143,9 @@ known-end {input} {known} {end} {p} {t} cached h same some-there =
 
 -- the tree of a code, named at record r: found in every state whose frame's own tree is at `own`
 pub record At (T input : List ℕ) (own r code : ℕ) (t : Tree) : Type 0 where
-  pub place : ℕ
-  pub found : (s : State) → s .tree ≡ own → Cached input (s .known) (s .end) → Found T input s code place
-  pub lies : Lies input place t
+  pub offset : ℕ
+  pub found : (s : State) → s .tree ≡ own → Cached input (s .known) (s .end) → Found T input s code offset
+  pub lies : Lies input offset t
   pub small : code ≤ 2 * r
 
 -- the trees named at record r, the Cases in whose node parts it stands being `cases`
@@ -155,7 +155,7 @@ pub record Named (T input : List ℕ) (own : ℕ) (cases : List ℕ) (r : ℕ) (
 
 -- at later records the same trees are named
 at-later : {T input : List ℕ} {own r r′ code : ℕ} {t : Tree} → r ≤ r′ → At T input own r code t → At T input own r′ code t
-at-later h n = let small = n .small in record { place = n .place; found = n .found; lies = n .lies; small = omega arith }
+at-later h n = let small = n .small in record { offset = n .offset; found = n .found; lies = n .lies; small = omega arith }
 
 pub named-later : {T input : List ℕ} {own : ℕ} {cases : List ℕ} {r r′ : ℕ} {trees : List Tree}
     → r ≤ r′ → Named T input own cases r trees → Named T input own cases r′ trees
@@ -184,7 +184,7 @@ named-first {T} {input} {own} {r} {t} h =
     record {
       many = refl;
       each = by-level (λ a u. At T input own r (codeOf [] a) u) t []
-          (rw (code-own []) (record { place = own; found = λ s same cached. rw (← same) the-own; lies = h; small = zero-le }))
+          (rw (code-own []) (record { offset = own; found = λ s same cached. rw (← same) the-own; lies = h; small = zero-le }))
           (λ a u e. absurd (none a u e));
     }
   where
@@ -255,20 +255,20 @@ named-deeper {T} {input} {own} {cases} {r} {trees} a left right code e n =
     looked : At T input own r (codeOf cases a) (node left right)
     looked = n .each a (node left right) e
 
-    found : (s : State) → s .tree ≡ own → Cached input (s .known) (s .end) → Found T input s (treeAt T r) (looked .place)
+    found : (s : State) → s .tree ≡ own → Cached input (s .known) (s .end) → Found T input s (treeAt T r) (looked .offset)
     found s same cached = rw code (looked .found s same cached)
 
     small : treeAt T r < suc (2 * r)
     small = let s = looked .small in rw code (omega arith)
 
-    within : looked .place < length input
+    within : looked .offset < length input
     within = lies-node (looked .lies) .0
 
     the-left-one : At T input own (suc r) (suc (2 * r)) left
     the-left-one =
         record {
-          place = suc (looked .place);
-          found = λ s same cached. the-left r (looked .place) small within (found s same cached);
+          offset = suc (looked .offset);
+          found = λ s same cached. the-left r (looked .offset) small within (found s same cached);
           lies = lies-left (looked .lies);
           small = omega arith;
         }
@@ -276,7 +276,7 @@ named-deeper {T} {input} {own} {cases} {r} {trees} a left right code e n =
     the-right-one : At T input own (suc r) (suc (suc (2 * r))) right
     the-right-one =
         record {
-          place = suc (looked .place) + length (tokens left);
+          offset = suc (looked .offset) + length (tokens left);
           found = λ s same cached. found-right r (looked .lies) small cached (found s same cached);
           lies = lies-right (looked .lies);
           small = omega arith;
@@ -289,22 +289,22 @@ named-deeper {T} {input} {own} {cases} {r} {trees} a left right code e n =
 
 -- ---- when a call closes
 
--- the place found for a frame's own tree
-own-place : {T input : List ℕ} {s : State} {code p : ℕ} → Found T input s code p → code ≡ 0 → p ≡ s .tree
-own-place {T} {input} {s} d = elim d as (λ code p d. code ≡ 0 → p ≡ s .tree) [
+-- the offset found for a frame's own tree
+own-offset : {T input : List ℕ} {s : State} {code p : ℕ} → Found T input s code p → code ≡ 0 → p ≡ s .tree
+own-offset {T} {input} {s} d = elim d as (λ code p d. code ≡ 0 → p ≡ s .tree) [
   | the-own ↦ λ none. refl
   | the-left c p small within (f → ih) ↦ λ none. absurd (omega arith)
   | the-right c p n small within (f → ih) other end ↦ λ none. absurd (omega arith)
   | the-known c p small within (f → ih) same ↦ λ none. absurd (omega arith)
 ]
 
--- the place found for the right tree of a frame's own tree
-right-place : {T input : List ℕ} {s : State} {l r : Tree} {code p : ℕ}
+-- the offset found for the right tree of a frame's own tree
+right-offset : {T input : List ℕ} {s : State} {l r : Tree} {code p : ℕ}
     → Lies input (s .tree) (node l r)
     → Cached input (s .known) (s .end)
     → Found T input s code p
     → (c : ℕ) → code ≡ suc (suc (2 * c)) → treeAt T c ≡ 0 → p ≡ suc (s .tree) + length (tokens l)
-right-place {T} {input} {s} {l} lies cached d =
+right-offset {T} {input} {s} {l} lies cached d =
     elim d as (λ code p d. (c : ℕ) → code ≡ suc (suc (2 * c)) → treeAt T c ≡ 0 → p ≡ suc (s .tree) + length (tokens l)) [
       | the-own ↦ λ c is none. absurd (omega arith)
       | the-left c′ p small within (f → ih) ↦ λ c is none. absurd (omega arith)
@@ -316,7 +316,7 @@ right-place {T} {input} {s} {l} lies cached d =
     ]
   where
     at-own : (a c p : ℕ) → suc (suc (2 * a)) ≡ suc (suc (2 * c)) → treeAt T c ≡ 0 → Found T input s (treeAt T a) p → p ≡ s .tree
-    at-own a c p is none f = let same : a ≡ c = omega arith in own-place f (ap (treeAt T) same ∙ none)
+    at-own a c p is none f = let same : a ≡ c = omega arith in own-offset f (ap (treeAt T) same ∙ none)
 
 -- what `onRight` asks for: the Case at record `looking` looks at the frame's own tree, a node, and the Call is on its right tree
 record OnRight (T input : List ℕ) (r own : ℕ) : Type 0 where
@@ -341,16 +341,16 @@ on-right T input r own e =
       tag = eqb-true _ nodeTag (d .1);
     }
 
--- the Call at record r is on the tree found at place p
+-- the Call at record r is on the tree found at offset p
 module _ {T input : List ℕ} {p : ℕ} {s : State} (r : ℕ) (found : Found T input s (treeAt T r) p) (before : Cached input (s .known) (s .end)) where
   -- where that is the right tree of the frame's own, both have the same end
   node-known : (own : Tree) (known end : ℕ) → Lies input (s .tree) own → OnRight T input r (s .tree) → p ≡ known → Cached input known end
       → Cached input (s .tree) end
   node-known (leaf x) known end lies right same cached = let tag = lies-leaf lies .tag in let other = right .tag in absurd (omega arith)
   node-known (node l u) known end lies right same cached =
-      let place : p ≡ suc (s .tree) + length (tokens l) = right-place lies before found (right .looking) (right .code) (right .at-own) in
+      let offset : p ≡ suc (s .tree) + length (tokens l) = right-offset lies before found (right .looking) (right .code) (right .at-own) in
       let ends : end ≡ suc (s .tree) + length (tokens l) + length (tokens u) =
-      known-end cached (lies-right lies) (sym place ∙ same) (λ z. absurd (omega arith)) in
+      known-end cached (lies-right lies) (sym offset ∙ same) (λ z. absurd (omega arith)) in
       record { spans = λ some-there. record { spanning = node l u; lies = lies; ends = omega (arith, length-node l u) } }
 
   -- so what is known once the call closes is right
@@ -366,9 +366,9 @@ module _ {T input : List ℕ} {p : ℕ} {s : State} (r : ℕ) (found : Found T i
           node-known own (s′ .known) (s′ .end) lies (on-right T input r (s .tree) (h .1)) (sym same ∙ sym (eqb-true _ _ (h .0))) cached
       by-test false e = cached
 
--- the own tree of a frame, where trees are named, lies at its place
+-- the own tree of a frame, where trees are named, lies at its offset
 pub named-own : {T input : List ℕ} {cases : List ℕ} {r : ℕ} {trees : List Tree} {t : Tree} (s : State)
     → Cached input (s .known) (s .end) → Named T input (s .tree) cases r trees → atLevel trees 0 ≡ some t → Lies input (s .tree) t
 named-own {cases = cases} {t = t} s cached n e =
     let at-first = n .each 0 t e in
-    rw (own-place (at-first .found s refl cached) (code-own cases)) at (at-first .lies)
+    rw (own-offset (at-first .found s refl cached) (code-own cases)) at (at-first .lies)

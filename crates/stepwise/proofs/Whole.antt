@@ -1,7 +1,7 @@
 -- The steps come to the evaluation's outcome: calls do, by recursion on the calls that may still be opened, and so does the whole.
 --
 -- Where none may be opened, a call stops the evaluation, and the step is the call that is one too many. Else the function's body begins in the next frame,
--- with the arguments on its first words; behind it the return words bring back the Call's record and the caller's tree.
+-- with the arguments on its first words; after it the return words bring back the Call's record and the caller's tree.
 use Prim.Native.Nat.{ℕ, zero, suc, _+_, _-_, _*_, _≤_}
 use mathlib.Core.List.{List, [], _∷_}
 use mathlib.Core.Option.{some, Option·some-injective, Option·none-ne-some}
@@ -16,20 +16,20 @@ use Rattle.formats.specs.Records.{nth}
 use Rattle.formats.specs.Programs.{size, total, arityOf, Signature, Function, Program, signatures, mostRecords, LawfulFunctions}
 use Rattle.rules.specs.Types.{resultType}
 use Rattle.rules.specs.Scopes.{startOf, entered, enteredAll}
-use Rattle.rules.specs.PassOne.{mostWords, wordsOf, passOver, passOne}
+use Rattle.rules.specs.PassOne.{mostFrameWords, wordsOf, passOver, passOne}
 use Rattle.rules.proofs.PassOne.{pass-left, pass-right}
 use Rattle.rules.proofs.Words.{few-parameters, few-words, words-least}
 use Rattle.meaning.specs.Running.{valueWords, returnWords, mostCalls}
 use Rattle.meaning.specs.Evaluation.{Value, inCall}
-use Rattle.meaning.specs.OpenCalls.{Outcome, next, evaluate, firstRecord, called, evaluation}
+use Rattle.meaning.specs.OpenCalls.{Outcome, followedBy, evaluate, firstRecord, called, evaluation}
 use Rattle.meaning.specs.Meaning.{PassesOne}
 use Rattle.meaning.proofs.Levels.{level-below}
 use Rattle.meaning.proofs.Proper.{ProperProgram, proper}
-use Rattle.stepwise.specs.Rows.{rowWords, bodyPlace, tabled}
-use Rattle.stepwise.specs.Steps.{State, begin, frameWords, recordLimit, mostWaiting, wordAt, slotAt, moreAt, framed, copied}
-use Rattle.stepwise.specs.Comes.{Told, toldOf, Comes}
+use Rattle.stepwise.specs.Inner.Rows.{rowWords, bodyLocation, tabled}
+use Rattle.stepwise.specs.Inner.Steps.{State, begin, frameWords, recordLimit, mostWaiting, wordAt, slotAt, moreAt, framed, copied}
+use Rattle.stepwise.specs.Inner.Outcomes.{Reported, reportedOf, Comes}
 use Rattle.stepwise.proofs.Words.{copied-length, copied-there, backIn, closes-back, leaves-call}
-use Rattle.stepwise.proofs.Moves.{open-deep, open-frame, through-end, through-call}
+use Rattle.stepwise.proofs.Moves.{open-deep, open-frame, finished-end, finished-call}
 use Rattle.stepwise.proofs.Rows.{Stands, own-row, bodies-stand, bodies-fit}
 use Rattle.stepwise.proofs.Trees.{Lies, lies-first, cached-none, named-first}
 use Rattle.stepwise.proofs.Simulation.{holding-same, Agrees, Follows, Ready, SimCalls, sim}
@@ -41,7 +41,7 @@ bodies-few :
     (gs : List Signature) (j r : ℕ) (fs : List Function)
     → passOver gs (enteredAll r fs) ≡ done tt
     → LawfulFunctions gs j fs
-    → (b : ℕ) (f : Function) → nth fs b ≡ some f → wordsOf gs (f .parameters) (f .body) ≤ mostWords
+    → (b : ℕ) (f : Function) → nth fs b ≡ some f → wordsOf gs (f .parameters) (f .body) ≤ mostFrameWords
 unfolding nth enteredAll startOf
 bodies-few gs j r [] h lawful b f e = absurd (Option·none-ne-some f e)
 bodies-few gs j r (g ∷ fs) h lawful zero f e =
@@ -57,12 +57,12 @@ record Standing (program : Program) (T : List ℕ) : Type 0 where
   few :
       (b : ℕ) (f : Function)
       → nth (program .functions) b ≡ some f
-      → wordsOf (signatures program) (f .parameters) (f .body) ≤ mostWords
+      → wordsOf (signatures program) (f .parameters) (f .body) ≤ mostFrameWords
   rows :
       (b : ℕ) (f : Function)
       → nth (program .functions) b ≡ some f
       → Stands (firstRecord program) (arityOf (signatures program)) T
-      (bodyPlace (firstRecord program) (arityOf (signatures program)) f) (firstRecord program b) (f .body)
+      (bodyLocation (firstRecord program) (arityOf (signatures program)) f) (firstRecord program b) (f .body)
   inside : (b : ℕ) (f : Function) → nth (program .functions) b ≡ some f → firstRecord program b + size (f .body) ≤ recordLimit
 
 -- a program that passes pass one, in its table
@@ -85,20 +85,20 @@ module _ (program : Program) (T input : List ℕ) (all : Standing program T) whe
       (k r b : ℕ) (f : Function) (numbers : List ℕ) (t : Tree) (s : State)
       → nth (program .functions) b ≡ some f
       → (ready : Ready program T input (suc k) r b f numbers t s)
-      → Agrees program T input k (f .parameters) 1 [] (firstRecord program b) (inCall numbers t) (framed T (ready .place) r s)
+      → Agrees program T input k (f .parameters) 1 [] (firstRecord program b) (inCall numbers t) (framed T (ready .offset) r s)
   framed-agrees k r b f numbers t s known ready =
       let base : ℕ = frameWords * s .calls in
       let count = ready .count in
       let many = ready .many in
       let values = ready .roomy .values in
       let allowed = ready .roomy .allowed in
-      let few : f .parameters ≤ mostWords =
+      let few : f .parameters ≤ mostFrameWords =
       let least = words-least (signatures program) (f .parameters) (f .body) in let most = all .few b f known in omega arith in
       record {
         numbers = many;
         trees = refl;
         held =
-            holding-same (λ c. wordAt s (slotAt T (suc r) - c)) (wordAt (framed T (ready .place) r s)) numbers
+            holding-same (λ c. wordAt s (slotAt T (suc r) - c)) (wordAt (framed T (ready .offset) r s)) numbers
             (λ c below.
             let there : frameWords * suc (s .calls) + c ≡ base + frameWords + c = omega arith in
             ap (λ i. getD (copied (s .words) base (slotAt T (suc r)) (moreAt T r)) i 0) there
@@ -112,8 +112,8 @@ module _ (program : Program) (T input : List ℕ) (all : Standing program T) whe
               omega (
                 arith,
                 ready .roomy .returns,
-                length-set (set (s .places) (2 * s .calls) r) (suc (2 * s .calls)) (s .tree),
-                length-set (s .places) (2 * s .calls) r,
+                length-set (set (s .returns) (2 * s .calls) r) (suc (2 * s .calls)) (s .tree),
+                length-set (s .returns) (2 * s .calls) r,
               );
           allowed = omega arith;
         };
@@ -125,9 +125,9 @@ module _ (program : Program) (T input : List ℕ) (all : Standing program T) whe
       → SimCalls program T input k
       → nth (program .functions) b ≡ some f
       → Agrees program T input k (f .parameters) 1 [] (firstRecord program b) (inCall numbers t) s
-      → (out : List ℕ) (κ : Value → Outcome Told)
+      → (out : List ℕ) (κ : Value → Outcome Reported)
       → Follows program T input k (f .sort) (f .parameters) 0 (firstRecord program b) s out κ
-      → Comes T input out (begin (firstRecord program b) s) (next (evaluate (called program k) (inCall numbers t) (firstRecord program b) (f .body)) κ)
+      → Comes T input out (begin (firstRecord program b) s) (followedBy (evaluate (called program k) (inCall numbers t) (firstRecord program b) (f .body)) κ)
   sim-body k b f numbers t s calls known agrees out κ follow =
       sim program T input k calls (all .is-proper .bodies b f known) _ (firstRecord program b) (f .parameters) (inCall numbers t) s (all .rows b f known)
       (all .inside b f known) refl (omega arith) (all .few b f known) agrees out κ follow
@@ -135,66 +135,66 @@ module _ (program : Program) (T input : List ℕ) (all : Standing program T) whe
   -- ---- calls, the whole
 
   sim-calls : (k : ℕ) → SimCalls program T input k
-  unfolding called next
+  unfolding called followedBy
   sim-calls zero r b f numbers t names keeps s known ready fewer out κ follow =
-      open-deep T input (ready .place) r s (ready .low) (ready .found) (omega (arith, ready .roomy .allowed)) refl
+      open-deep T input (ready .offset) r s (ready .low) (ready .found) (omega (arith, ready .roomy .allowed)) refl
   sim-calls (suc k) r b f numbers t names keeps s known ready fewer out κ follow =
       let row = own-row (firstRecord program) (arityOf (signatures program)) T _ (firstRecord program b) (f .body) (all .rows b f known) in
       let low = ready .low in
       let allowed = ready .roomy .allowed in
       let returns = ready .roomy .returns in
       rw (known, called)
-      (open-frame T input (ready .place) r s (ready .low) (ready .found) (firstRecord program b) (omega arith) (ready .body)
-      (sim-body k b f numbers t (framed T (ready .place) r s) (sim-calls k) known (framed-agrees k r b f numbers t s known ready) out κ
+      (open-frame T input (ready .offset) r s (ready .low) (ready .found) (firstRecord program b) (omega arith) (ready .body)
+      (sim-body k b f numbers t (framed T (ready .offset) r s) (sim-calls k) known (framed-agrees k r b f numbers t s known ready) out κ
       (record {
         from = λ v s′ left.
-            through-call T input (firstRecord program b) _ s′ r (backIn T input r s s′) (row .role)
-            (closes-back T input (ready .place) r s s′ (f .parameters) 0 left _ (omega arith) (omega arith)) (left .calls) (omega arith)
+            finished-call T input (firstRecord program b) _ s′ r (backIn T input r s s′) (row .role)
+            (closes-back T input (ready .offset) r s s′ (f .parameters) 0 left _ (omega arith) (omega arith)) (left .calls) (omega arith)
             (follow .from v (backIn T input r s s′)
-            (leaves-call T input (ready .place) r s s′ (f .parameters) 0 left names keeps (ready .own) fewer (ready .found) (ready .own-lies)));
+            (leaves-call T input (ready .offset) r s s′ (f .parameters) 0 left names keeps (ready .own) fewer (ready .found) (ready .own-lies)));
       })))
 
   -- the whole, its first frame and its tree at the beginning of the input
   sim-whole :
-      (k : ℕ) (t : Tree) (words places : List ℕ)
+      (k : ℕ) (t : Tree) (words returns : List ℕ)
       → k ≡ mostWaiting
       → Lies input 0 t
       → valueWords ≤ length words
-      → returnWords ≤ length places
-      → Comes T input [] (begin (firstRecord program 0) (record { words = words; places = places; calls = 0; tree = 0; known = 0; end = 0 }))
-      (next (evaluation program (suc k) t) toldOf)
+      → returnWords ≤ length returns
+      → Comes T input [] (begin (firstRecord program 0) (record { words = words; returns = returns; calls = 0; tree = 0; known = 0; end = 0 }))
+      (followedBy (evaluation program (suc k) t) reportedOf)
   unfolding evaluation called
-  sim-whole k t words places allowed lies values returns =
+  sim-whole k t words returns allowed lies values returns-lent =
       let first = all .is-proper .first in
       let known = all .is-proper .is-first in
       let row = own-row (firstRecord program) (arityOf (signatures program)) T _ (firstRecord program 0) (first .body) (all .rows 0 first known) in
       rw (known, called)
-      (sim-body k 0 first [] t (record { words = words; places = places; calls = 0; tree = 0; known = 0; end = 0 }) (sim-calls k) known
+      (sim-body k 0 first [] t (record { words = words; returns = returns; calls = 0; tree = 0; known = 0; end = 0 }) (sim-calls k) known
       (record {
         numbers = sym (all .is-proper .bare);
         trees = refl;
         held = record { each = λ a i e. let below = level-below [] a e in absurd (omega arith) };
         named = named-first lies;
         cached = cached-none input 0;
-        roomy = record { values = values; returns = returns; allowed = omega arith };
+        roomy = record { values = values; returns = returns-lent; allowed = omega arith };
       })
-      [] toldOf
-      (record { from = λ v s′ left. through-end T input (firstRecord program 0) _ s′ (row .role) (left .calls) refl }))
+      [] reportedOf
+      (record { from = λ v s′ left. finished-end T input (firstRecord program 0) _ s′ (row .role) (left .calls) refl }))
 
 -- the steps over a program's rows come to the outcome of its evaluation on the input's first tree
 pub comes :
-    (program : Program) (input table words places : List ℕ) (t : Tree)
+    (program : Program) (input table words returns : List ℕ) (t : Tree)
     → PassesOne program
     → Bytes input
     → firstTree input ≡ done t
     → rowWords * mostRecords ≤ length table
     → valueWords ≤ length words
-    → returnWords ≤ length places
+    → returnWords ≤ length returns
     → Comes (tabled table program) input []
-    (begin (suc (length (program .functions))) (record { words = words; places = places; calls = 0; tree = 0; known = 0; end = 0 }))
-    (next (evaluation program mostCalls t) toldOf)
+    (begin (suc (length (program .functions))) (record { words = words; returns = returns; calls = 0; tree = 0; known = 0; end = 0 }))
+    (followedBy (evaluation program mostCalls t) reportedOf)
 unfolding firstRecord total
-comes program input table words places t passes bytes reads room values returns =
+comes program input table words returns t passes bytes reads room values returns-lent =
     rw add-zero at
-    (sim-whole program (tabled table program) input (standing program table passes room) mostWaiting t words places refl (lies-first input t bytes reads) values
-    returns)
+    (sim-whole program (tabled table program) input (standing program table passes room) mostWaiting t words returns refl (lies-first input t bytes reads) values
+    returns-lent)

@@ -10,8 +10,8 @@ use lib.Dec.{eqb}
 use lib.ListN.{length, getD, set, length-set}
 use lib.Seq.{getD-set-same, getD-set-other}
 use Rattle.formats.specs.Tokens.{Tree}
-use Rattle.stepwise.specs.Steps.{State, Found, through, knownAfter, closing, frameWords, wordAt, withWord, withEnd, copied}
-use Rattle.stepwise.specs.Steps.{treeAt, slotAt, moreAt, framed}
+use Rattle.stepwise.specs.Inner.Steps.{State, Found, finished, knownAfter, closing, frameWords, wordAt, withWord, withEnd, copied}
+use Rattle.stepwise.specs.Inner.Steps.{treeAt, slotAt, moreAt, framed}
 use Rattle.stepwise.proofs.Steps.{closes-waiting}
 use Rattle.stepwise.proofs.Trees.{Lies, Cached, cached-after}
 
@@ -23,14 +23,14 @@ pub record Leaves (input : List ℕ) (names keeps : ℕ) (s s′ : State) : Type
   pub calls : s′ .calls ≡ s .calls
   pub tree : s′ .tree ≡ s .tree
   pub as-many-words : length (s′ .words) ≡ length (s .words)
-  pub as-many-places : length (s′ .places) ≡ length (s .places)
+  pub as-many-returns : length (s′ .returns) ≡ length (s .returns)
   pub below : (i : ℕ) → i < frameWords * s .calls + names → getD (s′ .words) i 0 ≡ getD (s .words) i 0
   pub above :
       (i : ℕ)
       → i < frameWords * s .calls + frameWords
       → frameWords * s .calls + frameWords ≤ i + keeps
       → getD (s′ .words) i 0 ≡ getD (s .words) i 0
-  pub waiting : (i : ℕ) → i < 2 * s .calls → getD (s′ .places) i 0 ≡ getD (s .places) i 0
+  pub waiting : (i : ℕ) → i < 2 * s .calls → getD (s′ .returns) i 0 ≡ getD (s .returns) i 0
   pub cached : Cached input (s .known) (s .end) → Cached input (s′ .known) (s′ .end)
 
 -- another end known
@@ -40,7 +40,7 @@ leaves-end names keeps s known end right = record {
   calls = refl;
   tree = refl;
   as-many-words = refl;
-  as-many-places = refl;
+  as-many-returns = refl;
   below = λ i h. refl;
   above = λ i h h′. refl;
   waiting = λ i h. refl;
@@ -58,7 +58,7 @@ leaves-both names keeps s s′ s″ a b = record {
   calls = b .calls ∙ a .calls;
   tree = b .tree ∙ a .tree;
   as-many-words = b .as-many-words ∙ a .as-many-words;
-  as-many-places = b .as-many-places ∙ a .as-many-places;
+  as-many-returns = b .as-many-returns ∙ a .as-many-returns;
   below = λ i h. b .below i (omega (arith, a .calls)) ∙ a .below i h;
   above = λ i h h′. b .above i (omega (arith, a .calls)) (omega (arith, a .calls)) ∙ a .above i h h′;
   waiting = λ i h. b .waiting i (omega (arith, a .calls)) ∙ a .waiting i h;
@@ -73,7 +73,7 @@ leaves-less names keeps names′ keeps′ s s′ fewer less a = record {
   calls = a .calls;
   tree = a .tree;
   as-many-words = a .as-many-words;
-  as-many-places = a .as-many-places;
+  as-many-returns = a .as-many-returns;
   below = λ i h. a .below i (omega (arith, fewer));
   above = λ i h h′. a .above i h (omega (arith, less));
   waiting = a .waiting;
@@ -87,7 +87,7 @@ leaves-word names keeps s slot x high low = record {
   calls = refl;
   tree = refl;
   as-many-words = length-set (s .words) _ x;
-  as-many-places = refl;
+  as-many-returns = refl;
   below = λ i h. getD-set-other (s .words) (frameWords * s .calls + slot) i x 0 (λ e. absurd (omega arith));
   above = λ i h h′. getD-set-other (s .words) (frameWords * s .calls + slot) i x 0 (λ e. absurd (omega arith));
   waiting = λ i h. refl;
@@ -162,7 +162,7 @@ abbrev pub backIn : List ℕ → List ℕ → ℕ → State → State → State
 backIn T input r s s′ =
     record {
       words = s′ .words;
-      places = s′ .places;
+      returns = s′ .returns;
       calls = s .calls;
       tree = s .tree;
       known = knownAfter T input r (s .tree) s′;
@@ -171,16 +171,16 @@ backIn T input r s s′ =
 
 -- what a call leaves of the frame opened by it brings back its record and its caller's frame
 module _ (T input : List ℕ) (p r : ℕ) (s s′ : State) (names keeps : ℕ) (left : Leaves input names keeps (framed T p r s) s′) where
-  pub closes-back : (x : ℕ) → r < 65536 → suc (2 * s .calls) < length (s .places) → closing T input x s′ ≡ through r x (backIn T input r s s′)
+  pub closes-back : (x : ℕ) → r < 65536 → suc (2 * s .calls) < length (s .returns) → closing T input x s′ ≡ finished r x (backIn T input r s s′)
   closes-back x low room =
-      let saved : List ℕ = set (s .places) (2 * s .calls) r in
-      let the-record : getD (s′ .places) (2 * s .calls) 0 ≡ r =
+      let saved : List ℕ = set (s .returns) (2 * s .calls) r in
+      let the-record : getD (s′ .returns) (2 * s .calls) 0 ≡ r =
       left .waiting (2 * s .calls) (omega arith)
       ∙ getD-set-other saved (suc (2 * s .calls)) (2 * s .calls) (s .tree) 0 (λ e. absurd (omega arith))
-      ∙ getD-set-same (s .places) (2 * s .calls) r 0 (omega arith) in
-      let the-tree : getD (s′ .places) (suc (2 * s .calls)) 0 ≡ s .tree =
+      ∙ getD-set-same (s .returns) (2 * s .calls) r 0 (omega arith) in
+      let the-tree : getD (s′ .returns) (suc (2 * s .calls)) 0 ≡ s .tree =
       left .waiting (suc (2 * s .calls)) (omega arith)
-      ∙ getD-set-same saved (suc (2 * s .calls)) (s .tree) 0 (omega (arith, length-set (s .places) (2 * s .calls) r)) in
+      ∙ getD-set-same saved (suc (2 * s .calls)) (s .tree) 0 (omega (arith, length-set (s .returns) (2 * s .calls) r)) in
       let small : r % 65536 ≡ r = omega arith in
       closes-waiting T input x (s .calls) s′ (left .calls) ∙ rw (the-record, the-tree, small) refl
 
@@ -191,13 +191,13 @@ module _ (T input : List ℕ) (p r : ℕ) (s s′ : State) (names keeps : ℕ) (
     calls = refl;
     tree = refl;
     as-many-words = left .as-many-words ∙ copied-length (s .words) (frameWords * s .calls) (slotAt T (suc r)) (moreAt T r);
-    as-many-places = left .as-many-places ∙ length-set (set (s .places) (2 * s .calls) r) _ _ ∙ length-set (s .places) _ _;
+    as-many-returns = left .as-many-returns ∙ length-set (set (s .returns) (2 * s .calls) r) _ _ ∙ length-set (s .returns) _ _;
     below = λ i h. words-left i (omega (arith, few));
     above = λ i h h′. words-left i h;
     waiting = λ i h.
         left .waiting i (omega arith)
-        ∙ getD-set-other (set (s .places) (2 * s .calls) r) (suc (2 * s .calls)) i (s .tree) 0 (λ e. absurd (omega arith))
-        ∙ getD-set-other (s .places) (2 * s .calls) i r 0 (λ e. absurd (omega arith));
+        ∙ getD-set-other (set (s .returns) (2 * s .calls) r) (suc (2 * s .calls)) i (s .tree) 0 (λ e. absurd (omega arith))
+        ∙ getD-set-other (s .returns) (2 * s .calls) i r 0 (λ e. absurd (omega arith));
     cached = λ h. cached-after r found h own s′ lies (left .tree) (left .cached h);
   }
     where

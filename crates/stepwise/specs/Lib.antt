@@ -1,4 +1,2 @@
 -- The source evaluation step by step: the rows of a program, the steps over them, and that they come to the evaluation's outcome.
-pub mod Rows
-pub mod Steps
-pub mod Comes
+pub mod Inner

@@ -5,13 +5,13 @@ use mathlib.Core.Logic.{_≢_}
 use mathlib.Core.Path.{_≡_, refl, sym, ap}
 use native.Mathlib.Omega.{arith}
 use lib.ListN.{length, getD, List·getD-eq-default}
-use Rattle.formats.specs.CodeColumn.{before}
-use Rattle.records.specs.Read.{row}
+use Rattle.formats.specs.Inner.CodeColumn.{itemsBefore}
+use Rattle.records.specs.Inner.Read.{row}
 use Rattle.records.specs.declared.Item.{Item}
 use Rattle.records.specs.declared.Items.{Items}
 use Rattle.records.specs.declared.Items.the-variants.{None, One, Two}
 use Rattle.records.specs.declared.Template.{Template}
-use Rattle.template.specs.Items.{ItemsBefore}
+use Rattle.template.specs.Inner.Items.{ItemsBefore}
 
 -- ---- `entry_of`, `length_of`
 
@@ -31,19 +31,19 @@ few-items (Two x y) = omega arith
 
 module _ (template : Template) (i : ℕ) where
   pub before-first : i ≡ 0 → ItemsBefore template i (template .first)
-  unfolding before
+  unfolding itemsBefore
   before-first e = rw e (record { is = refl; few = omega (arith, few-items (template .first)) })
 
   pub before-second : i ≡ 1 → ItemsBefore template i (template .second)
-  unfolding before
+  unfolding itemsBefore
   before-second e = rw e (record { is = refl; few = omega (arith, few-items (template .second)) })
 
   pub before-third : i ≡ 2 → ItemsBefore template i (template .third)
-  unfolding before
+  unfolding itemsBefore
   before-third e = rw e (record { is = refl; few = omega (arith, few-items (template .third)) })
 
   pub before-later : i ≢ 0 → i ≢ 1 → i ≢ 2 → ItemsBefore template i None
-  unfolding before
+  unfolding itemsBefore
   before-later n0 n1 n2 =
       let later : i ≡ suc (suc (suc (i - 3))) = omega arith in
       rw later (record { is = refl; few = omega arith })

@@ -1,2 +1,2 @@
 -- What the functions over templates answer.
-pub mod Items
+pub mod Inner

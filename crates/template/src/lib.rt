@@ -3,8 +3,8 @@ use records::Items;
 use records::Template;
 ghost use mathlib.Core.Path.{_≡_};
 ghost use lib.ListN.{length};
-ghost use Rattle.records.specs.Read.{row};
-ghost use Rattle.template.specs.Items.{ItemsBefore, entriesIn};
+ghost use Rattle.records.specs.Inner.Read.{row};
+ghost use Rattle.template.specs.Inner.Items.{ItemsBefore, entriesIn};
 
 // What the table of entries gives where it has none.
 const NO_ENTRY: u16 = 0;

@@ -6,12 +6,12 @@ use native.Mathlib.Omega.{arith}
 use lib.ListN.{length, take}
 use Rattle.formats.specs.Records.{recordBytes}
 use Rattle.formats.specs.Results.{done, verdict}
-use Rattle.formats.specs.Blocks.{mostBytes, flatIn, within}
+use Rattle.formats.specs.Blocks.{mostBytes, flatIn, inRoom}
 use Rattle.formats.proofs.Results.{Value, passed-is, refused-is, then-done, then-refused}
 use Rattle.formats.proofs.Files.{within-room, within-short}
-use Rattle.refusal.specs.Number.{number}
-use Rattle.refusal.specs.Put.{Put}
-use Rattle.refusal.specs.Said.{said}
+use Rattle.refusal.specs.Inner.Numbers.{number}
+use Rattle.refusal.specs.Inner.FilledBuffer.{FilledBuffer}
+use Rattle.refusal.specs.Inner.Verdicts.{verdictResult}
 use Rattle.refusal.specs.declared.Refusal.{Refusal}
 use Rattle.refusal.specs.declared.Refusal.the-variants.{SpaceTooShort}
 use Rattle.refusal.specs.declared.Verdict.{Verdict}
@@ -25,35 +25,35 @@ use Rattle.translation.specs.Templates.{operationsOf, codeOf}
 use Rattle.translation.specs.Calls.{checkedRecords, translateRecords, translateFile}
 use Rattle.translation.proofs.Calls.{as-checked}
 use Rattle.translate.specs.declared.Table.{Table}
-use Rattle.translate.specs.Walk.{Tabled, Ready, LaysAll}
+use Rattle.translate.specs.Inner.Walk.{Tabled, Ready, EmitsAll}
 use Rattle.translate.proofs.Written.{length-bytes}
 
 -- ---- `translate_records`
 
-module _ (s code′ : List ℕ) (checks : Verdict) (told : said checks ≡ checkRecords s) where
-  pub records-refused : (why : Refusal) (place : ℕ) → checks ≡ verdict-is.Refused why place → Put (translateRecords (length code′) s) code′ code′ (Refused why place)
+module _ (s code′ : List ℕ) (checks : Verdict) (reported : verdictResult checks ≡ checkRecords s) where
+  pub records-refused : (why : Refusal) (position : ℕ) → checks ≡ verdict-is.Refused why position → FilledBuffer (translateRecords (length code′) s) code′ code′ (Refused why position)
   unfolding translateRecords
-  records-refused why place is =
-      put-refused _ code′ why place (then-refused _ (refused-is (checkedRecords s) (number why) place (sym (as-checked s) ∙ sym told ∙ ap said is)))
+  records-refused why position is =
+      put-refused _ code′ why position (then-refused _ (refused-is (checkedRecords s) (number why) position (sym (as-checked s) ∙ sym reported ∙ ap verdictResult is)))
 
   module _ (passes : checks ≡ verdict-is.Passed) where
     pub records-asked : verdict (checkedRecords s) ≡ done tt
-    records-asked = sym (as-checked s) ∙ sym told ∙ ap said passes
+    records-asked = sym (as-checked s) ∙ sym reported ∙ ap verdictResult passes
 
     -- the program that passes, and its code
     the-program : Value (checkedRecords s)
     the-program = passed-is (checkedRecords s) records-asked
 
-    into : translateRecords (length code′) s ≡ within (length code′) (codeOf (the-program .value))
+    into : translateRecords (length code′) s ≡ inRoom (length code′) (codeOf (the-program .value))
     unfolding translateRecords
-    into = then-done (λ program. within (length code′) (codeOf program)) (the-program .is)
+    into = then-done (λ program. inRoom (length code′) (codeOf program)) (the-program .is)
 
     module _ (t : Table) (tabled : Tabled s t) where
       long : length (codeOf (the-program .value)) ≡ recordBytes * t .count
       unfolding codeOf
       long = length-bytes (operationsOf (the-program .value)) ∙ ap (λ n. recordBytes * n) (sym (tabled .count (the-program .value) (the-program .is)))
 
-      pub records-short : length code′ < recordBytes * t .count → Put (translateRecords (length code′) s) code′ code′ (Refused SpaceTooShort 0)
+      pub records-short : length code′ < recordBytes * t .count → FilledBuffer (translateRecords (length code′) s) code′ code′ (Refused SpaceTooShort 0)
       records-short short = put-refused _ code′ SpaceTooShort 0 (into ∙ within-short (length code′) _ (omega (arith, long)))
 
       pub records-ready : recordBytes * t .count ≤ length code′ → Ready s (t .entries) code′
@@ -63,21 +63,21 @@ module _ (s code′ : List ℕ) (checks : Verdict) (told : said checks ≡ check
         room = λ program e. omega (arith, tabled .count program e);
       }
 
-      pub records-laid : (after : List ℕ) → recordBytes * t .count ≤ length code′ → LaysAll s code′ after → Put (translateRecords (length code′) s) code′ after (Written (recordBytes * t .count))
-      records-laid after room l =
+      pub records-emitted : (after : List ℕ) → recordBytes * t .count ≤ length code′ → EmitsAll s code′ after → FilledBuffer (translateRecords (length code′) s) code′ after (Written (recordBytes * t .count))
+      records-emitted after room l =
           put-done _ code′ after (codeOf (the-program .value)) (recordBytes * t .count) (into ∙ within-room (length code′) _ (omega (arith, long))) long (l .is (the-program .value) (the-program .is))
 
-pub ruleset records-ways = (records-refused, records-asked, records-short, records-ready, records-laid)
+pub ruleset records-ways = (records-refused, records-asked, records-short, records-ready, records-emitted)
 
 -- ---- `translate_file`
 
-module _ (s space : List ℕ) (size : length space ≡ mostBytes) (after : List ℕ) (taken : Filled) (put : Put (flatIn s) space after taken) where
-  pub file-refused : (before : List ℕ) (why : Refusal) (place : ℕ) → taken ≡ Refused why place → Put (translateFile (length before) s) before before (Refused why place)
+module _ (s space : List ℕ) (size : length space ≡ mostBytes) (after : List ℕ) (taken : Filled) (put : FilledBuffer (flatIn s) space after taken) where
+  pub file-refused : (before : List ℕ) (why : Refusal) (position : ℕ) → taken ≡ Refused why position → FilledBuffer (translateFile (length before) s) before before (Refused why position)
   unfolding translateFile
-  file-refused before why place is = put-refused _ before why place (then-refused (translateRecords (length before)) (not-taken s space size after taken put why place is))
+  file-refused before why position is = put-refused _ before why position (then-refused (translateRecords (length before)) (not-taken s space size after taken put why position is))
 
-  pub file-put : (before last : List ℕ) (bytes : ℕ) (filled : Filled) → taken ≡ Written bytes → Put (translateRecords (length before) (take bytes after)) before last filled
-      → Put (translateFile (length before) s) before last filled
+  pub file-put : (before last : List ℕ) (bytes : ℕ) (filled : Filled) → taken ≡ Written bytes → FilledBuffer (translateRecords (length before) (take bytes after)) before last filled
+      → FilledBuffer (translateFile (length before) s) before last filled
   unfolding translateFile
   file-put before last bytes filled is p =
       let f = taken-out s space size after taken put bytes is in

@@ -5,14 +5,14 @@ use mathlib.Core.Path.{_≡_, refl, sym, ap, ap₂, _∙_}
 use native.Mathlib.Numerals.{add-one}
 use native.Mathlib.Omega.{arith}
 use lib.ListN.{length}
-use Rattle.formats.specs.CodeColumn.{templateOf}
+use Rattle.formats.specs.Inner.CodeColumn.{templateOf}
 use Rattle.formats.specs.Results.{done, onValue}
 use Rattle.formats.specs.Records.{Case, Part, aNumber, aTree, asWhole, underNumber, underTrees, nth, partsOf, nthPart, partCount}
-use Rattle.formats.specs.Programs.{Expr, const, var, add, ifZero, letIn, leafOf, nodeOf, caseOf, call, size, Placed, behind, partsAt, Applied, Signature, arityOf}
+use Rattle.formats.specs.Programs.{Expr, const, var, add, ifZero, letIn, leafOf, nodeOf, caseOf, call, size, Placed, placedAt, partsAt, Applied, Signature, arityOf}
 use Rattle.formats.specs.Rows.{arityIn, nodeIn}
 use Rattle.formats.proofs.Results.{done-injective, then-inv}
 use Rattle.formats.proofs.Programs.{some-record}
-use Rattle.records.specs.Read.{Shape as ShapeRead, listed, partOf, columnOf, described, shapeOf, shaped}
+use Rattle.records.specs.Inner.Read.{Shape as ShapeRead, listed, partOf, columnOf, described, shapeOf, shaped}
 use Rattle.records.specs.declared.Record.{Record}
 use Rattle.records.specs.declared.Part.{Part as PartRead}
 use Rattle.records.specs.declared.Parts.{Parts}
@@ -23,17 +23,17 @@ use Rattle.rules.specs.Types.{Ty, resultType}
 use Rattle.rules.specs.Scopes.{scope, inside, partScope, entry, entered}
 use Rattle.rules.specs.PassOne.{wordsTested, atEntry, passOver}
 use Rattle.rules.proofs.Entries.{part-scopes}
-use Rattle.walks.specs.Standing.{headOf, Row, next, passParts}
+use Rattle.walks.specs.Inner.Standing.{headOf, Row, next, passParts}
 use Rattle.rules.proofs.PassOne.{Passes, pass-let}
 use Rattle.rules.proofs.Words.{tested, room}
 use Rattle.walks.proofs.Walks.{node-held, parts-counted, pass-parts, row-upto}
 use Rattle.walks.proofs.Lists.{row-others}
 use Rattle.walks.proofs.Here.{parts-after, first-here, rest-from}
-use Rattle.code_scope.specs.Around.{Around, partAround, sortOf, aroundOf, mostNames, Binds, Enterable, Enters, insideScope}
+use Rattle.code_scope.specs.Inner.Around.{Around, partAround, sortOf, aroundOf, mostNames, Binds, Enterable, Enters, insideScope}
 use Rattle.code_scope.proofs.Scopes.{enters}
 use Rattle.code_scope.specs.declared.Scope.{Scope}
 use Rattle.translate.specs.declared.Shape.{Shape}
-use Rattle.translate.specs.Walk.{Entering, EnteringParts}
+use Rattle.translate.specs.Inner.Walk.{Entering, EnteringParts}
 
 -- ---- a word for a number that is named
 
@@ -79,11 +79,11 @@ agrees underTrees i x g n = record { numbers = g; trees = suc (suc n); is = refl
 -- ---- from an expression to its parts
 
 module _ {s : List ℕ} {k end : ℕ} {c : Scope} {e : Expr} (read : RecordRead) (node : Record) (parts : Parts) (template : Template) (count : ℕ)
-    (told : described read ≡ onValue shapeOf (nodeIn s k)) (is : read ≡ Read node parts template)
+    (reported : described read ≡ onValue shapeOf (nodeIn s k)) (is : read ≡ Read node parts template)
     (counted : count ≡ partCount (arityIn s) (listed parts)) (h : Entering s k end c e) where
   -- what is read is the expression's own record
   own-shape : shaped node parts template ≡ shapeOf (headOf e)
-  own-shape = done-injective (ap described (sym is) ∙ told ∙ ap (onValue shapeOf) (node-held s (h .here .signed) k e (h .here .holds)))
+  own-shape = done-injective (ap described (sym is) ∙ reported ∙ ap (onValue shapeOf) (node-held s (h .here .signed) k e (h .here .holds)))
 
   pub own-parts : listed parts ≡ partsOf (headOf e)
   own-parts = ap (λ (x : ShapeRead). x .parts) own-shape
@@ -116,10 +116,10 @@ module _ {s : List ℕ} {k end : ℕ} {c : Scope} {e : Expr} (read : RecordRead)
 -- ---- from parts to the first of them, and the others
 
 -- a part is placed where it stands
-row-place : {s : List ℕ} {gs : List Signature} {k j m : ℕ} {e : Expr} {ps : List Placed} → Row s gs k (behind j e ∷ ps) m → j ≡ k
-row-place (next here later) = refl
+row-position : {s : List ℕ} {gs : List Signature} {k j m : ℕ} {e : Expr} {ps : List Placed} → Row s gs k (placedAt j e ∷ ps) m → j ≡ k
+row-position (next here later) = refl
 
-module _ {s : List ℕ} {shape : Shape} {i k end m : ℕ} {c : Scope} {j : ℕ} {e : Expr} {ps : List Placed} (h : EnteringParts s shape i k end c (behind j e ∷ ps) m) where
+module _ {s : List ℕ} {shape : Shape} {i k end m : ℕ} {c : Scope} {j : ℕ} {e : Expr} {ps : List Placed} (h : EnteringParts s shape i k end c (placedAt j e ∷ ps) m) where
   -- part i of its record
   abbrev own : Part
   own = nthPart (partsOf (h .kind)) i
@@ -158,7 +158,7 @@ module _ {s : List ℕ} {shape : Shape} {i k end m : ℕ} {c : Scope} {j : ℕ} 
     pub first-entered : Entering s k end inner e
     first-entered =
         let sc = agrees own i (aroundOf c) (h .numbers) (h .trees) in
-        let place : j ≡ k = row-place (h .here .row) in
+        let position : j ≡ k = row-position (h .here .row) in
         let inside-is : inside (h .kind) i (scope (h .numbers) (h .trees) (c .standing) (resultType (sortOf (c .tree)))) ≡ scope (sc .numbers) (sc .trees) (inner .standing) (resultType (sortOf (inner .tree))) =
         part-scopes (arityIn s) (h .kind) i _ (omega (arith, h .from .left, h .from .many))
         ∙ sc .is
@@ -167,7 +167,7 @@ module _ {s : List ℕ} {shape : Shape} {i k end m : ℕ} {c : Scope} {j : ℕ} 
           here = first-here (h .here);
           numbers = sc .numbers;
           trees = sc .trees;
-          passes = ap₂ (λ x r. passOver (h .here .signed) (entered x r e)) (sym inside-is) (sym place) ∙ passed .first;
+          passes = ap₂ (λ x r. passOver (h .here .signed) (entered x r e)) (sym inside-is) (sym position) ∙ passed .first;
           table = scope-entered .table;
           named = scope-entered .named;
           words = omega (arith, h .words, scope-entered .standing);

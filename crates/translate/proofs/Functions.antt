@@ -1,4 +1,4 @@
--- A function laid down: what is known on entering its body, its body, and its return.
+-- A function emitted: what is known on entering its body, its body, and its return.
 use Prim.Native.Nat.{ℕ, zero, suc, _+_, _*_, _≤_, min}
 use mathlib.Core.Bool.{Bool, true, false}
 use mathlib.Core.List.{List, [], _∷_}
@@ -7,7 +7,7 @@ use native.Mathlib.Nat.{add-zero}
 use native.Mathlib.Omega.{arith}
 use lib.Dec.{eqb}
 use lib.ListN.{length}
-use Rattle.formats.specs.Places.{fromLast}
+use Rattle.formats.specs.Buffers.{fromLast}
 use Rattle.formats.specs.Records.{recordBytes, bytesOfRecord, fields}
 use Rattle.formats.specs.Programs.{Sort, numberValued, treeValued, sortNumber, Function, signatureOf}
 use Rattle.formats.specs.Rows.{arityIn, sortIn}
@@ -17,16 +17,16 @@ use Rattle.meaning.specs.Instructions.{Return, instructionOf}
 use Rattle.rules.specs.Types.{resultType}
 use Rattle.rules.specs.Scopes.{scope, entered}
 use Rattle.rules.specs.PassOne.{passOver}
-use Rattle.walks.specs.Limits.{parametersOfAny}
-use Rattle.translation.specs.Templates.{behind, code, firstWords, wordsKept, functionCode, behindFunction}
+use Rattle.walks.specs.Inner.Limits.{parametersOfAny}
+use Rattle.translation.specs.Templates.{codeEnd, code, firstWords, wordsKept, functionCode, functionEnd}
 use Rattle.translation.proofs.Addresses.{length-code}
-use Rattle.code_scope.specs.Around.{Around, around, sortOf, wordsIn, mostNames}
-use Rattle.template.specs.Items.{entriesIn}
+use Rattle.code_scope.specs.Inner.Around.{Around, around, sortOf, wordsIn, mostNames}
+use Rattle.template.specs.Inner.Items.{entriesIn}
 use Rattle.code_scope.specs.declared.Scope.{Scope}
-use Rattle.translate.specs.declared.Laid.{Laid}
-use Rattle.translate.specs.Laying.{laidAt}
-use Rattle.translate.specs.Walk.{Small, Entering, Lays, startAround, Starts, EnteringFunction, LaysFunction}
-use Rattle.translate.proofs.Written.{laid-behind, laid-one}
+use Rattle.translate.specs.declared.Emitted.{Emitted}
+use Rattle.translate.specs.Inner.Emitting.{emittedAt}
+use Rattle.translate.specs.Inner.Walk.{Small, Entering, Emits, startAround, Starts, EnteringFunction, EmitsFunction}
+use Rattle.translate.proofs.Written.{emitted-beyond, emitted-one}
 
 -- ---- `start`
 
@@ -79,10 +79,10 @@ kept-number tree e = rw (e, wordsKept)
 
 pub ruleset kept = (kept-tree, kept-number)
 
--- ---- `lay_function`
+-- ---- `emit_function`
 
-module _ (s entries code′ : List ℕ) (entry j k end : ℕ) (c : Scope) (starts : Starts s j c) (body : Laid) (between : List ℕ)
-    (small : Small k end entry 0 1) (l : Lays s entries code′ between entry 0 k end c body) where
+module _ (s entries code′ : List ℕ) (entry j k end : ℕ) (c : Scope) (starts : Starts s j c) (body : Emitted) (between : List ℕ)
+    (small : Small k end entry 0 1) (l : Emits s entries code′ between entry 0 k end c body) where
   -- the body is entered
   body-entered : (f : Function) → EnteringFunction s j k end f → Entering s k end c (f .body)
   body-entered f h =
@@ -99,11 +99,11 @@ module _ (s entries code′ : List ℕ) (entry j k end : ℕ) (c : Scope) (start
         words = omega (arith, small .inside .few, h .few-parameters);
       }
 
-  pub function-laid : (n : ℕ) (after : List ℕ) → n ≡ wordsKept (sortOf (c .tree))
+  pub function-emitted : (n : ℕ) (after : List ℕ) → n ≡ wordsKept (sortOf (c .tree))
       → after ≡ written between (recordBytes * body .at) (bytesOfRecord (fields 13 n 0 0))
-      → LaysFunction s entries code′ after entry j k end (record { next = body .next; at = body .at + 1; last = 0 })
-  unfolding functionCode behindFunction instructionOf
-  function-laid n after keeps wrote = record {
+      → EmitsFunction s entries code′ after entry j k end (record { next = body .next; at = body .at + 1; last = 0 })
+  unfolding functionCode functionEnd instructionOf
+  function-emitted n after keeps wrote = record {
     went-on = record {
       went = l .went-on .went;
       up = omega arith;
@@ -112,23 +112,23 @@ module _ (s entries code′ : List ℕ) (entry j k end : ℕ) (c : Scope) (start
     };
     next = λ f h. l .came (f .body) (body-entered f h) .next;
     address = λ f h. omega (arith, address f h);
-    lays = λ f h room.
+    emits = λ f h room.
         let is = starts .begins .is f (h .signature) (h .few-parameters) in
         let sort : sortOf (c .tree) ≡ f .sort = ap (λ (x : Around). x .sort) is in
         let own = code (entriesIn entries) (f .sort) (firstWords (f .parameters)) (f .parameters) entry (f .body) in
-        let first : between ≡ laidAt code′ 0 own =
-        l .lays (f .body) (body-entered f h) (omega arith)
-        ∙ ap₂ (λ (x : Around) a. laidAt code′ 0 (code (entriesIn entries) (x .sort) (x .words) (x .standing) a (f .body))) is (add-zero entry) in
+        let first : between ≡ emittedAt code′ 0 own =
+        l .emits (f .body) (body-entered f h) (omega arith)
+        ∙ ap₂ (λ (x : Around) a. emittedAt code′ 0 (code (entriesIn entries) (x .sort) (x .words) (x .standing) a (f .body))) is (add-zero entry) in
         let long : body .at ≡ 0 + length own = omega (arith, address f h, length-code (entriesIn entries) (f .sort) (firstWords (f .parameters)) (f .parameters) entry (f .body)) in
         wrote
         ∙ ap (λ m. written between (recordBytes * body .at) (bytesOfRecord (fields 13 m 0 0))) (keeps ∙ ap wordsKept sort)
-        ∙ laid-one between (body .at) (Return (wordsKept (f .sort)))
-        ∙ ap (λ (b : List ℕ). laidAt b (body .at) (Return (wordsKept (f .sort)) ∷ [])) first
-        ∙ laid-behind code′ 0 own (Return (wordsKept (f .sort)) ∷ []) (body .at) long (omega arith);
+        ∙ emitted-one between (body .at) (Return (wordsKept (f .sort)))
+        ∙ ap (λ (b : List ℕ). emittedAt b (body .at) (Return (wordsKept (f .sort)) ∷ [])) first
+        ∙ emitted-beyond code′ 0 own (Return (wordsKept (f .sort)) ∷ []) (body .at) long (omega arith);
   }
     where
-      address : (f : Function) → EnteringFunction s j k end f → entry + body .at ≡ behind (f .body) entry
-      address f h = l .came (f .body) (body-entered f h) .address ∙ ap (behind (f .body)) (add-zero entry)
+      address : (f : Function) → EnteringFunction s j k end f → entry + body .at ≡ codeEnd (f .body) entry
+      address f h = l .came (f .body) (body-entered f h) .address ∙ ap (codeEnd (f .body)) (add-zero entry)
 
 pub body-asked : (k end entry : ℕ) → Small k end entry 0 1 → Small k end entry 0 0
 body-asked k end entry small = record { inside = small .inside; base-small = small .base-small; small = omega (arith, small .small) }

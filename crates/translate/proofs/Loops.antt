@@ -18,19 +18,19 @@ use Rattle.formats.specs.Rows.{headerIn}
 use Rattle.formats.proofs.Results.{Value, passed-is}
 use Rattle.formats.proofs.Rows.{flattens}
 use Rattle.formats.proofs.Written.{written-fits}
-use Rattle.walks.specs.Limits.{recordInstructions, mostLaid}
-use Rattle.walks.specs.Walks.{Inside}
+use Rattle.walks.specs.Inner.Limits.{recordInstructions, mostEmitted}
+use Rattle.walks.specs.Inner.Walks.{Inside}
 use Rattle.walks.proofs.Walks.{program-held}
 use Rattle.meaning.specs.Instructions.{Operation, instructionOf}
 use Rattle.translation.specs.Calls.{checkedRecords}
 use Rattle.translation.proofs.Operands.{ends, length-function}
-use Rattle.translation.specs.Templates.{functionCode, behindFunction, functionsCode, entryOf, operationsOf, codeOf}
-use Rattle.template.specs.Items.{entriesIn}
-use Rattle.translate.specs.declared.Laid.{Laid}
-use Rattle.translate.specs.Laying.{laidAt}
-use Rattle.translate.specs.Walk.{Small, LaysFunction, Tabled, Ready, LaysAll}
-use Rattle.translate.proofs.Written.{length-bytes, length-laid, laid-none, laid-behind}
-use Rattle.translate.proofs.All.{was-checked, behindAll, behind-more, code-more, length-all, FunctionsLeft, Next, next-function, all-left, none-left, entry-here, same-function}
+use Rattle.translation.specs.Templates.{functionCode, functionEnd, functionsCode, entryOf, operationsOf, codeOf}
+use Rattle.template.specs.Inner.Items.{entriesIn}
+use Rattle.translate.specs.declared.Emitted.{Emitted}
+use Rattle.translate.specs.Inner.Emitting.{emittedAt}
+use Rattle.translate.specs.Inner.Walk.{Small, EmitsFunction, Tabled, Ready, EmitsAll}
+use Rattle.translate.proofs.Written.{length-bytes, length-emitted, emitted-none, emitted-beyond}
+use Rattle.translate.proofs.All.{was-checked, beyondAll, beyond-more, code-more, length-all, FunctionsLeft, Next, next-function, all-left, none-left, entry-here, same-function}
 
 -- ---- what both loops know
 
@@ -59,26 +59,26 @@ counted s functions nodes end bytes checked ef en el =
 pub record Standing (s : List ℕ) (end : ℕ) (program : Program) (k j entry : ℕ) : Type 0 where
   before : List Function
   left : FunctionsLeft s end program before k j
-  entry-is : entry ≡ behindAll before 0
+  entry-is : entry ≡ beyondAll before 0
 
--- the next one is laid down
-record Following (s : List ℕ) (end : ℕ) (program : Program) (k j entry : ℕ) (before : List Function) (r : Laid) : Type 0 where
+-- the next one is emitted
+record Following (s : List ℕ) (end : ℕ) (program : Program) (k j entry : ℕ) (before : List Function) (r : Emitted) : Type 0 where
   next : Next s end program before k j
   left : FunctionsLeft s end program (before ++ (next .here ∷ [])) (r .next) (j + 1)
-  entry-is : entry + r .at ≡ behindAll (before ++ (next .here ∷ [])) 0
+  entry-is : entry + r .at ≡ beyondAll (before ++ (next .here ∷ [])) 0
   begins : entryOf program j ≡ entry
 
-following : (s entries code′ after : List ℕ) (end : ℕ) (program : Program) (k j entry : ℕ) (st : Standing s end program k j entry) (r : Laid)
+following : (s entries code′ after : List ℕ) (end : ℕ) (program : Program) (k j entry : ℕ) (st : Standing s end program k j entry) (r : Emitted)
     → j < length (program .functions)
-    → LaysFunction s entries code′ after entry j k end r
+    → EmitsFunction s entries code′ after entry j k end r
     → Following s end program k j entry (st .before) r
 following s entries code′ after end program k j entry st r more l =
     let n = next-function s end program (st .before) k j (st .left) more in
-    let place : r .next ≡ k + size (n .here .body) = l .next (n .here) (n .entering) in
+    let position : r .next ≡ k + size (n .here .body) = l .next (n .here) (n .entering) in
     record {
       next = n;
-      left = rw place (n .left);
-      entry-is = l .address (n .here) (n .entering) ∙ ap (behindFunction (n .here)) (st .entry-is) ∙ sym (behind-more (st .before) (n .here) 0);
+      left = rw position (n .left);
+      entry-is = l .address (n .here) (n .entering) ∙ ap (functionEnd (n .here)) (st .entry-is) ∙ sym (beyond-more (st .before) (n .here) 0);
       begins = entry-here s end program (st .before) k j (st .left) ∙ sym (st .entry-is);
     }
 
@@ -86,7 +86,7 @@ following s entries code′ after end program k j entry st r more l =
 begun : (s : List ℕ) (functions nodes end : ℕ) (program : Program) → Bytes s → functions ≡ headerIn s .functions → nodes ≡ headerIn s .nodes → end ≡ 1 + functions + nodes
     → checkedRecords s ≡ done program
     → Standing s end program (1 + functions) 0 0
-unfolding behindAll
+unfolding beyondAll
 begun s functions nodes end program bytes ef en el e =
     record { before = []; left = all-left s end program functions nodes bytes (was-checked s program e) ef en el; entry-is = refl }
 
@@ -97,7 +97,7 @@ pub record Measuring (s : List ℕ) (functions end : ℕ) (entries : List ℕ) (
   pub counts : Counts s functions end
   pub table : length entries ≡ mostFunctions
   pub inside : Inside k end
-  pub small : entry + recordInstructions * (end - k) + (functions - j) ≤ mostLaid
+  pub small : entry + recordInstructions * (end - k) + (functions - j) ≤ mostEmitted
   pub standing : (program : Program) → checkedRecords s ≡ done program → Standing s end program k j entry
   pub entered : (program : Program) → checkedRecords s ≡ done program → (b : ℕ) → b < j → getD entries b 0 ≡ entryOf program b
 
@@ -126,7 +126,7 @@ module _ (s : List ℕ) (functions end : ℕ) (entries : List ℕ) (k entry j : 
   pub measure-index : j < functions → j < mostFunctions
   measure-index more = omega (arith, m .counts .few)
 
-  pub measure-more : (no-entries no-code after : List ℕ) (r : Laid) → j < functions → LaysFunction s no-entries no-code after entry j k end r
+  pub measure-more : (no-entries no-code after : List ℕ) (r : Emitted) → j < functions → EmitsFunction s no-entries no-code after entry j k end r
       → Measuring s functions end (set entries j (entry % 65536)) (r .next) (entry + r .at) (j + 1)
   measure-more no-entries no-code after r more l = record {
     counts = m .counts;
@@ -148,7 +148,7 @@ module _ (s : List ℕ) (functions end : ℕ) (entries : List ℕ) (k entry j : 
       follow : (program : Program) (e : checkedRecords s ≡ done program) → Following s end program k j entry (m .standing program e .before) r
       follow program e = following s no-entries no-code after end program k j entry (m .standing program e) r (omega (arith, m .counts .functions-are program e)) l
 
-  pub measure-sum : (no-entries no-code after : List ℕ) (r : Laid) → j < functions → LaysFunction s no-entries no-code after entry j k end r → Fits w64 (entry + r .at)
+  pub measure-sum : (no-entries no-code after : List ℕ) (r : Emitted) → j < functions → EmitsFunction s no-entries no-code after entry j k end r → Fits w64 (entry + r .at)
   measure-sum no-entries no-code after r more l = record { fits = omega (arith, m .small, l .went-on .small) }
 
   pub measured : functions ≤ j → Tabled s (record { entries = entries; count = entry })
@@ -158,30 +158,30 @@ module _ (s : List ℕ) (functions end : ℕ) (entries : List ℕ) (k entry j : 
     count = λ program e.
         let st = m .standing program e in
         let all = none-left s end program (st .before) k j (st .left) (omega (arith, m .counts .functions-are program e)) in
-        st .entry-is ∙ ap (λ fs. behindAll fs 0) all ∙ sym (length-all (entryOf program) 0 (program .functions)) ∙ zero-add (length (functionsCode (entryOf program) 0 (program .functions)));
+        st .entry-is ∙ ap (λ fs. beyondAll fs 0) all ∙ sym (length-all (entryOf program) 0 (program .functions)) ∙ zero-add (length (functionsCode (entryOf program) 0 (program .functions)));
     small = omega (arith, m .small);
   }
 
 pub ruleset measuring = (measure-first, measure-asked, measure-index, measure-more, measure-sum, measured, needs)
 
--- ---- `lay_all`
+-- ---- `emit_all`
 
--- functions end behind those before them
-behind-up : (fs : List Function) (a : ℕ) → a ≤ behindAll fs a
-unfolding behindAll behindFunction
-behind-up [] a = omega arith
-behind-up (f ∷ fs) a = omega (arith, ends (f .body) a, behind-up fs (behindFunction f a))
+-- functions end after those before them
+beyond-up : (fs : List Function) (a : ℕ) → a ≤ beyondAll fs a
+unfolding beyondAll functionEnd
+beyond-up [] a = omega arith
+beyond-up (f ∷ fs) a = omega (arith, ends (f .body) a, beyond-up fs (functionEnd f a))
 
-behind-front : (fs gs : List Function) (a : ℕ) → behindAll fs a ≤ behindAll (fs ++ gs) a
-unfolding behindAll
-behind-front [] gs a = behind-up gs a
-behind-front (f ∷ fs) gs a = behind-front fs gs (behindFunction f a)
+beyond-front : (fs gs : List Function) (a : ℕ) → beyondAll fs a ≤ beyondAll (fs ++ gs) a
+unfolding beyondAll
+beyond-front [] gs a = beyond-up gs a
+beyond-front (f ∷ fs) gs a = beyond-front fs gs (functionEnd f a)
 
--- instructions laid down at the start of a part of the buffer
-laid-part : (s : List ℕ) (a : ℕ) (ops : List Operation) → recordBytes * (a + length ops) ≤ length s
-    → take (recordBytes * a) s ++ laidAt (drop (recordBytes * a) s) 0 ops ≡ laidAt s a ops
-unfolding laidAt
-laid-part s a ops fits =
+-- instructions emitted at the start of a part of the buffer
+emitted-part : (s : List ℕ) (a : ℕ) (ops : List Operation) → recordBytes * (a + length ops) ≤ length s
+    → take (recordBytes * a) s ++ emittedAt (drop (recordBytes * a) s) 0 ops ≡ emittedAt s a ops
+unfolding emittedAt
+emitted-part s a ops fits =
     let p = recordBytes * a in
     let vs = flat (map instructionOf ops) in
     let long = length-bytes ops in
@@ -190,14 +190,14 @@ laid-part s a ops fits =
     (written-fits (drop p s) 0 vs inside ∙ ap (λ n. vs ++ drop n (drop p s)) (zero-add (length vs)) ∙ ap (λ (l : List ℕ). vs ++ l) (drop-drop (length vs) p s))
     ∙ sym (written-fits s p vs (omega arith))
 
--- The functions before j are laid down.
+-- The functions before j are emitted.
 pub record UpTo (s : List ℕ) (functions end : ℕ) (code₀ code : List ℕ) (k j : ℕ) (program : Program) : Type 0 where
   pub before : List Function
   pub left : FunctionsLeft s end program before k j
-  pub laid : code ≡ laidAt code₀ 0 (functionsCode (entryOf program) 0 before)
-  pub small : behindAll before 0 + recordInstructions * (end - k) + (functions - j) ≤ mostLaid
+  pub emitted : code ≡ emittedAt code₀ 0 (functionsCode (entryOf program) 0 before)
+  pub small : beyondAll before 0 + recordInstructions * (end - k) + (functions - j) ≤ mostEmitted
 
-pub record LayingAll (s entries : List ℕ) (functions end : ℕ) (code₀ code : List ℕ) (k j : ℕ) : Type 0 where
+pub record EmittingAll (s entries : List ℕ) (functions end : ℕ) (code₀ code : List ℕ) (k j : ℕ) : Type 0 where
   pub ready : Ready s entries code₀
   pub counts : Counts s functions end
   pub inside : Inside k end
@@ -205,8 +205,8 @@ pub record LayingAll (s entries : List ℕ) (functions end : ℕ) (code₀ code 
 
 pub all-first : (s entries : List ℕ) (functions nodes end : ℕ) (code : List ℕ) → Bytes s → Ready s entries code → functions ≡ headerIn s .functions → nodes ≡ headerIn s .nodes
     → end ≡ 1 + functions + nodes
-    → LayingAll s entries functions end code code (1 + functions) 0
-unfolding functionsCode behindAll
+    → EmittingAll s entries functions end code code (1 + functions) 0
+unfolding functionsCode beyondAll
 all-first s entries functions nodes end code bytes ready ef en el =
     let c = counted s functions nodes end bytes (ready .checked) ef en el in
     record {
@@ -216,25 +216,25 @@ all-first s entries functions nodes end code bytes ready ef en el =
       up-to = λ program e. record {
         before = [];
         left = all-left s end program functions nodes bytes (was-checked s program e) ef en el;
-        laid = sym (laid-none code 0);
+        emitted = sym (emitted-none code 0);
         small = omega (arith, c .few, c .short);
       };
     }
 
-module _ (s entries : List ℕ) (functions end : ℕ) (code₀ code : List ℕ) (k j : ℕ) (l : LayingAll s entries functions end code₀ code k j) where
+module _ (s entries : List ℕ) (functions end : ℕ) (code₀ code : List ℕ) (k j : ℕ) (l : EmittingAll s entries functions end code₀ code k j) where
   -- the end
-  pub all-laid : functions ≤ j → LaysAll s code₀ code
-  unfolding codeOf operationsOf laidAt
-  all-laid over = record {
+  pub all-emitted : functions ≤ j → EmitsAll s code₀ code
+  unfolding codeOf operationsOf emittedAt
+  all-emitted over = record {
     is = λ program e.
         let u = l .up-to program e in
         let all = none-left s end program (u .before) k j (u .left) (omega (arith, l .counts .functions-are program e)) in
-        u .laid ∙ ap (λ fs. laidAt code₀ 0 (functionsCode (entryOf program) 0 fs)) all;
+        u .emitted ∙ ap (λ fs. emittedAt code₀ 0 (functionsCode (entryOf program) 0 fs)) all;
   }
 
   module _ (entry : ℕ) (is : entry ≡ entriesIn entries j) (more : j < functions) where
     -- where function j begins
-    begins-at : (program : Program) (e : checkedRecords s ≡ done program) → entry ≡ behindAll (l .up-to program e .before) 0
+    begins-at : (program : Program) (e : checkedRecords s ≡ done program) → entry ≡ beyondAll (l .up-to program e .before) 0
     begins-at program e =
         is ∙ l .ready .entered program e j (omega (arith, l .counts .functions-are program e)) ∙ entry-here s end program _ k j (l .up-to program e .left)
 
@@ -248,10 +248,10 @@ module _ (s entries : List ℕ) (functions end : ℕ) (code₀ code : List ℕ) 
           arith,
           l .ready .room program e,
           length-all (entryOf program) 0 (program .functions),
-          ap (λ gs. behindAll gs 0) split,
-          behind-front (u .before) fs 0,
+          ap (λ gs. beyondAll gs 0) split,
+          beyond-front (u .before) fs 0,
           begins-at program e,
-          ap length (u .laid) ∙ length-laid code₀ 0 (functionsCode (entryOf program) 0 (u .before)),
+          ap length (u .emitted) ∙ length-emitted code₀ 0 (functionsCode (entryOf program) 0 (u .before)),
         )
 
     -- some program was checked
@@ -271,10 +271,10 @@ module _ (s entries : List ℕ) (functions end : ℕ) (code₀ code : List ℕ) 
           small = omega (arith, l .counts .few, l .counts .short);
         }
 
-    laid-on : (after : List ℕ) (r : Laid) → LaysFunction s entries (drop (recordBytes * entry) code) after entry j k end r
-        → LayingAll s entries functions end code₀ (take (recordBytes * entry) code ++ after) (r .next) (j + 1)
+    emitted-on : (after : List ℕ) (r : Emitted) → EmitsFunction s entries (drop (recordBytes * entry) code) after entry j k end r
+        → EmittingAll s entries functions end code₀ (take (recordBytes * entry) code ++ after) (r .next) (j + 1)
     unfolding operationsOf
-    laid-on after r f = record {
+    emitted-on after r f = record {
       ready = l .ready;
       counts = l .counts;
       inside = record { before-end = f .went-on .went .inside; few = l .inside .few };
@@ -289,36 +289,36 @@ module _ (s entries : List ℕ) (functions end : ℕ) (code₀ code : List ℕ) 
           let long-own = length-function (entryOf program) entry here in
           let address = f .address here (o .next .entering) in
           let long-done : entry ≡ 0 + length done-code = at ∙ sym (length-all (entryOf program) 0 (u .before)) in
-          let long : length code ≡ length code₀ = ap length (u .laid) ∙ length-laid code₀ 0 done-code in
+          let long : length code ≡ length code₀ = ap length (u .emitted) ∙ length-emitted code₀ 0 done-code in
           let room : recordBytes * (entry + r .at) ≤ length code₀ = omega (
             arith,
             l .ready .room program e,
             length-all (entryOf program) 0 (program .functions),
-            ap (λ gs. behindAll gs 0) (o .left .split),
-            behind-front (u .before ++ (here ∷ [])) (o .left .others) 0,
+            ap (λ gs. beyondAll gs 0) (o .left .split),
+            beyond-front (u .before ++ (here ∷ [])) (o .left .others) 0,
             o .entry-is,
           ) in
-          let laid-own : after ≡ laidAt (drop (recordBytes * entry) code) 0 own =
-          f .lays here (o .next .entering) (omega (arith, length-drop (recordBytes * entry) code))
-          ∙ ap (laidAt (drop (recordBytes * entry) code) 0) (same-function (entriesIn entries) (entryOf program) (length (program .functions)) (l .ready .entered program e) entry here (o .next .in-range)) in
+          let emitted-own : after ≡ emittedAt (drop (recordBytes * entry) code) 0 own =
+          f .emits here (o .next .entering) (omega (arith, length-drop (recordBytes * entry) code))
+          ∙ ap (emittedAt (drop (recordBytes * entry) code) 0) (same-function (entriesIn entries) (entryOf program) (length (program .functions)) (l .ready .entered program e) entry here (o .next .in-range)) in
           record {
             before = u .before ++ (here ∷ []);
             left = o .left;
-            laid =
-                ap (λ (x : List ℕ). take (recordBytes * entry) code ++ x) laid-own
-                ∙ laid-part code entry own (omega arith)
-                ∙ ap (λ (x : List ℕ). laidAt x entry own) (u .laid)
-                ∙ laid-behind code₀ 0 done-code own entry long-done (omega arith)
-                ∙ ap (λ n. laidAt code₀ 0 (done-code ++ functionCode (entryOf program) n here)) at
-                ∙ ap (laidAt code₀ 0) (sym (code-more (entryOf program) 0 (u .before) here));
+            emitted =
+                ap (λ (x : List ℕ). take (recordBytes * entry) code ++ x) emitted-own
+                ∙ emitted-part code entry own (omega arith)
+                ∙ ap (λ (x : List ℕ). emittedAt x entry own) (u .emitted)
+                ∙ emitted-beyond code₀ 0 done-code own entry long-done (omega arith)
+                ∙ ap (λ n. emittedAt code₀ 0 (done-code ++ functionCode (entryOf program) n here)) at
+                ∙ ap (emittedAt code₀ 0) (sym (code-more (entryOf program) 0 (u .before) here));
             small = omega (arith, u .small, f .went-on .small, o .entry-is, at);
           };
     }
 
     -- the part lent is the rest of the buffer
-    pub all-more : (after : List ℕ) (r : Laid)
-        → LaysFunction s entries (take (length code - recordBytes * entry) (drop (recordBytes * entry) code)) after entry j k end r
-        → LayingAll s entries functions end code₀
+    pub all-more : (after : List ℕ) (r : Emitted)
+        → EmitsFunction s entries (take (length code - recordBytes * entry) (drop (recordBytes * entry) code)) after entry j k end r
+        → EmittingAll s entries functions end code₀
         (take (recordBytes * entry) code ++ (after ++ drop (length code - recordBytes * entry) (drop (recordBytes * entry) code)))
         (r .next)
         (j + 1)
@@ -328,12 +328,12 @@ module _ (s entries : List ℕ) (functions end : ℕ) (code₀ code : List ℕ) 
         let long = length-drop p code in
         let part : take n (drop p code) ≡ drop p code = take-all n (drop p code) (omega arith) in
         let rest : drop n (drop p code) ≡ [] = drop-of-length-le (drop p code) {i = n} (omega arith) in
-        rw (rest, append-nil) (laid-on after r (rw part at f))
+        rw (rest, append-nil) (emitted-on after r (rw part at f))
 
   -- the buffer keeps its length
   pub all-length : length code ≡ length code₀
   all-length =
       let v = passed-is (checkedRecords s) (l .ready .checked) in
-      ap length (l .up-to (v .value) (v .is) .laid) ∙ length-laid code₀ 0 _
+      ap length (l .up-to (v .value) (v .is) .emitted) ∙ length-emitted code₀ 0 _
 
-pub ruleset laying-all = (all-first, all-room, all-asked, all-more, all-length, all-laid, needs)
+pub ruleset emitting-all = (all-first, all-room, all-asked, all-more, all-length, all-emitted, needs)

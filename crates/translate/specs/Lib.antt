@@ -1,3 +1,2 @@
--- How code is laid down, and what the functions that do so answer.
-pub mod Laying
-pub mod Walk
+-- How code is emitted, and what the functions that do so answer.
+pub mod Inner

@@ -1,7 +1,7 @@
 // The translator: from a program's records to its code, by 01, Templates.
 use block_reader::MOST_BYTES;
 use code_scope::Scope;
-use lay_items::Labels;
+use emit_items::Labels;
 use records::Parts;
 use records::RecordRead;
 use records::Template;
@@ -11,11 +11,11 @@ use refusal::Verdict;
 ghost use mathlib.Core.Path.{_≡_};
 ghost use lib.ListN.{length};
 ghost use Rattle.formats.specs.Results.{done, verdict};
-ghost use Rattle.refusal.specs.Put.{Put};
+ghost use Rattle.refusal.specs.Inner.FilledBuffer.{FilledBuffer};
 ghost use Rattle.translation.specs.Calls.{checkedRecords, translateRecords, translateFile};
 ghost use Rattle.translation.specs.Templates.{wordsKept};
-ghost use Rattle.code_scope.specs.Around.{sortOf};
-ghost use Rattle.translate.specs.Walk.{Small, SmallParts, Lays, LaysParts, Starts, LaysFunction, Tabled, Ready, LaysAll};
+ghost use Rattle.code_scope.specs.Inner.Around.{sortOf};
+ghost use Rattle.translate.specs.Inner.Walk.{Small, SmallParts, Emits, EmitsParts, Starts, EmitsFunction, Tabled, Ready, EmitsAll};
 
 const INSTRUCTION_BYTES: usize = 8;
 
@@ -27,9 +27,9 @@ const RETURN: u8 = 13;
 // The sort of a function that gives a tree.
 const TREE_VALUED: u8 = 1;
 
-// How far the code is laid down: the next record, the next address, and the address at which the last part begins. Addresses count from the start of
+// How far the code is emitted: the next record, the next address, and the address at which the last part begins. Addresses count from the start of
 // the part of the code buffer that is lent.
-struct Laid {
+struct Emitted {
     next: usize,
     at: usize,
     last: usize,
@@ -49,8 +49,8 @@ struct Table {
 }
 
 // Lays down the expression at record k from address `at` of `code` on, which is address base + at of the program. Where it does not fit nothing is
-// written, and the addresses are told all the same.
-fn lay(
+// written, and the addresses are reported all the same.
+fn emit(
     flat: &[u8],
     entries: &[u16],
     code: &mut [u8],
@@ -59,12 +59,12 @@ fn lay(
     k: usize,
     end: usize,
     scope: Scope,
-) -> Laid
+) -> Emitted
     requires { ⌜ Small k end base at 0 ⌝ }
-    ensures { λ r. ⌜ Lays (now (flat .entry)) (now (entries .entry)) (now (code .entry)) (now (code .exit)) base at k end scope r ⌝ }
+    ensures { λ r. ⌜ Emits (now (flat .entry)) (now (entries .entry)) (now (code .entry)) (now (code .exit)) base at k end scope r ⌝ }
 {
     if end <= k {
-        return Laid {
+        return Emitted {
             next: k,
             at: at,
             last: at,
@@ -72,7 +72,7 @@ fn lay(
     }
     let found = records::record_at(flat, k);
     match found {
-        RecordRead::Refused(why, place) => Laid {
+        RecordRead::Refused(why, position) => Emitted {
             next: k,
             at: at,
             last: at,
@@ -83,7 +83,7 @@ fn lay(
                 template: template,
                 count: nodes::part_count(flat, parts),
             };
-            lay_parts(
+            emit_parts(
                 flat,
                 entries,
                 code,
@@ -100,9 +100,9 @@ fn lay(
     }
 }
 
-// Lays down the parts of a record from part i on, the next of them at record k, each behind what stands before it, and behind them all what stands
-// last. What stands before a part is laid down once the parts are through: then its addresses are known.
-fn lay_parts(
+// Lays down the parts of a record from part i on, the next of them at record k, each after what stands before it, and after them all what stands
+// last. What stands before a part is emitted once the parts are finished: then its addresses are known.
+fn emit_parts(
     flat: &[u8],
     entries: &[u16],
     code: &mut [u8],
@@ -114,22 +114,22 @@ fn lay_parts(
     k: usize,
     end: usize,
     scope: Scope,
-) -> Laid
+) -> Emitted
     requires { ⌜ SmallParts i k end base at last ⌝ }
-    ensures { λ r. ⌜ LaysParts (now (flat .entry)) (now (entries .entry)) (now (code .entry)) (now (code .exit)) base at last shape i k end scope r ⌝ }
+    ensures { λ r. ⌜ EmitsParts (now (flat .entry)) (now (entries .entry)) (now (code .entry)) (now (code .exit)) base at last shape i k end scope r ⌝ }
 {
     let template = shape.template;
     if shape.count <= i {
         let items = template.last;
-        let behind = at + template::length_of(items);
+        let beyond = at + template::length_of(items);
         let labels = Labels {
             last: base + last,
-            behind: base + behind,
+            beyond: base + beyond,
         };
-        lay_items::lay_items(flat, entries, code, at, items, scope, labels);
-        return Laid {
+        emit_items::emit_items(flat, entries, code, at, items, scope, labels);
+        return Emitted {
             next: k,
-            at: behind,
+            at: beyond,
             last: last,
         };
     }
@@ -138,28 +138,28 @@ fn lay_parts(
     let parts = shape.parts;
     let part = parts::nth_part(parts, i);
     let inner = code_scope::inside(part, i, scope);
-    let laid = lay(flat, entries, code, base, start, k, end, inner);
-    if laid.next <= k {
-        return laid;
+    let emitted = emit(flat, entries, code, base, start, k, end, inner);
+    if emitted.next <= k {
+        return emitted;
     }
-    let rest = lay_parts(
+    let rest = emit_parts(
         flat,
         entries,
         code,
         base,
-        laid.at,
+        emitted.at,
         start,
         shape,
         i + 1,
-        laid.next,
+        emitted.next,
         end,
         scope,
     );
     let labels = Labels {
         last: base + rest.last,
-        behind: base + rest.at,
+        beyond: base + rest.at,
     };
-    lay_items::lay_items(flat, entries, code, at, items, scope, labels);
+    emit_items::emit_items(flat, entries, code, at, items, scope, labels);
     rest
 }
 
@@ -189,7 +189,7 @@ fn words_kept(tree: bool) -> u8
 
 // Lays down function j, its body at record k, at the start of `code`, which is the part of the code buffer that begins at its entry: its body, then
 // return.
-fn lay_function(
+fn emit_function(
     flat: &[u8],
     entries: &[u16],
     code: &mut [u8],
@@ -197,21 +197,21 @@ fn lay_function(
     j: u16,
     k: usize,
     end: usize,
-) -> Laid
+) -> Emitted
     requires { ⌜ Small k end entry 0 1 ⌝ }
-    ensures { λ r. ⌜ LaysFunction (now (flat .entry)) (now (entries .entry)) (now (code .entry)) (now (code .exit)) entry j k end r ⌝ }
+    ensures { λ r. ⌜ EmitsFunction (now (flat .entry)) (now (entries .entry)) (now (code .entry)) (now (code .exit)) entry j k end r ⌝ }
 {
     let scope = start(flat, j);
-    let body = lay(flat, entries, code, entry, 0, k, end, scope);
+    let body = emit(flat, entries, code, entry, 0, k, end, scope);
     instruction::write_instruction(code, body.at, RETURN, words_kept(scope.tree), 0, 0);
-    Laid {
+    Emitted {
         next: body.next,
         at: body.at + 1,
         last: 0,
     }
 }
 
-// The table of entries: each function is laid down where nothing fits, and so only measured.
+// The table of entries: each function is emitted where nothing fits, and so only measured.
 fn measure(flat: &[u8]) -> Table
     requires { ⌜ verdict (checkedRecords (now flat)) ≡ done tt ⌝ }
     ensures { λ r. ⌜ Tabled (now (flat .entry)) r ⌝ }
@@ -226,9 +226,9 @@ fn measure(flat: &[u8]) -> Table
     while j < functions {
         entries[j as usize] = (entry % 65536) as u16;
         let mut no_room = [0u8; 1];
-        let laid = lay_function(flat, &[], &mut no_room, entry, j, k, end);
-        k = laid.next;
-        entry = entry + laid.at;
+        let emitted = emit_function(flat, &[], &mut no_room, entry, j, k, end);
+        k = emitted.next;
+        entry = entry + emitted.at;
         j = j + 1;
     }
     Table {
@@ -238,9 +238,9 @@ fn measure(flat: &[u8]) -> Table
 }
 
 // Lays down all functions, each in the part of the code buffer that begins at its entry.
-fn lay_all(flat: &[u8], entries: &[u16], code: &mut [u8])
+fn emit_all(flat: &[u8], entries: &[u16], code: &mut [u8])
     requires { ⌜ Ready (now flat) (now entries) (now code) ⌝ }
-    ensures { λ _. ⌜ LaysAll (now (flat .entry)) (now (code .entry)) (now (code .exit)) ⌝ }
+    ensures { λ _. ⌜ EmitsAll (now (flat .entry)) (now (code .entry)) (now (code .exit)) ⌝ }
 {
     let functions = signatures::functions_in(flat) as u16;
     let nodes = signatures::nodes_in(flat) as usize;
@@ -250,8 +250,8 @@ fn lay_all(flat: &[u8], entries: &[u16], code: &mut [u8])
     while j < functions {
         let entry = template::entry_of(entries, j) as usize;
         let part = &mut code[INSTRUCTION_BYTES * entry..];
-        let laid = lay_function(flat, entries, part, entry, j, k, end);
-        k = laid.next;
+        let emitted = emit_function(flat, entries, part, entry, j, k, end);
+        k = emitted.next;
         j = j + 1;
     }
 }
@@ -259,11 +259,11 @@ fn lay_all(flat: &[u8], entries: &[u16], code: &mut [u8])
 // The code of flat records that are a program which both passes accept, written to the start of a lent buffer; or the first refusal of the rows header
 // to prefix form, pass one and pass two, and last 13 where the buffer is too short. A refusal leaves the buffer untouched.
 pub fn translate_records(flat: &[u8], code: &mut [u8]) -> Filled
-    ensures { λ r. ⌜ Put (translateRecords (length (now (code .entry))) (now (flat .entry))) (now (code .entry)) (now (code .exit)) r ⌝ }
+    ensures { λ r. ⌜ FilledBuffer (translateRecords (length (now (code .entry))) (now (flat .entry))) (now (code .entry)) (now (code .exit)) r ⌝ }
 {
-    let verdict = pass_two::check_order(flat);
-    if let Verdict::Refused(why, place) = verdict {
-        return Filled::Refused(why, place);
+    let verdict = pass_two::check_all_rows(flat);
+    if let Verdict::Refused(why, position) = verdict {
+        return Filled::Refused(why, position);
     }
     let table = measure(flat);
     let bytes = INSTRUCTION_BYTES * table.count;
@@ -271,18 +271,18 @@ pub fn translate_records(flat: &[u8], code: &mut [u8]) -> Filled
         return Filled::Refused(Refusal::SpaceTooShort, 0);
     }
     let entries = table.entries;
-    lay_all(flat, &entries, code);
+    emit_all(flat, &entries, code);
     Filled::Written(bytes)
 }
 
 // The same from a program file: the block rows first.
 pub fn translate_file(file: &[u8], code: &mut [u8]) -> Filled
-    ensures { λ r. ⌜ Put (translateFile (length (now (code .entry))) (now (file .entry))) (now (code .entry)) (now (code .exit)) r ⌝ }
+    ensures { λ r. ⌜ FilledBuffer (translateFile (length (now (code .entry))) (now (file .entry))) (now (code .entry)) (now (code .exit)) r ⌝ }
 {
     let mut flat = [0u8; MOST_BYTES];
-    let taken = block_reader::take_out(file, &mut flat);
+    let taken = block_reader::from_blocks(file, &mut flat);
     match taken {
-        Filled::Refused(why, place) => Filled::Refused(why, place),
+        Filled::Refused(why, position) => Filled::Refused(why, position),
         Filled::Written(bytes) => translate_records(&flat[..bytes], code),
     }
 }

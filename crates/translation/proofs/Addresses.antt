@@ -1,4 +1,4 @@
--- Where instructions stand: the code of an expression ends where `behind` says, so joined code stands part behind part.
+-- Where instructions stand: the code of an expression ends where `codeEnd` says, so joined code stands part after part.
 use Prim.Native.Nat.{ℕ, suc, _+_}
 use mathlib.Core.List.{List, [], _∷_, _++_}
 use mathlib.Core.Option.{Option, some}
@@ -9,9 +9,9 @@ use lib.ListN.{length, length-append}
 use Rattle.formats.specs.Records.{nth}
 use Rattle.formats.specs.Programs.{Expr, const, var, add, ifZero, letIn, leafOf, nodeOf, caseOf, call, Args, noArgs, arg, Sort}
 use Rattle.meaning.specs.Instructions.{Instruction, Operation, instructionOf}
-use Rattle.translation.specs.Templates.{behind, behindArgs, Words, code, codeArgs}
+use Rattle.translation.specs.Templates.{codeEnd, argsEnd, Words, code, codeArgs}
 
--- ---- the address behind code
+-- ---- the address after code
 
 -- These instructions, from address a on, end before address b.
 record Spans (a b : ℕ) (ops : List Operation) : Type 0 where
@@ -29,9 +29,9 @@ join-spans {xs = xs} {ys = ys} h k = record { long = omega (arith, length-append
 
 module _ (entries : ℕ → ℕ) where
   mutual
-    unfolding code codeArgs behind behindArgs
+    unfolding code codeArgs codeEnd argsEnd
 
-    span : (s : Sort) (words : Words) (w a : ℕ) (e : Expr) → Spans a (behind e a) (code entries s words w a e)
+    span : (s : Sort) (words : Words) (w a : ℕ) (e : Expr) → Spans a (codeEnd e a) (code entries s words w a e)
     span s words w a (const i) = one-span (no-span _)
     span s words w a (var k) = one-span (no-span _)
     span s words w a (add p q) = join-spans (span _ _ _ _ p) (join-spans (span _ _ _ _ q) (one-span (no-span _)))
@@ -44,19 +44,19 @@ module _ (entries : ℕ → ℕ) where
         one-span (one-span (join-spans (span _ _ _ _ p) (one-span (one-span (span _ _ _ _ q)))))
     span s words w a (call k b xs) = join-spans (span-args _ _ _ xs) (one-span (no-span _))
 
-    span-args : (words : Words) (w a : ℕ) (xs : Args) → Spans a (behindArgs xs a) (codeArgs entries words w a xs)
+    span-args : (words : Words) (w a : ℕ) (xs : Args) → Spans a (argsEnd xs a) (codeArgs entries words w a xs)
     span-args words w a noArgs = no-span a
     span-args words w a (arg x xs) = join-spans (span _ _ _ _ x) (span-args _ _ _ xs)
 
-  pub length-code : (s : Sort) (words : Words) (w a : ℕ) (e : Expr) → a + length (code entries s words w a e) ≡ behind e a
+  pub length-code : (s : Sort) (words : Words) (w a : ℕ) (e : Expr) → a + length (code entries s words w a e) ≡ codeEnd e a
   length-code s words w a e = span s words w a e .long
 
-  length-args : (words : Words) (w a : ℕ) (xs : Args) → a + length (codeArgs entries words w a xs) ≡ behindArgs xs a
+  length-args : (words : Words) (w a : ℕ) (xs : Args) → a + length (codeArgs entries words w a xs) ≡ argsEnd xs a
   length-args words w a xs = span-args words w a xs .long
 
 -- ---- instructions from an address on
 
--- These stand there, one behind the other. `Has a op` says what it is for op to stand at address a: in a list, or in a machine's code.
+-- These stand there, one after the other. `Has a op` says what it is for op to stand at address a: in a list, or in a machine's code.
 abbrev pub At : (Has : ℕ → Operation → Type 0) → ℕ → List Operation → Type 0
 At Has a [] = Unit {0}
 At Has a (op ∷ ops) = Has a op × At Has (suc a) ops
@@ -72,7 +72,7 @@ module _ (Has : ℕ → Operation → Type 0) where
   each-at a [] h = tt
   each-at a (op ∷ ops) h = (rw add-zero at (h 0 op refl), each-at (suc a) ops (λ i x e. rw (suc-add, ← add-suc) (h (suc i) x e)))
 
-  -- Joined ones stand part behind part.
+  -- Joined ones stand part after part.
   pub record Split (a b : ℕ) (xs ys : List Operation) : Type 0 where
     pub first : At Has a xs
     pub then : At Has b ys
@@ -86,11 +86,11 @@ module _ (Has : ℕ → Operation → Type 0) where
   pub at-code :
       (entries : ℕ → ℕ) (s : Sort) (words : Words) (w a : ℕ) (e : Expr) (ys : List Operation)
       → At Has a (code entries s words w a e ++ ys)
-      → Split a (behind e a) (code entries s words w a e) ys
-  at-code entries s words w a e ys = split a (behind e a) (code entries s words w a e) ys (length-code entries s words w a e)
+      → Split a (codeEnd e a) (code entries s words w a e) ys
+  at-code entries s words w a e ys = split a (codeEnd e a) (code entries s words w a e) ys (length-code entries s words w a e)
 
   pub at-args :
       (entries : ℕ → ℕ) (words : Words) (w a : ℕ) (xs : Args) (ys : List Operation)
       → At Has a (codeArgs entries words w a xs ++ ys)
-      → Split a (behindArgs xs a) (codeArgs entries words w a xs) ys
-  at-args entries words w a xs ys = split a (behindArgs xs a) (codeArgs entries words w a xs) ys (length-args entries words w a xs)
+      → Split a (argsEnd xs a) (codeArgs entries words w a xs) ys
+  at-args entries words w a xs ys = split a (argsEnd xs a) (codeArgs entries words w a xs) ys (length-args entries words w a xs)

@@ -1,8 +1,8 @@
 -- What an input begins with: a tree's tokens, or a first fault.
 --
--- A tree that stands at a place is carried there, by recursion on the tree. What stands at a place of any bytes is found by the tag there: a whole leaf;
--- a node, whose left tree is found next, and then its right tree behind it; or a fault. In front of a fault the tokens are those of some tree, whatever
--- trees come behind it. The place grows with each tag, so the recursion is on a bound of the bytes that are left.
+-- A tree that stands at a position is carried there, by recursion on the tree. What stands at a position of any bytes is found by the tag there: a whole leaf;
+-- a node, whose left tree is found next, and then its right tree after it; or a fault. In front of a fault the tokens are those of some tree, whatever
+-- trees come after it. The place grows with each tag, so the recursion is on a bound of the bytes that are left.
 use Prim.Native.Nat.{ℕ, zero, suc, _+_, _≤_, _<_}
 use mathlib.Core.List.{List, [], _∷_, _++_}
 use mathlib.Core.Path.{_≡_, sym, ap, subst, _∙_}
@@ -12,26 +12,26 @@ use native.Mathlib.Numerals.{add-one}
 use native.Mathlib.Omega.{arith}
 use lib.ListN.{length, drop, length-append, take-append-drop}
 use Rattle.formats.specs.Numbers.{Bytes, numberAt}
-use Rattle.formats.specs.Places.{Opens, Lies, one-more}
+use Rattle.formats.specs.Buffers.{Opens, Lies, one-more}
 use Rattle.formats.specs.Tokens.{Tree, leaf, node, Labelled, depth, labelBytes, tokens, Tag, aLeaf, aNode}
 use Rattle.formats.proofs.Numbers.{length-bytesOf}
-use Rattle.formats.proofs.Places.{lies-append, lies-first, lies-left, lies-part, lies-right, lies-within}
+use Rattle.formats.proofs.Buffers.{lies-append, lies-first, lies-left, lies-part, lies-right, lies-within}
 use Rattle.formats.proofs.Tokens.{Look, past, at-leaf, at-node, at-other, look, tag-is, read-leaf, label-whole, reads-at, stands}
 use Rattle.translation.proofs.Carried.{Carries, carried, a-leaf, a-node, no-tag, other-tag, label-cut}
 
--- the place goes by its number
-carries-place : {Faulty : Type 0} {s : List ℕ} {end p q : ℕ} {ts : List Tree} → p ≡ q → Carries Faulty s end p ts → Carries Faulty s end q ts
-carries-place {Faulty} {s} {end} {ts = ts} e h = subst (λ (k : ℕ). Carries Faulty s end k ts) e h
+-- the position goes by its number
+carries-position : {Faulty : Type 0} {s : List ℕ} {end p q : ℕ} {ts : List Tree} → p ≡ q → Carries Faulty s end p ts → Carries Faulty s end q ts
+carries-position {Faulty} {s} {end} {ts = ts} e h = subst (λ (k : ℕ). Carries Faulty s end k ts) e h
 
--- a node is carried where its parts are carried behind its tag
+-- a node is carried where its parts are carried after its tag
 carries-node :
     {Faulty : Type 0} {s : List ℕ} {end p : ℕ} {l r : Tree} {ts : List Tree}
     → Look s p aNode
     → Carries Faulty s end (suc p) (l ∷ (r ∷ ts))
     → Carries Faulty s end p (node l r ∷ ts)
-carries-node {p = p} k h = a-node (tag-is k) (carries-place (sym (add-one p)) h)
+carries-node {p = p} k h = a-node (tag-is k) (carries-position (sym (add-one p)) h)
 
--- a tree that stands at a place is carried there, in front of what is carried behind it
+-- a tree that stands at a position is carried there, in front of what is carried after it
 carries-tree :
     {Faulty : Type 0} (s : List ℕ) (end p : ℕ) (t : Tree) (ts : List Tree)
     → Labelled t
@@ -45,24 +45,24 @@ carries-tree s end p (leaf x) ts fits (one-more there is label) h =
     let whole : suc p + labelBytes ≤ length s = omega (arith, lies-within label there) in
     let read = sym (read-leaf 0 k) ∙ reads-at (leaf x) 0 s p fits (omega arith) (one-more there is label) in
     let same : numberAt labelBytes s (p + 1) ≡ x = rw add-one (cc (label-whole s (suc p) whole)) in
-    a-leaf (tag-is k) (omega arith) same (carries-place (omega arith) h)
+    a-leaf (tag-is k) (omega arith) same (carries-position (omega arith) h)
 carries-tree s end p (node l r) ts fits (one-more there is more) h =
     carries-node (at-node there is)
     (carries-tree s end (suc p) l (r ∷ ts) (fits .0) (lies-left (tokens l) (tokens r) more)
     (carries-tree s end (suc p + length (tokens l)) r ts (fits .1) (lies-right (tokens l) (tokens r) more)
-    (carries-place (omega (arith, length-append (tokens l) (tokens r))) h)))
+    (carries-position (omega (arith, length-append (tokens l) (tokens r))) h)))
 
 -- an input that opens with a tree's tokens carries that tree up to their end
 pub carries-opening : {Faulty : Type 0} (t : Tree) (rest : List ℕ) → Labelled t → Carries Faulty (tokens t ++ rest) (length (tokens t)) 0 (t ∷ [])
 carries-opening t rest fits =
-    carries-tree (tokens t ++ rest) (length (tokens t)) 0 t [] fits (lies-first (tokens t) rest) (carries-place (sym (zero-add _)) carried)
+    carries-tree (tokens t ++ rest) (length (tokens t)) 0 t [] fits (lies-first (tokens t) rest) (carries-position (sym (zero-add _)) carried)
 
 -- What an input begins with: a tree's tokens, or some tree's tokens up to a first fault.
 pub data Begins (s : List ℕ) : Type 0 where
   with-tree : (t : Tree) → Labelled t → Opens (tokens t) s → Begins s
   with-fault : (t : Tree) → Carries (Unit {0}) s (suc (length s)) 0 (t ∷ []) → Begins s
 
--- What is found at a place: a tree that stands there, or some tree's tokens up to a first fault, whatever trees come behind it.
+-- What is found at a position: a tree that stands there, or some tree's tokens up to a first fault, whatever trees come after it.
 data Found (s : List ℕ) (p : ℕ) : Type 0 where
   a-tree : (t : Tree) → Labelled t → Lies s p (tokens t) → Found s p
   a-fault : (t : Tree) → ((ts : List Tree) → Carries (Unit {0}) s (suc (length s)) p (t ∷ ts)) → Found s p
@@ -80,10 +80,10 @@ found-leaf s p bs k = elim (decLe (suc p + labelBytes) (length s)) [ yes whole �
     leaf-cut : length s < p + 1 + labelBytes → Found s p
     leaf-cut cut = a-fault (leaf 0) (λ ts. label-cut tt (tag-is k) cut)
 
--- at a node's tag, by what is found behind it
+-- at a node's tag, by what is found after it
 found-node : (s : List ℕ) (p : ℕ) → Look s p aNode → ((q : ℕ) → p < q → Found s q) → Found s p
 unfolding tokens
-found-node s p (at-node there is) behind = by-left (behind (suc p) (omega arith))
+found-node s p (at-node there is) after = by-left (after (suc p) (omega arith))
   where
     by-right : (l : Tree) → Labelled l → Lies s (suc p) (tokens l) → Found s (suc p + length (tokens l)) → Found s p
     by-right l fits left (a-tree r fit right) = a-tree (node l r) (fits, fit) (one-more there is (lies-append left right))
@@ -91,15 +91,15 @@ found-node s p (at-node there is) behind = by-left (behind (suc p) (omega arith)
         a-fault (node l r) (λ ts. carries-node (at-node there is) (carries-tree s (suc (length s)) (suc p) l (r ∷ ts) fits left (right ts)))
 
     by-left : Found s (suc p) → Found s p
-    by-left (a-tree l fits left) = by-right l fits left (behind (suc p + length (tokens l)) (omega arith))
+    by-left (a-tree l fits left) = by-right l fits left (after (suc p + length (tokens l)) (omega arith))
     by-left (a-fault l left) = a-fault (node l (leaf 0)) (λ ts. carries-node (at-node there is) (left (leaf 0 ∷ ts)))
 
--- at any tag, by what is found behind it
+-- at any tag, by what is found after it
 by-tag : (s : List ℕ) (p : ℕ) → Bytes s → (p < length s → (q : ℕ) → p < q → Found s q) → {g : Tag} → Look s p g → Found s p
-by-tag s p bs behind (past end) = a-fault (leaf 0) (λ ts. no-tag tt (tag-is (past end)))
-by-tag s p bs behind (at-leaf there is) = found-leaf s p bs (at-leaf there is)
-by-tag s p bs behind (at-node there is) = found-node s p (at-node there is) (behind there)
-by-tag s p bs behind (at-other there nl nn) = a-fault (leaf 0) (λ ts. other-tag tt (tag-is (at-other there nl nn)))
+by-tag s p bs after (past end) = a-fault (leaf 0) (λ ts. no-tag tt (tag-is (past end)))
+by-tag s p bs after (at-leaf there is) = found-leaf s p bs (at-leaf there is)
+by-tag s p bs after (at-node there is) = found-node s p (at-node there is) (after there)
+by-tag s p bs after (at-other there nl nn) = a-fault (leaf 0) (λ ts. other-tag tt (tag-is (at-other there nl nn)))
 
 -- at any place
 found : (room : ℕ) (s : List ℕ) (p : ℕ) → Bytes s → length s ≤ p + room → Found s p

@@ -11,8 +11,8 @@ use Rattle.formats.specs.Results.{done}
 use Rattle.formats.specs.Records.{nth}
 use Rattle.formats.specs.Programs.{size, Signature, Function, Program, signatures}
 use Rattle.formats.proofs.Results.{then-inv}
-use Rattle.rules.specs.PassOne.{mostWords, wordsOf, passOne}
-use Rattle.rules.specs.PassTwo.{walk, order}
+use Rattle.rules.specs.PassOne.{mostFrameWords, wordsOf, passOne}
+use Rattle.rules.specs.PassTwo.{walk, bothPasses}
 use Rattle.rules.specs.OrderChecker.{firstNode, AdmittedFunction, AdmittedFrom}
 use Rattle.rules.proofs.PassTwo.{walks}
 use Rattle.rules.proofs.OrderChecker.{order-checker}
@@ -21,12 +21,12 @@ use Rattle.translation.specs.Demand3.{Checked}
 
 -- a checked program passes pass one
 pub passes-one : (program : Program) → Checked program → PassesOne program
-unfolding order
+unfolding bothPasses
 passes-one program c = record { lawful = c .lawful; passes = then-inv (passOne program) _ tt (c .passes) .first }
 
 -- A function's body, within the limit of words, and walked through from its one tree to none, its first node at some record.
 pub record CheckedBody (gs : List Signature) (f : Function) : Type 0 where
-  pub few-words : wordsOf gs (f .parameters) (f .body) ≤ mostWords
+  pub few-words : wordsOf gs (f .parameters) (f .body) ≤ mostFrameWords
   pub at : ℕ
   pub in-order : walk 1 at (0 ∷ []) (f .body) ≡ done []
 

@@ -13,18 +13,18 @@ use Rattle.formats.specs.Results.{Result, done, refusal, andThen, onValue, verd
 use Rattle.formats.specs.Tokens.{Tree, Labelled, tokens}
 use Rattle.formats.specs.Programs.{Program, Lawful}
 use Rattle.formats.specs.Rows.{readProgram}
-use Rattle.formats.specs.Blocks.{flatIn, programIn, within, lent}
+use Rattle.formats.specs.Blocks.{flatIn, programIn, inRoom, lent}
 use Rattle.formats.proofs.Results.{byResult, then-done, then-refused, then-inv, value-inv, check-inv, passed-is, refused-is}
 use Rattle.formats.proofs.ProgramFiles.{program-files}
 use Rattle.formats.proofs.Records.{length-flat}
 use Rattle.formats.proofs.Rows.{flattens}
 use Rattle.formats.proofs.Files.{within-room, flat-in-bytes}
-use Rattle.rules.specs.PassTwo.{order, checkRecords, checkFile}
+use Rattle.rules.specs.PassTwo.{bothPasses, checkRecords, checkFile}
 use Rattle.meaning.specs.Running.{Answer, Ran, valueWords, returnWords, streamRun}
 use Rattle.meaning.specs.Instructions.{instructionBytes, mostInstructions, instructionOf}
 use Rattle.translation.specs.Templates.{operationsOf, codeOf}
 use Rattle.translation.specs.Demand3.{Given, runOn}
-use Rattle.translation.specs.Calls.{checkedRecords, translateRecords, translateFile, prepared, refusedBefore, runFile, Called, Ready}
+use Rattle.translation.specs.Calls.{checkedRecords, translateRecords, translateFile, prepared, refusedBefore, runFile, ProgramRan, Ready}
 use Rattle.translation.specs.Listing.{NeverShort}
 use Rattle.translation.specs.ThisCall.{ThisCall, AnyCall, ProgramRun, AllRunnable}
 use Rattle.translation.proofs.CodeLimits.{code-limits}
@@ -40,27 +40,27 @@ as-checked s = by (readProgram s)
   where
     same : (program : Program) (r : Result (Unit {0})) → r ≡ verdict (onValue (λ u. program) r)
     same program (done u) = refl
-    same program (refusal number place) = refl
+    same program (refusal number position) = refl
 
-    by : (r : Result Program) → andThen r order ≡ verdict (andThen r (λ program. onValue (λ u. program) (order program)))
-    by (done program) = same program (order program)
-    by (refusal number place) = refl
+    by : (r : Result Program) → andThen r bothPasses ≡ verdict (andThen r (λ program. onValue (λ u. program) (bothPasses program)))
+    by (done program) = same program (bothPasses program)
+    by (refusal number position) = refl
 
 -- what the checks refuse is not translated ..
-pub not-translated : (room : ℕ) (file : List ℕ) (number place : ℕ) → checkFile file ≡ refusal number place → translateFile room file ≡ refusal number place
+pub not-translated : (room : ℕ) (file : List ℕ) (number position : ℕ) → checkFile file ≡ refusal number position → translateFile room file ≡ refusal number position
 unfolding checkFile translateFile translateRecords
-not-translated room file number place e = byResult (flatIn file)
+not-translated room file number position e = byResult (flatIn file)
     (λ s h.
-    let stop : checkRecords s ≡ refusal number place = sym (then-done checkRecords h) ∙ e in
-    then-done (translateRecords room) h ∙ then-refused _ (refused-is (checkedRecords s) number place (sym (as-checked s) ∙ stop)))
+    let stop : checkRecords s ≡ refusal number position = sym (then-done checkRecords h) ∙ e in
+    then-done (translateRecords room) h ∙ then-refused _ (refused-is (checkedRecords s) number position (sym (as-checked s) ∙ stop)))
     (λ n q h.
-    let stop : flatIn file ≡ refusal number place = refused-is (flatIn file) number place (ap verdict h ∙ sym (then-refused checkRecords h) ∙ e) in
+    let stop : flatIn file ≡ refusal number position = refused-is (flatIn file) number position (ap verdict h ∙ sym (then-refused checkRecords h) ∙ e) in
     then-refused (translateRecords room) stop)
 
 -- .. and what they pass is, or has no room
 pub record Translated (room : ℕ) (file : List ℕ) : Type 0 where
   pub code : List ℕ
-  pub is : translateFile room file ≡ within room code
+  pub is : translateFile room file ≡ inRoom room code
 
 pub is-translated : (room : ℕ) (file : List ℕ) → checkFile file ≡ done tt → Translated room file
 unfolding checkFile translateFile translateRecords
@@ -71,7 +71,7 @@ is-translated room file e =
 
 -- code that is given has room
 pub has-room : (room : ℕ) (file bytes : List ℕ) → translateFile room file ≡ done bytes → length bytes ≤ room
-unfolding translateFile translateRecords within
+unfolding translateFile translateRecords inRoom
 has-room room file bytes e =
     let f = then-inv (flatIn file) (translateRecords room) bytes e in
     let v = then-inv (checkedRecords (f .value)) _ bytes (f .second) in
@@ -80,13 +80,13 @@ has-room room file bytes e =
 
 module _ (room values returns : ℕ) (file : List ℕ) where
   -- the file's refusals come first
-  pub prepared-refused : (number place : ℕ) → translateFile room file ≡ refusal number place → prepared room values returns file ≡ refusal number place
+  pub prepared-refused : (number position : ℕ) → translateFile room file ≡ refusal number position → prepared room values returns file ≡ refusal number position
   unfolding prepared
-  prepared-refused number place e = then-refused _ e
+  prepared-refused number position e = then-refused _ e
 
   -- then 13, for the code and for work words
   pub prepared-short : checkFile file ≡ done tt → (leb valueWords values && leb returnWords returns) ≡ false → prepared room values returns file ≡ refusal spaceTooShort 0
-  unfolding prepared within
+  unfolding prepared inRoom
   prepared-short e short =
       let t = is-translated room file e in
       ap (λ r. andThen r then-words) (t .is) ∙ by (leb (length (t .code)) room)
@@ -119,10 +119,10 @@ prepared-inv room values returns file bytes e =
 
 module _ (file input output code : List ℕ) (fuel values returns : ℕ) where
   -- a call that is refused before its run
-  pub called-refused : (number place : ℕ) → prepared (length code) values returns file ≡ refusal number place
-      → runFile file input output code fuel values returns ≡ record { answer = refusedBefore number place; output = output; code = code }
+  pub called-refused : (number position : ℕ) → prepared (length code) values returns file ≡ refusal number position
+      → runFile file input output code fuel values returns ≡ record { answer = refusedBefore number position; output = output; code = code }
   unfolding runFile
-  called-refused number place e = rw (e, runFile)
+  called-refused number position e = rw (e, runFile)
 
   -- a call that comes to its run
   pub called-runs : (bytes : List ℕ) → prepared (length code) values returns file ≡ done bytes
@@ -138,7 +138,7 @@ module _ (file input output code : List ℕ) (fuel values returns : ℕ) where
 -- ---- a call that comes to its run
 
 -- where both passes accept the program of flat records, and its code has room, it is translated
-pub translated : (room : ℕ) (s : List ℕ) (program : Program) → readProgram s ≡ done program → order program ≡ done tt → length (codeOf program) ≤ room
+pub translated : (room : ℕ) (s : List ℕ) (program : Program) → readProgram s ≡ done program → bothPasses program ≡ done tt → length (codeOf program) ≤ room
     → translateRecords room s ≡ done (codeOf program)
 unfolding translateRecords checkedRecords
 translated room s program e passes fits =
@@ -151,9 +151,9 @@ module _ (file code : List ℕ) (values returns : ℕ) (bytes : Bytes file) (pro
   ready-prepared =
       let f = then-inv (flatIn file) readProgram program (ready .in-file) in
       let t = translated (length code) (f .value) program (f .second) (ready .passes) (ready .room) in
-      prepared-code (length code) values returns file (codeOf program) (then-done _ (f .first) ∙ t) (ready .words-lent) (ready .places-lent)
+      prepared-code (length code) values returns file (codeOf program) (then-done _ (f .first) ∙ t) (ready .words-lent) (ready .returns-lent)
 
-  -- the program with what its runs are given, nothing behind its code
+  -- the program with what its runs are given, nothing after its code
   given : Given
   unfolding programIn
   given =
@@ -165,7 +165,7 @@ module _ (file code : List ℕ) (values returns : ℕ) (bytes : Bytes file) (pro
         values = values;
         returns = returns;
         words-lent = ready .words-lent;
-        places-lent = ready .places-lent;
+        returns-lent = ready .returns-lent;
       }
 
   -- the run is the one that demand 3 speaks of
@@ -198,8 +198,8 @@ module _ (file code : List ℕ) (values returns : ℕ) (bytes : Bytes file) (pro
           written-opening = holds .written-opening rest output fuel;
           written-no-more = holds .written-no-more rest output fuel;
           none-other = holds .none-other rest output fuel;
-          same-answer = ap (λ (r : Ran). r .answer) alone ∙ ap (λ (r : Called). r .answer) (sym (ready-called (tokens t) output fuel));
-          same-output = ap (λ (r : Ran). r .output) alone ∙ ap (λ (r : Called). r .output) (sym (ready-called (tokens t) output fuel));
+          same-answer = ap (λ (r : Ran). r .answer) alone ∙ ap (λ (r : ProgramRan). r .answer) (sym (ready-called (tokens t) output fuel));
+          same-output = ap (λ (r : Ran). r .output) alone ∙ ap (λ (r : ProgramRan). r .output) (sym (ready-called (tokens t) output fuel));
           suffices = λ n v ends enough space. holds .suffices n v ends rest output fuel enough space;
           none-suffices = λ none. holds .none-suffices none rest output fuel;
         }
@@ -209,7 +209,7 @@ module _ (file code : List ℕ) (values returns : ℕ) (bytes : Bytes file) (pro
   any-run input output fuel bs =
       let holds = every-run given in
       record {
-        never-19 = λ place. holds .never-19 input output fuel place bs;
+        never-19 = λ position. holds .never-19 input output fuel position bs;
         ended-is-meant = holds .ended-is-meant input output fuel bs;
         one-for-one = λ first known sort ended. holds .one-for-one first input output fuel known sort bs ended;
       }
@@ -219,10 +219,10 @@ module _ (file code : List ℕ) (values returns : ℕ) (bytes : Bytes file) (pro
       (answered : answer ≡ runFile file input output code fuel values returns .answer)
       (left : after ≡ runFile file input output code fuel values returns .output) where
     its-answer : answer ≡ ranOn input output fuel .answer
-    its-answer = answered ∙ ap (λ (r : Called). r .answer) (ready-called input output fuel)
+    its-answer = answered ∙ ap (λ (r : ProgramRan). r .answer) (ready-called input output fuel)
 
     its-output : after ≡ ranOn input output fuel .output
-    its-output = left ∙ ap (λ (r : Called). r .output) (ready-called input output fuel)
+    its-output = left ∙ ap (λ (r : ProgramRan). r .output) (ready-called input output fuel)
 
     this-call : (t : Tree) (rest : List ℕ) → Labelled t → input ≡ tokens t ++ rest
         → ThisCall program t rest output fuel (runFile file (tokens t) output code fuel values returns) answer after
@@ -262,7 +262,7 @@ all-runnable program checked =
         passes = checked .passes;
         room = omega (arith, code-fits program (checked .lawful));
         words-lent = hv;
-        places-lent = hr;
+        returns-lent = hr;
       };
     }
 
@@ -280,7 +280,7 @@ never-short file bytes = byResult (flatIn file)
     by-program s bs = byResult (checkedRecords s)
         (λ program e.
         let r = then-inv (readProgram s) _ program e in
-        let o = value-inv (λ u. r .value) (order (r .value)) program (r .second) in
+        let o = value-inv (λ u. r .value) (bothPasses (r .value)) program (r .second) in
         let lawful = flattens s program bs (r .first ∙ ap done (o .second)) .lawful in
-        then-done (λ p. within full (codeOf p)) e ∙ within-room full (codeOf program) (code-fits program lawful) ∙ sym (ap (onValue codeOf) e))
-        (λ n q e. then-refused (λ p. within full (codeOf p)) e ∙ sym (ap (onValue codeOf) e))
+        then-done (λ p. inRoom full (codeOf p)) e ∙ within-room full (codeOf program) (code-fits program lawful) ∙ sym (ap (onValue codeOf) e))
+        (λ n q e. then-refused (λ p. inRoom full (codeOf p)) e ∙ sym (ap (onValue codeOf) e))

@@ -7,7 +7,7 @@ use mathlib.Core.Path.{_≡_, refl, sym, ap, _∙_}
 use lib.Dec.{eqb}
 use lib.ListN.{length}
 use Rattle.formats.specs.Numbers.{numberAt}
-use Rattle.formats.specs.Tokens.{Tree, leaf, node, labelBytes, ended, aLeaf, aNode, other, tagAt}
+use Rattle.formats.specs.Tokens.{Tree, leaf, node, labelBytes, noByte, aLeaf, aNode, other, tagAt}
 use Rattle.meaning.specs.Levels.{atLevel}
 use Rattle.meaning.proofs.Levels.{level-newest, level-kept}
 use Rattle.translation.specs.Templates.{Words, wordOf, firstWords}
@@ -71,7 +71,7 @@ on-first-words (i ∷ numbers) = picked (level-newest i (length numbers) numbers
 
 -- ---- the input
 
--- From place p on the input carries the tokens of these trees, in order, up to the place `end`. Where `Faulty` allows it, only up to a first fault: a tag
+-- From place p on the input carries the tokens of these trees, in order, up to the position `end`. Where `Faulty` allows it, only up to a first fault: a tag
 -- that is not there, a byte that is no tag, or a label that is not whole; what the trees are from there on is then of no matter.
 pub data Carries (Faulty : Type 0) (s : List ℕ) (end : ℕ) : ℕ → List Tree → Type 0 where
   carried : Carries Faulty s end end []
@@ -83,6 +83,6 @@ pub data Carries (Faulty : Type 0) (s : List ℕ) (end : ℕ) : ℕ → List Tre
       → Carries Faulty s end (p + 1 + labelBytes) ts
       → Carries Faulty s end p (leaf x ∷ ts)
   a-node : {p : ℕ} {l r : Tree} {ts : List Tree} → tagAt s p ≡ aNode → Carries Faulty s end (p + 1) (l ∷ (r ∷ ts)) → Carries Faulty s end p (node l r ∷ ts)
-  no-tag : {p : ℕ} {t : Tree} {ts : List Tree} → Faulty → tagAt s p ≡ ended → Carries Faulty s end p (t ∷ ts)
+  no-tag : {p : ℕ} {t : Tree} {ts : List Tree} → Faulty → tagAt s p ≡ noByte → Carries Faulty s end p (t ∷ ts)
   other-tag : {p : ℕ} {t : Tree} {ts : List Tree} → Faulty → tagAt s p ≡ other → Carries Faulty s end p (t ∷ ts)
   label-cut : {p x : ℕ} {ts : List Tree} → Faulty → tagAt s p ≡ aLeaf → length s < p + 1 + labelBytes → Carries Faulty s end p (leaf x ∷ ts)

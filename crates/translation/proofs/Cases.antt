@@ -18,22 +18,22 @@ use Rattle.formats.proofs.ProgramCases.{grow}
 use Rattle.rules.specs.Types.{isInt, isTree, fits, resultType}
 use Rattle.rules.specs.Scopes.{inside, startOf, entered, enteredArgs, enteredAll}
 use Rattle.rules.specs.PassOne.{named, typed, bareNumber, wordsTested, roomy, atEntry, passOver, passOne}
-use Rattle.rules.specs.PassTwo.{takeHead, sameNames, joined, walk, walkArgs, noneLeft, walkAll, passTwo, order}
+use Rattle.rules.specs.PassTwo.{takeHead, sameNames, equalBranches, walk, walkArgs, noneLeft, walkAll, passTwo, bothPasses}
 use Rattle.rules.proofs.Cases.{numbered, treed, programOf, on, with-one}
 use Rattle.meaning.specs.Levels.{atLevel}
 use Rattle.meaning.specs.Instructions.{Operation, Push, Get, Add, Ifnot, Jump, Slide, Drop, LeafTag, NodeTag, WriteNumber, ReadTag, ReadNumber, Call, Return}
 use Rattle.meaning.specs.Instructions.{heldBy, operations, operationOf, instructionOf}
-use Rattle.meaning.specs.Performing.{wordsBelow, standing, opened, one, two, room, push, write}
-use Rattle.meaning.specs.Performing.{byTag, readNumber, call, kept, numberKept, leave, operate, perform, step}
-use Rattle.meaning.specs.Running.{Ran, run, outcomeOf, numberTold, streamRun, valueWords, returnWords}
+use Rattle.meaning.specs.Performing.{wordsBelow, standing, opened, one, two, room, pushWord, write}
+use Rattle.meaning.specs.Performing.{onTag, takeNumber, openCall, kept, numberKept, leave, operate, perform, step}
+use Rattle.meaning.specs.Running.{Ran, run, outcomeOf, numberReported, streamRun, valueWords, returnWords}
 use Rattle.meaning.specs.Evaluation.{tree, branch, inBranch, Const as Literal, Var as Named, Add as Plus, Leaf as LeafOf, Case as CaseOn, Ends, caseUnits, counted}
 use Rattle.meaning.proofs.Cases.{blank, ended-with, refused-with}
 use Rattle.meaning.proofs.MeaningCases.{again, sum, two-leaves, on-two}
-use Rattle.translation.specs.EveryRun.{unitsOf}
-use Rattle.translation.specs.Listing.{line, listed}
+use Rattle.translation.specs.EveryRun.{evaluationUnits}
+use Rattle.translation.specs.Listing.{listingLine, listed}
 use Rattle.translation.specs.ListingText.{field, signedField, lineText, linesText, codeWord, text}
-use Rattle.translation.specs.Templates.{behind, behindArgs, wordOf, firstWords, endOf, code, codeArgs, wordsKept}
-use Rattle.translation.specs.Templates.{functionCode, behindFunction, entryFrom, functionsCode, entryOf, operationsOf, codeOf}
+use Rattle.translation.specs.Templates.{codeEnd, argsEnd, wordOf, firstWords, endOf, code, codeArgs, wordsKept}
+use Rattle.translation.specs.Templates.{functionCode, functionEnd, entryFrom, functionsCode, entryOf, operationsOf, codeOf}
 
 -- ---- programs
 
@@ -143,12 +143,12 @@ listings =
     ∷ []
 
 as-listed : map (λ l. operationsOf (l .of)) listings ≡ map (λ l. l .lines) listings
-unfolding operationsOf entryOf functionsCode entryFrom behindFunction functionCode wordsKept code codeArgs endOf firstWords wordOf behind behindArgs atLevel countArgs grow sum again numbered treed programOf on on-two summing growing zero-counted zero-marked let-number let-tree under-temporary three-functions names-in-parts doubled as-written with-one lists listings
+unfolding operationsOf entryOf functionsCode entryFrom functionEnd functionCode wordsKept code codeArgs endOf firstWords wordOf codeEnd argsEnd atLevel countArgs grow sum again numbered treed programOf on on-two summing growing zero-counted zero-marked let-number let-tree under-temporary three-functions names-in-parts doubled as-written with-one lists listings
 as-listed = refl
 
 -- both passes accept these programs
-all-pass : map (λ l. order (l .of)) listings ≡ replicate 11 (done tt)
-unfolding order passOne passOver atEntry roomy wordsTested bareNumber typed named enteredAll entered enteredArgs inside startOf passTwo walkAll noneLeft walk walkArgs joined sameNames takeHead resultType isInt isTree fits size prefix prefixes nth signatureOf grow sum again numbered treed programOf on on-two summing growing zero-counted zero-marked let-number let-tree under-temporary three-functions names-in-parts doubled as-written with-one lists listings
+all-pass : map (λ l. bothPasses (l .of)) listings ≡ replicate 11 (done tt)
+unfolding bothPasses passOne passOver atEntry roomy wordsTested bareNumber typed named enteredAll entered enteredArgs inside startOf passTwo walkAll noneLeft walk walkArgs equalBranches sameNames takeHead resultType isInt isTree fits size prefix prefixes nth signatureOf grow sum again numbered treed programOf on on-two summing growing zero-counted zero-marked let-number let-tree under-temporary three-functions names-in-parts doubled as-written with-one lists listings
 all-pass = refl
 
 -- Grow's code: 8 bytes for each instruction.
@@ -168,7 +168,7 @@ grow-bytes :
     ∷ 12 ∷ 0 ∷ 0 ∷ 0 ∷ 0 ∷ 0 ∷ 0 ∷ 0
     ∷ 13 ∷ 0 ∷ 0 ∷ 0 ∷ 0 ∷ 0 ∷ 0 ∷ 0
     ∷ []
-unfolding codeOf operationsOf entryOf functionsCode entryFrom behindFunction functionCode wordsKept code codeArgs endOf firstWords wordOf behind behindArgs atLevel countArgs instructionOf flat bytesOfRecord bytesOf grow
+unfolding codeOf operationsOf entryOf functionsCode entryFrom functionEnd functionCode wordsKept code codeArgs endOf firstWords wordOf codeEnd argsEnd atLevel countArgs instructionOf flat bytesOfRecord bytesOf grow
 grow-bytes = refl
 
 -- ---- runs
@@ -214,9 +214,9 @@ runs =
     ∷ row again two-leaves 1024 2 (refused-with 18 1023 0 [] (blank 2))
     ∷ []
 
-as-told : map ranOn runs ≡ map (λ r. r .gives) runs
-unfolding streamRun run step perform operate heldBy operationOf operations instructionOf nth recordAt flat bytesOfRecord bytesOf numberOf numberAt sum32 tagAt tagOf written standing wordsBelow opened atLevel one two room push write byTag readNumber call kept numberKept leave outcomeOf numberTold blank ended-with refused-with tokens two-leaves codeOf operationsOf entryOf functionsCode entryFrom behindFunction functionCode wordsKept code codeArgs endOf firstWords wordOf behind behindArgs countArgs grow sum again numbered treed programOf on on-two summing growing zero-counted zero-marked let-number let-tree under-temporary three-functions names-in-parts doubled as-written with-one row ranOn runs
-as-told = refl
+as-reported : map ranOn runs ≡ map (λ r. r .gives) runs
+unfolding streamRun run step perform operate heldBy operationOf operations instructionOf nth recordAt flat bytesOfRecord bytesOf numberOf numberAt sum32 tagAt tagOf written standing wordsBelow opened atLevel one two room pushWord write onTag takeNumber openCall kept numberKept leave outcomeOf numberReported blank ended-with refused-with tokens two-leaves codeOf operationsOf entryOf functionsCode entryFrom functionEnd functionCode wordsKept code codeArgs endOf firstWords wordOf codeEnd argsEnd countArgs grow sum again numbered treed programOf on on-two summing growing zero-counted zero-marked let-number let-tree under-temporary three-functions names-in-parts doubled as-written with-one row ranOn runs
+as-reported = refl
 
 -- ---- units
 
@@ -225,7 +225,7 @@ grow-on-leaf : Ends grow (leaf 5) 1 5 (tree (leaf 6))
 unfolding grow nth atLevel branch inBranch sum32
 grow-on-leaf = record { first = _; is-first = refl; takes = CaseOn refl (LeafOf (Plus (Named refl) Literal)) }
 
-grow-units : unitsOf grow-on-leaf ≡ 10
+grow-units : evaluationUnits grow-on-leaf ≡ 10
 unfolding counted caseUnits grow-on-leaf
 grow-units = refl
 
@@ -233,7 +233,7 @@ grow-units = refl
 
 -- A sign, a number of 10 digits, an address and a byte of the greatest length.
 long-lines :
-    text (listed 2 (line 0 10 0 4127 (pos 0) ∷ line 1 0 255 0 (negsuc 2147483647) ∷ []))
+    text (listed 2 (listingLine 0 10 0 4127 (pos 0) ∷ listingLine 1 0 255 0 (negsuc 2147483647) ∷ []))
     ≡ ascii "code 2\n0 10 0 4127 0\n1 0 255 0 -2147483648\n"
 unfolding text linesText lineText signedField field codeWord decimal digits ascii
 long-lines = refl

@@ -1,4 +1,4 @@
--- Calls of the stream run with a checked program's code: the code may have anything behind it in its buffer, and the work space is lent. On an input that
+-- Calls of the stream run with a checked program's code: the code may have anything after it in its buffer, and the work space is lent. On an input that
 -- carries a tree, the course of the run is known (WholeRuns), and with it what the call answers.
 use Prim.Native.Nat.{ℕ, zero-le}
 use mathlib.Core.List.{List, [], _∷_, _++_}
@@ -22,7 +22,7 @@ use Rattle.meaning.proofs.StreamRun.{stream-run}
 use Rattle.translation.specs.Templates.{codeOf}
 use Rattle.translation.specs.Demand3.{Given, runOn}
 use Rattle.translation.proofs.Bodies.{passes-one, checked-body}
-use Rattle.translation.proofs.Laid.{laid}
+use Rattle.translation.proofs.Laid.{emitted}
 use Rattle.translation.proofs.Carried.{Carries}
 use Rattle.translation.proofs.Courses.{Course, WholeWay, CameTo, out-of-fuel, out-of-space, whole, Came, came}
 use Rattle.translation.proofs.Goes.{InputFault}
@@ -48,7 +48,7 @@ came-for p (out-of-space e l) = rw e no-space
 came-for p (whole a l) = rw (a .stops) p
 
 module _ (given : Given) where
-  open Given given using (program, checked, after-code, values, returns, words-lent, places-lent)
+  open Given given using (program, checked, after-code, values, returns, words-lent, returns-lent)
 
   abbrev pub code : List ℕ
   code = codeOf program ++ after-code
@@ -63,7 +63,7 @@ module _ (given : Given) where
 
   pub call-runs : (input output : List ℕ) (fuel : ℕ) → runOn given input output fuel ≡ ranTo output (runOf input output fuel)
   unfolding streamRun
-  call-runs input output fuel = simp (streamRun, le-leb _ _ words-lent, le-leb _ _ places-lent)
+  call-runs input output fuel = simp (streamRun, le-leb _ _ words-lent, le-leb _ _ returns-lent)
 
   -- what it has read, its units, how it came out, and what it has written
   pub call-reads : (input output : List ℕ) (fuel : ℕ) → runOn given input output fuel .answer .bytesRead ≡ runOf input output fuel .last .read
@@ -87,7 +87,7 @@ module _ (given : Given) where
   runnable = record {
     proper = proper program (passes-one program checked);
     bodies = checked-body program checked;
-    laid = laid program (checked .lawful) after-code;
+    emitted = emitted program (checked .lawful) after-code;
   }
 
   -- ---- its course

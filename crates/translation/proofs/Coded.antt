@@ -1,7 +1,7 @@
 -- Expressions with their code: which instructions stand where, from one address to another, for an expression with a value of a sort.
 --
--- A body of which pass one finds no name unbound and no type wrong has a value of its function's sort, part by part; and its code is laid down by the
--- templates, part behind part. Both are read off together, by recursion on the expression.
+-- A body of which pass one finds no name unbound and no type wrong has a value of its function's sort, part by part; and its code is emitted by the
+-- templates, part after part. Both are read off together, by recursion on the expression.
 use Prim.Native.Nat.{ℕ, zero, suc, _+_}
 use mathlib.Core.Bool.{true, false≢true}
 use mathlib.Core.List.{List, [], _∷_}
@@ -19,12 +19,12 @@ use Rattle.rules.specs.OrderChecker.{firstNode}
 use Rattle.rules.proofs.PassOne.{fits-is}
 use Rattle.meaning.specs.Instructions.{Push, Get, Add, Ifnot, Jump, LeafTag, NodeTag, WriteNumber, ReadTag, ReadNumber, Call, Return}
 use Rattle.meaning.proofs.Proper.{sort-by-type}
-use Rattle.translation.specs.Templates.{behind, behindArgs, Words, endOf, code, codeArgs, wordsKept, entryOf}
+use Rattle.translation.specs.Templates.{codeEnd, argsEnd, Words, endOf, code, codeArgs, wordsKept, entryOf}
 use Rattle.translation.specs.CodeLimits.{Sound}
 use Rattle.translation.proofs.Addresses.{At, at-code, at-args}
 use Rattle.translation.proofs.CodeStands.{Holds, code-stands}
 
--- ---- code in its place
+-- ---- code in its position
 
 -- `Coded program s e a b`: the expression e has a value of sort s, and its code stands from address a to the one before b.
 mutual
@@ -118,12 +118,12 @@ module _ (program : Program) where
 
   -- expression by expression: w words in pass one's scope, v in the templates'
   mutual
-    unfolding entered inside typed code codeArgs behind behindArgs enteredArgs resultType fits
+    unfolding entered inside typed code codeArgs codeEnd argsEnd enteredArgs resultType fits
 
     coded : (g n w r : ℕ) (s : Sort) (words : Words) (v a : ℕ) (e : Expr)
         → SoundIn (scope g n w (resultType s)) r e
         → At (Holds program) a (code (entryOf program) s words v a e)
-        → Coded program s e a (behind e a)
+        → Coded program s e a (codeEnd e a)
     coded g n w r s words v a (const i) h c = rw (fits-sort numberValued s (h .0 .1)) (coded-const (c .0))
     coded g n w r s words v a (var k) h c = rw (fits-sort numberValued s (h .0 .1)) (coded-var (c .0))
     coded g n w r s words v a (add p q) h c =
@@ -183,7 +183,7 @@ module _ (program : Program) where
     coded-args : (g n w r : ℕ) (τ : Ty) (k b i : ℕ) (words : Words) (v a : ℕ) (xs : Args)
         → SoundArgs (CallRecord k b) i (scope g n w τ) r xs
         → At (Holds program) a (codeArgs (entryOf program) words v a xs)
-        → CodedArgs program xs a (behindArgs xs a)
+        → CodedArgs program xs a (argsEnd xs a)
     coded-args g n w r τ k b i words v a noArgs h c = coded-none
     coded-args g n w r τ k b i words v a (arg x xs) h c =
         let here = entered (scope g n (w + i) (resultType numberValued)) r x in

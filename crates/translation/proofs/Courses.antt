@@ -9,7 +9,7 @@ use native.Mathlib.Omega.{arith}
 use lib.ListN.{length, length-append}
 use Rattle.formats.specs.Refusals.{outputFull, fuelUsedUp}
 use Rattle.meaning.specs.Performing.{Setting, State, Step, goes, ends, refuses, step}
-use Rattle.meaning.specs.Running.{Stop, ended, refused, Run, after, run, unitsOf}
+use Rattle.meaning.specs.Running.{Stop, ended, refused, Run, afterPerforming, run, unitsOf}
 use Rattle.meaning.specs.StreamRun.{Grows, Steps, here, on}
 use Rattle.meaning.proofs.Runs.{run-none, run-goes, run-ends, run-refuses}
 use Rattle.translation.proofs.Paths.{withSpace, Path, no-step, join}
@@ -33,13 +33,13 @@ pub record Course (m : Setting) (s : State) (why : Stop) : Type 0 where
   pub is-final : Final final why counts
   pub there : (space : ℕ) → length (last .output) ≤ space → step (withSpace space m) last ≡ final
 
--- one that is refused at once; and one behind a path
+-- one that is refused at once; and one after a path
 pub refused-at-once : {m : Setting} {why : ℕ} (s : State) → ((space : ℕ) → step (withSpace space m) s ≡ refuses why) → Course m s (refused why)
 refused-at-once s e =
     record { last = s; units = 0; path = no-step s; final = _; counts = 0; is-final = refused-there; there = λ space fits. e space }
 
-pub course-behind : {m : Setting} {s t : State} {units : ℕ} {why : Stop} → Path m s t units → Course m t why → Course m s why
-course-behind path c =
+pub course-after : {m : Setting} {s t : State} {units : ℕ} {why : Stop} → Path m s t units → Course m t why → Course m s why
+course-after path c =
     record { last = c .last; units = _; path = join path (c .path); final = c .final; counts = c .counts; is-final = c .is-final; there = c .there }
 
 -- A run that has gone the whole way.
@@ -86,7 +86,7 @@ at-last m (suc fuel) s refused-there e = rw (run-refuses m fuel s _ e) (whole (r
 one-before :
     {last : State} {units counts : ℕ} {why : Stop} {space fuel : ℕ} {r : Run} (a : ℕ)
     → CameTo last units counts why space fuel r
-    → CameTo last (suc units) counts why space (suc fuel) (after a r)
+    → CameTo last (suc units) counts why space (suc fuel) (afterPerforming a r)
 one-before a (out-of-fuel e u l) = out-of-fuel e (ap suc u) (omega arith)
 one-before a (out-of-space e l) = out-of-space e l
 one-before a (whole w l) = whole (record { stops = w .stops; spent = omega (arith, w .spent); is-last = w .is-last }) (omega arith)

@@ -1,7 +1,7 @@
 -- Demand 3: the proof of specs/Demand3.antt.
 --
 -- The run on a tree's own tokens has a known course (WholeRuns), so it ends, or is refused with 14, 17 or 18: it looks at no byte that it has not read.
--- What stands behind the tree is then of no matter (StreamRun, `same-input`), and no more is read than the tree's tokens. What is written is compared
+-- What stands after the tree is then of no matter (StreamRun, `same-input`), and no more is read than the tree's tokens. What is written is compared
 -- with the run of a wider machine, on which the evaluation's calls can all be open: its steps go on from those of the narrow one.
 use Prim.Native.Nat.{ℕ, suc, _+_, _*_, _≤_, _<_}
 use mathlib.Core.List.{List, [], _++_}
@@ -13,19 +13,19 @@ use native.Mathlib.Numerals.{add-one}
 use native.Mathlib.Omega.{arith}
 use lib.ListN.{length, drop, length-append, take-append-drop}
 use lib.Seq.{take-append-le}
-use Rattle.formats.specs.Places.{Opens}
+use Rattle.formats.specs.Buffers.{Opens}
 use Rattle.formats.specs.Results.{done}
 use Rattle.formats.specs.Tokens.{Tree, Labelled, tokens}
 use Rattle.formats.specs.Programs.{Function, Program}
 use Rattle.meaning.specs.Instructions.{heldBy}
 use Rattle.meaning.specs.Performing.{Setting, State, start, Step, goes}
-use Rattle.meaning.specs.Running.{Stop, ended, Run, outcomeOf, numberTold, Ran, mostCalls, ofCode}
+use Rattle.meaning.specs.Running.{Stop, ended, Run, outcomeOf, numberReported, Ran, mostCalls, ofCode}
 use Rattle.meaning.specs.StreamRun.{Stops, used-up, returned, stuck, lookedAt, restsOn, writtenBy}
 use Rattle.meaning.specs.Evaluation.{Value, inCall, Takes, Ends, resultBytes, resultNumber, unitsIn}
 use Rattle.meaning.proofs.Meaning.{meaning}
 use Rattle.meaning.proofs.Runs.{runs}
 use Rattle.translation.specs.Demand3.{Given, runOn, readBy, Whole, Demand3, Demand3Holds}
-use Rattle.translation.specs.EveryRun.{WholeAfter, unitsOf}
+use Rattle.translation.specs.EveryRun.{WholeAfter, evaluationUnits}
 use Rattle.translation.proofs.AnyInput.{carries-opening}
 use Rattle.translation.proofs.CodeCalls.{StopsFor, it-ended, no-fuel, no-space, no-call, at-fault}
 use Rattle.translation.proofs.CodeCalls.{code, runOf, call-runs, call-reads, call-units, call-outcome, call-writes}
@@ -74,20 +74,20 @@ same-units program t o n o′ n′ v v′ e e′ =
 module _ (given : Given) (t : Tree) (labelled : Labelled t) where
   open Given given using (program)
 
-  -- the course of the run on its tokens, with anything behind them
+  -- the course of the run on its tokens, with anything after them
   pub course : (rest : List ℕ) → CourseOn given ⊥ (tokens t ++ rest) (length (tokens t)) t
   course rest = course-on given (tokens t ++ rest) (length (tokens t)) t (carries-opening t rest labelled)
 
-  -- with nothing behind the tree, the answer rests on its tokens alone
+  -- with nothing after the tree, the answer rests on its tokens alone
   rests-on-tokens : (output : List ℕ) (fuel : ℕ) → restsOn (runOn given (tokens t ++ []) output fuel .answer) ≤ length (tokens t)
   rests-on-tokens output fuel =
       let read = calls given output .read-there (tokens t ++ []) fuel in
       let looked = ap lookedAt (call-outcome given (tokens t ++ []) output fuel refl) ∙ none-looked-at _ (stops-for given (course []) output fuel) in
       omega (arith, length-append (tokens t) [], read, looked)
 
-  -- so what stands behind it is of no matter
-  pub nothing-behind : (rest output : List ℕ) (fuel : ℕ) → runOn given (tokens t ++ rest) output fuel ≡ runOn given (tokens t ++ []) output fuel
-  nothing-behind rest output fuel =
+  -- so what stands after it is of no matter
+  pub nothing-after : (rest output : List ℕ) (fuel : ℕ) → runOn given (tokens t ++ rest) output fuel ≡ runOn given (tokens t ++ []) output fuel
+  nothing-after rest output fuel =
       let k = restsOn (runOn given (tokens t ++ []) output fuel .answer) in
       let few = rests-on-tokens output fuel in
       calls given output .same-input (tokens t ++ []) (tokens t ++ rest) fuel
@@ -95,7 +95,7 @@ module _ (given : Given) (t : Tree) (labelled : Labelled t) where
 
   -- no more is read than its tokens
   reads-no-more : (rest output : List ℕ) (fuel : ℕ) → runOn given (tokens t ++ rest) output fuel .answer .bytesRead ≤ length (tokens t)
-  reads-no-more rest output fuel = rw (nothing-behind rest output fuel) (omega (arith, rests-on-tokens output fuel))
+  reads-no-more rest output fuel = rw (nothing-after rest output fuel) (omega (arith, rests-on-tokens output fuel))
 
   -- what is read are opening bytes of it
   reads-opening : (rest output : List ℕ) (fuel : ℕ) → Opens (readBy (runOn given (tokens t ++ rest) output fuel) (tokens t ++ rest)) (tokens t)
@@ -187,7 +187,7 @@ module _ (given : Given) (t : Tree) (labelled : Labelled t) where
       → last .output ≡ resultBytes v
       → last .read ≡ length (tokens t)
       → Whole t v output (runOn given (tokens t ++ rest) output fuel)
-  unfolding outcomeOf numberTold
+  unfolding outcomeOf numberReported
   whole-answer v rest output fuel last a bytes read =
       let so = call-runs given (tokens t ++ rest) output fuel in
       let out : runOf given (tokens t ++ rest) output fuel .last .output ≡ resultBytes v = ap (λ (s : State). s .output) (a .is-last) ∙ bytes in
@@ -199,7 +199,7 @@ module _ (given : Given) (t : Tree) (labelled : Labelled t) where
         whole-written = many;
         result = call-writes given (tokens t ++ rest) output fuel ∙ out;
         untouched = rw many at (calls given output .untouched (tokens t ++ rest) fuel);
-        same-number = ap (λ (r : Ran). r .answer .number) so ∙ ap numberTold (a .stops);
+        same-number = ap (λ (r : Ran). r .answer .number) so ∙ ap numberReported (a .stops);
       }
 
   -- with fuel for one more than its units, and space for its result, the run is whole, and has spent them
@@ -207,7 +207,7 @@ module _ (given : Given) (t : Tree) (labelled : Labelled t) where
       (n : ℕ) (v : Value) (evaluated : Ends program t mostCalls n v) (rest output : List ℕ) (fuel : ℕ)
       → unitsIn (evaluated .takes) < fuel
       → length (resultBytes v) ≤ length output
-      → WholeAfter (unitsOf evaluated) t v output (runOn given (tokens t ++ rest) output fuel)
+      → WholeAfter (evaluationUnits evaluated) t v output (runOn given (tokens t ++ rest) output fuel)
   whole-run n v evaluated rest output fuel enough fits =
       let e = ending n v evaluated rest output fuel in
       let a = whole-way enough (rw (e .bytes) fits) (e .comes) in
@@ -234,7 +234,7 @@ module _ (given : Given) (t : Tree) (labelled : Labelled t) where
     written-opening = writes-opening;
     written-no-more = writes-no-more;
     none-other = λ rest output fuel. calls given output .untouched (tokens t ++ rest) fuel;
-    nothing-after = λ rest rest′ output fuel. nothing-behind rest output fuel ∙ sym (nothing-behind rest′ output fuel);
+    nothing-after = λ rest rest′ output fuel. nothing-after rest output fuel ∙ sym (nothing-after rest′ output fuel);
     suffices = λ n v evaluated rest output fuel enough fits.
         let few = meaning .evaluations program .four-each _ _ _ n v (evaluated .takes) in
         whole-run n v evaluated rest output fuel (omega arith) fits .whole;

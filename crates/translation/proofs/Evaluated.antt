@@ -18,7 +18,7 @@ use Rattle.meaning.specs.OpenCalls.{evaluate, called, evaluation}
 use Rattle.meaning.proofs.Levels.{level-newest}
 use Rattle.meaning.proofs.Proper.{ProperProgram}
 use Rattle.meaning.proofs.Sorts.{ValuesOf, valueOf, Numbers}
-use Rattle.translation.specs.Templates.{behind, firstWords, wordsKept, entryFrom, entryOf}
+use Rattle.translation.specs.Templates.{codeEnd, firstWords, wordsKept, entryFrom, entryOf}
 use Rattle.translation.proofs.Addresses.{Held}
 use Rattle.translation.proofs.Bodies.{CheckedBody}
 use Rattle.translation.proofs.CodeStands.{FunctionStands}
@@ -33,7 +33,7 @@ use Rattle.translation.proofs.Simulation.{pushed, finished, argued, Und
 pub record Runnable (program : Program) (holds : ℕ → Option Instruction) : Type 0 where
   pub proper : ProperProgram program
   pub bodies : (b : ℕ) (f : Function) → nth (program .functions) b ≡ some f → CheckedBody (signatures program) f
-  pub laid :
+  pub emitted :
       (b : ℕ) (f : Function)
       → nth (program .functions) b ≡ some f
       → FunctionStands (Held holds) (entryOf program) (entryOf program b) f
@@ -79,7 +79,7 @@ module _ (Faulty : Type 0) (m : Setting) (program : Program) (end : ℕ) (wide :
       → Under Faulty m program end wide k callers
       → (q : ℕ)
       → Goes Faulty m (entered b (numbers .all) callers read output) (valueOf (f .sort))
-      (λ x read′. finished (f .sort) x (behind (f .body) (entryOf program b)) read′ (entered b (numbers .all) callers read output))
+      (λ x read′. finished (f .sort) x (codeEnd (f .body) (entryOf program b)) read′ (entered b (numbers .all) callers read output))
       (After Faulty m program end wide k (inCall (numbers .all) t) (f .sort) (f .body) [] beyond)
       (evaluate (called program k) (inCall (numbers .all) t) q (f .body))
   keeps-body k calls b f numbers t beyond callers read output known carries under q =
@@ -94,7 +94,7 @@ module _ (Faulty : Type 0) (m : Setting) (program : Program) (end : ℕ) (wide :
         left = record { pending = t ∷ []; named = picked (level-newest t 0 [] refl) none-picked; carries = carries };
         under = under;
       })
-      (body .in-order) (body .few-words) (runnable .laid b f known .body) q
+      (body .in-order) (body .few-words) (runnable .emitted b f known .body) q
 
   -- calls keep up
   keeps-calls : (k : ℕ) → SimCalls Faulty m program end wide k
@@ -115,7 +115,7 @@ module _ (Faulty : Type 0) (m : Setting) (program : Program) (end : ℕ) (wide :
       λ n x units read′ after. record {
         more = 1;
         read = read′;
-        path = does-return m _ (f .sort) x (numbers .all) _ (s .callers) (runnable .laid b f known .return) refl refl;
+        path = does-return m _ (f .sort) x (numbers .all) _ (s .callers) (runnable .emitted b f known .return) refl refl;
         post = record {
           begun = after .begun;
           derivation = after .derivation;
@@ -127,9 +127,9 @@ module _ (Faulty : Type 0) (m : Setting) (program : Program) (end : ℕ) (wide :
 
   open ProperProgram (runnable .proper) using (first, is-first, bare)
 
-  -- The state behind function 0's body.
+  -- The state after function 0's body.
   abbrev pub atEnd : ValuesOf (first .sort) → ℕ → State
-  atEnd x read = finished (first .sort) x (behind (first .body) (entryOf program 0)) read start
+  atEnd x read = finished (first .sort) x (codeEnd (first .body) (entryOf program 0)) read start
 
   -- the whole keeps up
   pub keeps-whole :
@@ -146,4 +146,4 @@ module _ (Faulty : Type 0) (m : Setting) (program : Program) (end : ℕ) (wide :
 
   -- and there the run ends, with every space
   pub ends-whole : (x : ValuesOf (first .sort)) (read space : ℕ) → step (withSpace space m) (atEnd x read) ≡ ends (resultNumber (valueOf (first .sort) x))
-  ends-whole x read space = ends-there (withSpace space m) (atEnd x read) (first .sort) x [] (runnable .laid 0 first is-first .return) refl refl
+  ends-whole x read space = ends-there (withSpace space m) (atEnd x read) (first .sort) x [] (runnable .emitted 0 first is-first .return) refl refl

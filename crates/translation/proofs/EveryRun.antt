@@ -1,7 +1,7 @@
 -- What else holds of every run of a checked program's code: the proof of specs/EveryRun.antt.
 --
 -- Any input begins with a tree's tokens or has a fault (AnyInput), and in both cases the course of the run is known. It is never 19; and with a fault it
--- is never to the end: the trees pending are then carried up to a place that no run can come to.
+-- is never to the end: the trees pending are then carried up to a position that no run can come to.
 use Prim.Native.Nat.{ℕ, suc, _+_, _≤_, _<_}
 use mathlib.Core.List.{List, [], _∷_, _++_}
 use mathlib.Core.Logic.{_≢_}
@@ -22,26 +22,26 @@ use Rattle.meaning.specs.Evaluation.{Value, number, tree, Ends, resultBytes}
 use Rattle.meaning.specs.Meaning.{OfSort}
 use Rattle.meaning.proofs.Meaning.{meaning}
 use Rattle.translation.specs.Demand3.{Given, runOn}
-use Rattle.translation.specs.EveryRun.{RefusedAfter, unitsOf, Refused18, Meant, OneForOne, EveryRun, EveryRunHolds}
+use Rattle.translation.specs.EveryRun.{RefusedAfter, evaluationUnits, Refused18, Meant, OneForOne, EveryRun, EveryRunHolds}
 use Rattle.translation.proofs.AnyInput.{with-tree, with-fault, begins}
 use Rattle.translation.proofs.Bodies.{passes-one}
 use Rattle.translation.proofs.Courses.{Final, refused-there, Course, whole-way, out-of-fuel, out-of-space, whole}
 use Rattle.translation.proofs.Carried.{Carries}
 use Rattle.translation.proofs.CodeCalls.{StopsFor, it-ended, no-fuel, no-space, no-call, at-fault, on, runOf, call-reads, call-units, call-outcome}
 use Rattle.translation.proofs.CodeCalls.{calls, goes-along, done-whole-way, refused-call, course-on, stops-for}
-use Rattle.translation.proofs.Demand3.{course, nothing-behind, ending, whole-answer, whole-run}
+use Rattle.translation.proofs.Demand3.{course, nothing-after, ending, whole-answer, whole-run}
 use Rattle.translation.proofs.Goes.{input-ended, not-a-tag}
 use Rattle.translation.proofs.WholeRuns.{ends-so, sticks-so, faults-so}
 
 -- such code stops for no instruction that can't be performed
-not-19 : {Faulty : Type 0} {w : Stop} (read place : ℕ) → StopsFor Faulty w → outcomeOf w read ≢ refusal cannotPerform place
+not-19 : {Faulty : Type 0} {w : Stop} (read position : ℕ) → StopsFor Faulty w → outcomeOf w read ≢ refusal cannotPerform position
 unfolding outcomeOf
-not-19 read place it-ended e = let z : _≡_ {A = ℕ} 0 1 = cc in absurd (omega arith)
-not-19 read place no-fuel e = let z : fuelUsedUp ≡ cannotPerform = cc in absurd (omega arith)
-not-19 read place no-space e = let z : outputFull ≡ cannotPerform = cc in absurd (omega arith)
-not-19 read place no-call e = let z : tooManyCalls ≡ cannotPerform = cc in absurd (omega arith)
-not-19 read place (at-fault f input-ended) e = let z : inputEnded ≡ cannotPerform = cc in absurd (omega arith)
-not-19 read place (at-fault f not-a-tag) e = let z : notATag ≡ cannotPerform = cc in absurd (omega arith)
+not-19 read position it-ended e = let z : _≡_ {A = ℕ} 0 1 = cc in absurd (omega arith)
+not-19 read position no-fuel e = let z : fuelUsedUp ≡ cannotPerform = cc in absurd (omega arith)
+not-19 read position no-space e = let z : outputFull ≡ cannotPerform = cc in absurd (omega arith)
+not-19 read position no-call e = let z : tooManyCalls ≡ cannotPerform = cc in absurd (omega arith)
+not-19 read position (at-fault f input-ended) e = let z : inputEnded ≡ cannotPerform = cc in absurd (omega arith)
+not-19 read position (at-fault f not-a-tag) e = let z : notATag ≡ cannotPerform = cc in absurd (omega arith)
 
 -- the instruction that is refused counts nothing
 refused-counts : {f : Step} {why counts : ℕ} → Final f (refused why) counts → counts ≡ 0
@@ -67,7 +67,7 @@ module _ (given : Given) where
       (t : Tree) (n : ℕ) (v : Value) (evaluated : Ends program t mostCalls n v) (rest output : List ℕ) (fuel : ℕ)
       → Labelled t
       → length (resultBytes v) ≤ length output
-      → fuel < unitsOf evaluated
+      → fuel < evaluationUnits evaluated
       → RefusedAfter fuel fuelUsedUp (runOn given (tokens t ++ rest) output fuel)
   fuel-short t n v evaluated rest output fuel labelled fits short =
       let e = ending given t labelled n v evaluated rest output fuel in
@@ -83,7 +83,7 @@ module _ (given : Given) where
       (t : Tree) (n : ℕ) (v : Value) (evaluated : Ends program t mostCalls n v) (rest output : List ℕ) (fuel : ℕ)
       → Labelled t
       → length output < length (resultBytes v)
-      → unitsOf evaluated ≤ fuel
+      → evaluationUnits evaluated ≤ fuel
       → runOn given (tokens t ++ rest) output fuel .answer .outcome ≡ refusal outputFull (runOn given (tokens t ++ rest) output fuel .answer .bytesRead)
   unfolding outcomeOf
   space-short t n v evaluated rest output fuel labelled short enough =
@@ -105,10 +105,10 @@ module _ (given : Given) where
     space = length (c .last .output);
     enough = λ rest output fuel more fits.
         let a = whole-way (omega arith) fits (goes-along given c output fuel) in
-        rw (nothing-behind given t labelled rest output fuel) (refused-after (tokens t ++ []) output fuel tooManyCalls _ (a .stops) (a .spent));
+        rw (nothing-after given t labelled rest output fuel) (refused-after (tokens t ++ []) output fuel tooManyCalls _ (a .stops) (a .spent));
     fewer = λ rest output fuel few fits.
         let none = refused-counts (c .is-final) in
-        rw (nothing-behind given t labelled rest output fuel) (elim (goes-along given c output fuel) [
+        rw (nothing-after given t labelled rest output fuel) (elim (goes-along given c output fuel) [
           | out-of-fuel stops u less ↦ refused-after (tokens t ++ []) output fuel fuelUsedUp fuel stops u
           | out-of-space stops less ↦ absurd (omega arith)
           | whole a more ↦ absurd (omega arith)
@@ -124,13 +124,13 @@ module _ (given : Given) where
 
   -- ---- any input
 
-  never-19 : (input output : List ℕ) (fuel place : ℕ) → Bytes input → runOn given input output fuel .answer .outcome ≢ refusal cannotPerform place
-  never-19 input output fuel place bytes e =
+  never-19 : (input output : List ℕ) (fuel position : ℕ) → Bytes input → runOn given input output fuel .answer .outcome ≢ refusal cannotPerform position
+  never-19 input output fuel position bytes e =
       let so = sym (call-outcome given input output fuel refl) ∙ e in
       elim (begins input bytes) [
         | with-tree t labelled opens ↦
-            not-19 {Faulty = ⊥} _ place (rw (opens .joined) (stops-for given (course given t labelled (opens .rest)) output fuel)) so
-        | with-fault t carries ↦ not-19 _ place (stops-for given (course-on given input (suc (length input)) t carries) output fuel) so
+            not-19 {Faulty = ⊥} _ position (rw (opens .joined) (stops-for given (course given t labelled (opens .rest)) output fuel)) so
+        | with-fault t carries ↦ not-19 _ position (stops-for given (course-on given input (suc (length input)) t carries) output fuel) so
       ]
 
   -- with a fault no run ends: it would have read more than there is

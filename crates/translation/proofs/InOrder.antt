@@ -11,7 +11,7 @@ use Rattle.formats.specs.Programs.{Expr, const, var, add, ifZero, letIn, leafOf
 use Rattle.formats.proofs.Results.{done-injective, done-not, then-inv, check-inv}
 use Rattle.rules.specs.Leftover.{mostPending}
 use Rattle.rules.specs.PassOne.{holdsAt}
-use Rattle.rules.specs.PassTwo.{takeHead, sameNames, joined, walk, walkArgs}
+use Rattle.rules.specs.PassTwo.{takeHead, sameNames, equalBranches, walk, walkArgs}
 use Rattle.rules.proofs.PassTwo.{same-names}
 
 -- a tree that is taken stands at the head
@@ -25,8 +25,8 @@ head-taken a r (x ∷ Δ) Δ′ e =
     cc
 
 -- two branches end with the same list
-pub both-branches : (r : ℕ) (one other : Result (List ℕ)) (Δ : List ℕ) → joined r one other ≡ done Δ → (one ≡ done Δ) × (other ≡ done Δ)
-unfolding joined
+pub both-branches : (r : ℕ) (one other : Result (List ℕ)) (Δ : List ℕ) → equalBranches r one other ≡ done Δ → (one ≡ done Δ) × (other ≡ done Δ)
+unfolding equalBranches
 both-branches r one other Δ e =
     let first = then-inv one _ Δ e in
     let second = then-inv other _ Δ (first .second) in

@@ -1,6 +1,6 @@
--- The code of a program lies where its entries say: among its bytes, with whatever bytes behind them, each function's code stands from its entry on.
+-- The code of a program lies where its entries say: among its bytes, with whatever bytes after them, each function's code stands from its entry on.
 --
--- An instruction has eight bytes, at eight times its address; they are read as the instruction because its fields fit (Operands). Bytes behind do not
+-- An instruction has eight bytes, at eight times its address; they are read as the instruction because its fields fit (Operands). Bytes after do not
 -- change what is read. So each instruction stands at its address, and each function at its entry (CodeStands).
 use Prim.Native.Nat.{ℕ, _+_, _*_, _≤_, _<_}
 use mathlib.Core.List.{List, [], _∷_, _++_, map}
@@ -22,7 +22,7 @@ use Rattle.translation.proofs.Addresses.{Held}
 use Rattle.translation.proofs.CodeStands.{Holds, FunctionStands, code-stands}
 use Rattle.translation.proofs.Operands.{few-instructions, operands-fit}
 
--- a number, and a record, are read as they are without the bytes behind
+-- a number, and a record, are read as they are without the bytes after
 number-front : (width : ℕ) (s rest : List ℕ) (p : ℕ) → p + width ≤ length s → numberAt width (s ++ rest) p ≡ numberAt width s p
 number-front width s rest p h =
     numberAt-whole width (s ++ rest) p (omega (arith, length-append s rest))
@@ -82,10 +82,10 @@ operation-held program lawful after-code a op e =
     ∙ ap some (record-front (flat records) after-code a whole ∙ at-flat records a (instructionOf op) fit (nth-mapped instructionOf ops a op e))
 
 -- so each of its functions stands at its entry
-pub laid :
+pub emitted :
     (program : Program)
     → Lawful program
     → (after-code : List ℕ) (b : ℕ) (f : Function)
     → nth (program .functions) b ≡ some f
     → FunctionStands (Held (heldBy (codeOf program ++ after-code))) (entryOf program) (entryOf program b) f
-laid program lawful after-code = code-stands _ program (operation-held program lawful after-code)
+emitted program lawful after-code = code-stands _ program (operation-held program lawful after-code)

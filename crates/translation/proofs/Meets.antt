@@ -21,22 +21,22 @@ pub record LeadsOn (m : Setting) (u w : State) : Type 0 where
   pub steps : Steps m rest u w
 
 module _ {m : Setting} where
-  -- behind a first step, which is the other row's too
-  behind-first :
+  -- after a first step, which is the other row's too
+  after-first :
       {q : List ℕ} {s t u w : State}
       → ((v : State) → step m w ≡ goes v → ⊥)
       → step m s ≡ goes t
       → ((q : List ℕ) → Steps m q t w → LeadsOn m u w)
       → Steps m q s w
       → LeadsOn m u w
-  behind-first {t = t} none e onward here = absurd (none t e)
-  behind-first {t = t} none e onward (on {t = v} d k) = let same : v ≡ t = cc in onward _ (rw same at k)
+  after-first {t = t} none e onward here = absurd (none t e)
+  after-first {t = t} none e onward (on {t = v} d k) = let same : v ≡ t = cc in onward _ (rw same at k)
 
   -- where a row goes no further, every other from the same state leads to its end
   meets : {p q : List ℕ} {s u w : State} → Steps m p s u → Steps m q s w → ((t : State) → step m w ≡ goes t → ⊥) → LeadsOn m u w
   meets {q = q} {w = w} d k none = elim d as (λ p s u d. (q : List ℕ) → Steps m q s w → LeadsOn m u w) [
     | here ↦ λ q k. record { rest = q; steps = k }
-    | on e (d → h) ↦ λ q k. behind-first none e h k
+    | on e (d → h) ↦ λ q k. after-first none e h k
   ] q k
 
   -- so what has been read and written grows to what has been at that end

@@ -2,7 +2,7 @@
 --
 -- The code of an expression has at least one instruction, and at most four for each of its records; a function has one more, its return. So the code
 -- of a lawful program has at most 4 × 1,024 + 32 instructions, and each address in it is at most that number. A word above the base is an argument,
--- or an instruction laid down before has put it there: so at address a at most a + 4 words stand, and each name's word is below 2^16. The number of a
+-- or an instruction emitted before has put it there: so at address a at most a + 4 words stand, and each name's word is below 2^16. The number of a
 -- Const fits by the limits of "Program file", and so does the count of a Call's arguments. Neither pass is needed for any of this.
 use Prim.Native.Nat.{ℕ, zero, suc, _+_, _*_, _^_, _≤_, _<_}
 use mathlib.Core.List.{List, [], _∷_, _++_, map}
@@ -19,66 +19,66 @@ use Rattle.formats.proofs.Programs.{every-append, every-left, every-right}
 use Rattle.meaning.specs.Levels.{atLevel}
 use Rattle.meaning.specs.Instructions.{Operation, Return, instructionOf, mostInstructions}
 use Rattle.meaning.proofs.Levels.{level-every}
-use Rattle.translation.specs.Templates.{behind, behindArgs, Words, wordOf, firstWords, endOf, code, codeArgs, wordsKept}
-use Rattle.translation.specs.Templates.{functionCode, behindFunction, entryFrom, functionsCode, entryOf, operationsOf}
+use Rattle.translation.specs.Templates.{codeEnd, argsEnd, Words, wordOf, firstWords, endOf, code, codeArgs, wordsKept}
+use Rattle.translation.specs.Templates.{functionCode, functionEnd, entryFrom, functionsCode, entryOf, operationsOf}
 use Rattle.translation.proofs.Addresses.{length-code}
 
 -- ---- how many instructions
 
 -- the code of an expression has at least one, and at most four for each of its records
 mutual
-  unfolding behind behindArgs prefix prefixes
+  unfolding codeEnd argsEnd prefix prefixes
 
-  pub ends : (e : Expr) (a : ℕ) → (a < behind e a) × (behind e a ≤ a + 4 * length (prefix e))
+  pub ends : (e : Expr) (a : ℕ) → (a < codeEnd e a) × (codeEnd e a ≤ a + 4 * length (prefix e))
   ends (const i) a = omega arith
   ends (var k) a = omega arith
-  ends (add p q) a = omega (arith, length-append (prefix p) (prefix q), ends p a, ends q (behind p a))
+  ends (add p q) a = omega (arith, length-append (prefix p) (prefix q), ends p a, ends q (codeEnd p a))
   ends (ifZero t z o) a =
-      let atZ = suc (behind t a) in
+      let atZ = suc (codeEnd t a) in
       let records = length-append (prefix t) (prefix z ++ prefix o) in
-      omega (arith, records, length-append (prefix z) (prefix o), ends t a, ends z atZ, ends o (suc (behind z atZ)))
-  ends (letIn p body) a = omega (arith, length-append (prefix p) (prefix body), ends p a, ends body (behind p a))
+      omega (arith, records, length-append (prefix z) (prefix o), ends t a, ends z atZ, ends o (suc (codeEnd z atZ)))
+  ends (letIn p body) a = omega (arith, length-append (prefix p) (prefix body), ends p a, ends body (codeEnd p a))
   ends (leafOf p) a = omega (arith, ends p (suc a))
-  ends (nodeOf p q) a = omega (arith, length-append (prefix p) (prefix q), ends p (suc a), ends q (behind p (suc a)))
+  ends (nodeOf p q) a = omega (arith, length-append (prefix p) (prefix q), ends p (suc a), ends q (codeEnd p (suc a)))
   ends (caseOf k p q) a =
       let atP = suc (suc a) in
-      omega (arith, length-append (prefix p) (prefix q), ends p atP, ends q (suc (suc (behind p atP))))
+      omega (arith, length-append (prefix p) (prefix q), ends p atP, ends q (suc (suc (codeEnd p atP))))
   ends (call k b xs) a = omega (arith, ends-args xs a)
 
   -- arguments may have none
-  ends-args : (xs : Args) (a : ℕ) → (a ≤ behindArgs xs a) × (behindArgs xs a ≤ a + 4 * length (prefixes xs))
+  ends-args : (xs : Args) (a : ℕ) → (a ≤ argsEnd xs a) × (argsEnd xs a ≤ a + 4 * length (prefixes xs))
   ends-args noArgs a = omega arith
-  ends-args (arg x xs) a = omega (arith, length-append (prefix x) (prefixes xs), ends x a, ends-args xs (behind x a))
+  ends-args (arg x xs) a = omega (arith, length-append (prefix x) (prefixes xs), ends x a, ends-args xs (codeEnd x a))
 
 module _ (entries : ℕ → ℕ) where
   -- a function's code ends where the next one's begins
-  pub length-function : (a : ℕ) (f : Function) → a + length (functionCode entries a f) ≡ behindFunction f a
-  unfolding functionCode behindFunction
+  pub length-function : (a : ℕ) (f : Function) → a + length (functionCode entries a f) ≡ functionEnd f a
+  unfolding functionCode functionEnd
   length-function a f =
       let words = firstWords (f .parameters) in
       let body = code entries (f .sort) words (f .parameters) a (f .body) in
       omega (arith, length-append body (Return (wordsKept (f .sort)) ∷ []), length-code entries (f .sort) words (f .parameters) a (f .body))
 
-  -- and the code of those behind it follows
+  -- and the code of those after it follows
   length-functions :
       (a : ℕ) (f : Function) (fs : List Function)
-      → a + length (functionsCode entries a (f ∷ fs)) ≡ behindFunction f a + length (functionsCode entries (behindFunction f a) fs)
+      → a + length (functionsCode entries a (f ∷ fs)) ≡ functionEnd f a + length (functionsCode entries (functionEnd f a) fs)
   unfolding functionsCode
   length-functions a f fs =
-      omega (arith, length-append (functionCode entries a f) (functionsCode entries (behindFunction f a) fs), length-function a f)
+      omega (arith, length-append (functionCode entries a f) (functionsCode entries (functionEnd f a) fs), length-function a f)
 
   -- functions have at most four instructions for each record, and one more each
   few-in-functions : (a : ℕ) (fs : List Function) → length (functionsCode entries a fs) ≤ 4 * total (map signatureOf fs) + length fs
-  unfolding functionsCode behindFunction total signatureOf size
+  unfolding functionsCode functionEnd total signatureOf size
   few-in-functions a [] = le-refl _
-  few-in-functions a (f ∷ fs) = omega (arith, length-functions a f fs, ends (f .body) a, few-in-functions (behindFunction f a) fs)
+  few-in-functions a (f ∷ fs) = omega (arith, length-functions a f fs, ends (f .body) a, few-in-functions (functionEnd f a) fs)
 
-  -- each of them begins where there is code, or behind it
+  -- each of them begins where there is code, or after it
   entry-within : (a : ℕ) (fs : List Function) (b : ℕ) → entryFrom a fs b ≤ a + length (functionsCode entries a fs)
   unfolding functionsCode entryFrom
   entry-within a fs zero = omega arith
   entry-within a [] (suc b) = omega arith
-  entry-within a (f ∷ fs) (suc b) = omega (arith, length-functions a f fs, entry-within (behindFunction f a) fs b)
+  entry-within a (f ∷ fs) (suc b) = omega (arith, length-functions a f fs, entry-within (functionEnd f a) fs b)
 
 -- 01, Limits: "At most 4,128 instructions."
 pub few-instructions : (program : Program) → Lawful program → length (operationsOf program) ≤ mostInstructions
@@ -162,13 +162,13 @@ module _
   where
     -- the code of an expression that ends within the limit, where no more words stand than its address allows
     mutual
-      unfolding code codeArgs behind behindArgs prefix prefixes instructionOf
+      unfolding code codeArgs codeEnd argsEnd prefix prefixes instructionOf
 
       fits :
           (s : Sort) (words : Words) (w a : ℕ) (e : Expr)
           → Every Small words
           → w ≤ a + mostArguments
-          → behind e a ≤ mostInstructions
+          → codeEnd e a ≤ mostInstructions
           → Every (InRange (length gs)) (prefix e)
           → Applied (arityOf gs) e
           → Fit (code entries s words w a e)
@@ -176,7 +176,7 @@ module _
       fits s words w a (var k) small above below ranged applied = one-fit (omega (arith, word-small words k small)) no-fit
       fits s words w a (add p q) small above below ranged applied =
           let p-ends = ends p a in
-          let q-ends = ends q (behind p a) in
+          let q-ends = ends q (codeEnd p a) in
           join-fits
           (fits _ _ _ _ p small above (omega arith) (every-left _ (prefix p) (prefix q) (ranged .1)) (applied .0))
           (join-fits
@@ -184,8 +184,8 @@ module _
           (one-fit (omega arith) no-fit))
       fits s words w a (ifZero t z o) small above below ranged applied =
           let t-ends = ends t a in
-          let z-ends = ends z (suc (behind t a)) in
-          let o-ends = ends o (suc (behind z (suc (behind t a)))) in
+          let z-ends = ends z (suc (codeEnd t a)) in
+          let o-ends = ends o (suc (codeEnd z (suc (codeEnd t a)))) in
           let others = every-right _ (prefix t) (prefix z ++ prefix o) (ranged .1) in
           join-fits
           (fits _ _ _ _ t small above (omega arith) (every-left _ (prefix t) (prefix z ++ prefix o) (ranged .1)) (applied .0))
@@ -195,7 +195,7 @@ module _
           (one-fit (omega arith) (fits _ _ _ _ o small (omega arith) below (every-right _ (prefix z) (prefix o) others) (applied .1 .1)))))
       fits s words w a (letIn p body) small above below ranged applied =
           let p-ends = ends p a in
-          let body-ends = ends body (behind p a) in
+          let body-ends = ends body (codeEnd p a) in
           join-fits
           (fits _ _ _ _ p small above (omega arith) (every-left _ (prefix p) (prefix body) (ranged .1)) (applied .0))
           (join-fits
@@ -205,14 +205,14 @@ module _
           one-fit (omega arith) (join-fits (fits _ _ _ _ p small (omega arith) (omega arith) (ranged .1) applied) (one-fit (omega arith) no-fit))
       fits s words w a (nodeOf p q) small above below ranged applied =
           let p-ends = ends p (suc a) in
-          let q-ends = ends q (behind p (suc a)) in
+          let q-ends = ends q (codeEnd p (suc a)) in
           one-fit (omega arith)
           (join-fits
           (fits _ _ _ _ p small (omega arith) (omega arith) (every-left _ (prefix p) (prefix q) (ranged .1)) (applied .0))
           (fits _ _ _ _ q small (omega arith) below (every-right _ (prefix p) (prefix q) (ranged .1)) (applied .1)))
       fits s words w a (caseOf k p q) small above below ranged applied =
           let p-ends = ends p (suc (suc a)) in
-          let q-ends = ends q (suc (suc (behind p (suc (suc a))))) in
+          let q-ends = ends q (suc (suc (codeEnd p (suc (suc a))))) in
           one-fit (omega arith)
           (one-fit (omega arith)
           (join-fits
@@ -228,14 +228,14 @@ module _
           (words : Words) (w a : ℕ) (xs : Args)
           → Every Small words
           → w ≤ a + mostArguments
-          → behindArgs xs a ≤ mostInstructions
+          → argsEnd xs a ≤ mostInstructions
           → Every (InRange (length gs)) (prefixes xs)
           → AppliedArgs (arityOf gs) xs
           → Fit (codeArgs entries words w a xs)
       fits-args words w a noArgs small above below ranged applied = no-fit
       fits-args words w a (arg x xs) small above below ranged applied =
           let x-ends = ends x a in
-          let xs-ends = ends-args xs (behind x a) in
+          let xs-ends = ends-args xs (codeEnd x a) in
           join-fits
           (fits _ _ _ _ x small above (omega arith) (every-left _ (prefix x) (prefixes xs) ranged) (applied .0))
           (fits-args _ _ _ xs small (omega arith) below (every-right _ (prefix x) (prefixes xs) ranged) (applied .1))
@@ -246,10 +246,10 @@ module _
         → LawfulFunctions gs j fs
         → a + length (functionsCode entries a fs) ≤ mostInstructions
         → Fit (functionsCode entries a fs)
-    unfolding functionsCode functionCode behindFunction
+    unfolding functionsCode functionCode functionEnd
     fits-functions j a [] l below = no-fit
     fits-functions j a (f ∷ fs) l below =
-        let next = behindFunction f a in
+        let next = functionEnd f a in
         let parameters = few-parameters j (f .parameters) (l .0 .few-parameters) in
         let long = length-functions entries a f fs in
         join-fits

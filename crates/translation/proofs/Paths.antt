@@ -27,7 +27,7 @@ join-steps {m} {q = q} {u = u} d k = elim d as (λ p s t d. Steps m q t u → St
 ] k
 
 module _ {m : Setting} where
-  -- none, one, and one path behind another
+  -- none, one, and one path after another
   pub no-step : (s : State) → Path m s s 0
   no-step s = record { past = []; many = refl; grows = le-refl _; steps = λ space h. here }
 

@@ -10,11 +10,11 @@ use lib.ListN.{length, length-append}
 use lib.Seq.{take-append-seam, drop-append-seam}
 use Rattle.formats.specs.Numbers.{bytesOf, numberAt, sum32}
 use Rattle.formats.specs.Refusals.{inputEnded, notATag, tooManyCalls}
-use Rattle.formats.specs.Tokens.{leafTag, nodeTag, labelBytes, ended, aLeaf, aNode, other, tagAt}
+use Rattle.formats.specs.Tokens.{leafTag, nodeTag, labelBytes, noByte, aLeaf, aNode, other, tagAt}
 use Rattle.meaning.specs.Levels.{atLevel}
 use Rattle.meaning.specs.Instructions.{Operation, Push, Get, Add, Ifnot, Jump, Slide, Drop, LeafTag, NodeTag, WriteNumber, ReadTag, ReadNumber, Call}
 use Rattle.meaning.specs.Performing.{Setting, Caller, State, standing, opened, goes, refuses}
-use Rattle.meaning.specs.Performing.{one, two, room, push, write, byTag, readNumber, call, operate, perform, step}
+use Rattle.meaning.specs.Performing.{one, two, room, pushWord, write, onTag, takeNumber, openCall, operate, perform, step}
 use Rattle.meaning.proofs.StreamRun.{stream-run}
 use Rattle.translation.proofs.Addresses.{Held}
 use Rattle.translation.proofs.Paths.{withSpace, Path, one-step}
@@ -54,9 +54,9 @@ module _ (m : Setting) (s : State) where
   abbrev Roomy : Type 0
   Roomy = standing s < m .mostWords
 
-  push-goes : (space x : ℕ) → Roomy → push (withSpace space m) x s ≡ goes (moved (suc (s .address)) (x ∷ s .frame) s)
-  unfolding push room
-  push-goes space x fits = simp (push, room, lt-ltb _ _ fits)
+  push-goes : (space x : ℕ) → Roomy → pushWord (withSpace space m) x s ≡ goes (moved (suc (s .address)) (x ∷ s .frame) s)
+  unfolding pushWord room
+  push-goes space x fits = simp (pushWord, room, lt-ltb _ _ fits)
 
   pub does-push : (i : ℕ) → Next m s (Push i) → Roomy → Path m s (moved (suc (s .address)) (i ∷ s .frame) s) 1
   unfolding operate
@@ -127,35 +127,35 @@ module _ (m : Setting) (s : State) where
   reads a words bytes = record { address = a; frame = words; callers = s .callers; read = s .read + bytes; output = s .output }
 
   pub does-read-leaf : (a : ℕ) → Next m s (ReadTag a) → tagAt (m .input) (s .read) ≡ aLeaf → Path m s (reads (suc (s .address)) (s .frame) 1) 1
-  unfolding operate byTag
+  unfolding operate onTag
   does-read-leaf a h e = performs-dry m s _ _ h refl (λ space. rw (e, operate) refl)
 
   pub does-read-node : (a : ℕ) → Next m s (ReadTag a) → tagAt (m .input) (s .read) ≡ aNode → Path m s (reads a (s .frame) 1) 1
-  unfolding operate byTag
+  unfolding operate onTag
   does-read-node a h e = performs-dry m s _ _ h refl (λ space. rw (e, operate) refl)
 
   pub does-read-number : (x : ℕ) → Next m s ReadNumber → Roomy → s .read + labelBytes ≤ length (m .input)
       → numberAt labelBytes (m .input) (s .read) ≡ x
       → Path m s (reads (suc (s .address)) (x ∷ s .frame) labelBytes) 1
-  unfolding operate room readNumber
+  unfolding operate room takeNumber
   does-read-number x h fits there e =
-      performs-dry m s _ _ h refl (λ space. simp (operate, room, readNumber, lt-ltb _ _ fits, le-leb _ _ there, e))
+      performs-dry m s _ _ h refl (λ space. simp (operate, room, takeNumber, lt-ltb _ _ fits, le-leb _ _ there, e))
 
   -- ---- faults of the input
 
-  pub no-tag-there : (a space : ℕ) → Next m s (ReadTag a) → tagAt (m .input) (s .read) ≡ ended → step (withSpace space m) s ≡ refuses inputEnded
-  unfolding operate byTag
-  no-tag-there a space h e = step-is (withSpace space m) s _ h ∙ simp (operate, byTag, e)
+  pub no-tag-there : (a space : ℕ) → Next m s (ReadTag a) → tagAt (m .input) (s .read) ≡ noByte → step (withSpace space m) s ≡ refuses inputEnded
+  unfolding operate onTag
+  no-tag-there a space h e = step-is (withSpace space m) s _ h ∙ simp (operate, onTag, e)
 
   pub other-tag-there : (a space : ℕ) → Next m s (ReadTag a) → tagAt (m .input) (s .read) ≡ other → step (withSpace space m) s ≡ refuses notATag
-  unfolding operate byTag
-  other-tag-there a space h e = step-is (withSpace space m) s _ h ∙ simp (operate, byTag, e)
+  unfolding operate onTag
+  other-tag-there a space h e = step-is (withSpace space m) s _ h ∙ simp (operate, onTag, e)
 
   pub label-cut-there : (space : ℕ) → Next m s ReadNumber → Roomy → length (m .input) < s .read + labelBytes
       → step (withSpace space m) s ≡ refuses inputEnded
-  unfolding operate room readNumber
+  unfolding operate room takeNumber
   label-cut-there space h fits short =
-      step-is (withSpace space m) s _ h ∙ simp (operate, room, readNumber, lt-ltb _ _ fits, lt-leb _ _ short)
+      step-is (withSpace space m) s _ h ∙ simp (operate, room, takeNumber, lt-ltb _ _ fits, lt-leb _ _ short)
 
   -- ---- calls
 
@@ -167,7 +167,7 @@ module _ (m : Setting) (s : State) where
 
   -- there are as many words as arguments
   called : (entry space : ℕ) (arguments rest : List ℕ) → Next m s (Call entry (length arguments)) → s .frame ≡ arguments ++ rest
-      → step (withSpace space m) s ≡ call (withSpace space m) entry (length arguments) s
+      → step (withSpace space m) s ≡ openCall (withSpace space m) entry (length arguments) s
   unfolding operate
   called entry space arguments rest h e =
       let long = ap length e ∙ length-append arguments rest in
@@ -176,13 +176,13 @@ module _ (m : Setting) (s : State) where
   pub does-call : (entry : ℕ) (arguments rest : List ℕ) → Next m s (Call entry (length arguments)) → s .frame ≡ arguments ++ rest
       → opened s < m .mostOpen
       → Path m s (inside entry arguments rest) 1
-  unfolding call
+  unfolding openCall
   does-call entry arguments rest h e few =
       one-step s _ (le-refl _)
-      (λ space fits. called entry space arguments rest h e ∙ simp (call, lt-ltb _ _ few, e, take-append-seam arguments rest, drop-append-seam arguments rest))
+      (λ space fits. called entry space arguments rest h e ∙ simp (openCall, lt-ltb _ _ few, e, take-append-seam arguments rest, drop-append-seam arguments rest))
 
   pub one-call-more : (entry space : ℕ) (arguments rest : List ℕ) → Next m s (Call entry (length arguments)) → s .frame ≡ arguments ++ rest
       → m .mostOpen ≤ opened s
       → step (withSpace space m) s ≡ refuses tooManyCalls
-  unfolding call
-  one-call-more entry space arguments rest h e many = called entry space arguments rest h e ∙ simp (call, le-ltb _ _ many)
+  unfolding openCall
+  one-call-more entry space arguments rest h e many = called entry space arguments rest h e ∙ simp (openCall, le-ltb _ _ many)

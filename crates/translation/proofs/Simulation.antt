@@ -1,7 +1,7 @@
 -- The code of an expression keeps up with its evaluation.
 --
 -- From a state at the code's first instruction whose frame holds the named numbers, each on its word, and whose input carries the pending trees, the code
--- comes to the state behind it with the value: a number on top of the frame, a tree's tokens behind the output. It has then read the tokens of the trees
+-- comes to the state after it with the value: a number on top of the frame, a tree's tokens after the output. It has then read the tokens of the trees
 -- that the expression took, and performed the units of the expressions begun. Kind by kind, with one lemma for each; the calls in an expression are
 -- assumed to keep up.
 use Prim.Native.Nat.{ℕ, zero, suc, _+_, _*_, _≤_, _<_}
@@ -21,7 +21,7 @@ use Rattle.formats.specs.Programs.{Sort, numberValued, treeValued, Signature, F
 use Rattle.formats.proofs.Records.{nth-mapped}
 use Rattle.formats.proofs.Results.{done-injective, then-inv}
 use Rattle.formats.proofs.Tokens.{joined-tokens}
-use Rattle.rules.specs.PassOne.{mostWords, wordsOf, wordsOfArgs, valueWords}
+use Rattle.rules.specs.PassOne.{mostFrameWords, wordsOf, wordsOfArgs, wordsWithValue}
 use Rattle.rules.specs.PassTwo.{walk, walkArgs}
 use Rattle.rules.proofs.Words.{words-call, words-least, words-least-args}
 use Rattle.meaning.specs.Instructions.{Operation, Jump, Call}
@@ -35,7 +35,7 @@ use Rattle.meaning.proofs.Levels.{level-newest, level-found, level-kept}
 use Rattle.meaning.proofs.Proper.{Proper, proper-const, proper-var, proper-add, proper-ifZero, proper-let, proper-leaf}
 use Rattle.meaning.proofs.Proper.{proper-node, proper-case, proper-call, proper-none, proper-arg, count-proper}
 use Rattle.meaning.proofs.Sorts.{ValuesOf, valueOf, Numbers, numbersOf}
-use Rattle.translation.specs.Templates.{behind, behindArgs, Words, wordOf, code, codeArgs, endOf, entryOf}
+use Rattle.translation.specs.Templates.{codeEnd, argsEnd, Words, wordOf, code, codeArgs, endOf, entryOf}
 use Rattle.translation.proofs.Addresses.{At, Held, Split, at-code, at-args}
 use Rattle.translation.proofs.InOrder.{head-taken, both-branches, case-in-order, walk-tail}
 use Rattle.translation.proofs.Paths.{Path, no-step, join}
@@ -44,12 +44,12 @@ use Rattle.translation.proofs.Carried.{Carries, a-leaf, a-node, no-tag,
 use Rattle.translation.proofs.Performed.{does-push, does-get, does-jump, does-add, does-slide, does-drop, does-ifnot-zero, does-ifnot-other}
 use Rattle.translation.proofs.Performed.{does-leaf-tag, does-node-tag, does-write-number, does-read-leaf, does-read-node, does-read-number}
 use Rattle.translation.proofs.Performed.{no-tag-there, other-tag-there, label-cut-there}
-use Rattle.translation.proofs.Courses.{refused-at-once, course-behind}
+use Rattle.translation.proofs.Courses.{refused-at-once, course-after}
 use Rattle.translation.proofs.Goes.{input-ended, not-a-tag, Goes, faults, goes-there, goes-begins, goes-first, goes-then, goes-map, goes-next}
 
 -- ---- where values go
 
--- A number goes on top of the frame; a tree's tokens go behind the output.
+-- A number goes on top of the frame; a tree's tokens go after the output.
 abbrev pub pushed : (s : Sort) → ValuesOf s → List ℕ → List ℕ
 pushed numberValued i frame = i ∷ frame
 pushed treeValued t frame = frame
@@ -82,7 +82,7 @@ module _ (Faulty : Type 0) (m : Setting) (program : Program) (end : ℕ) (wide :
     pub few : wordsBelow callers ≤ 16 * length callers
     pub allowed : suc (length callers) + k ≡ m .mostOpen
 
-  -- Of these named trees the ones with the names Δ are pending: the input carries them from here on, and behind them those that the callers have pending.
+  -- Of these named trees the ones with the names Δ are pending: the input carries them from here on, and after them those that the callers have pending.
   pub record Left (trees : List Tree) (Δ : List ℕ) (beyond : List Tree) (read : ℕ) : Type 0 where
     pub pending : List Tree
     pub named : Picks trees Δ pending
@@ -104,7 +104,7 @@ module _ (Faulty : Type 0) (m : Setting) (program : Program) (end : ℕ) (wide :
     pub left : Left (E .trees) Δ beyond (s .read)
     pub under : Under (s .callers)
 
-  -- What is known behind it: a derivation of its value, with its expressions begun and its units; and what is carried on.
+  -- What is known after it: a derivation of its value, with its expressions begun and its units; and what is carried on.
   pub record After (E : Environment) (sort : Sort) (e : Expr) (Δ : List ℕ) (beyond : List Tree) (n : ℕ) (x : ValuesOf sort) (units read : ℕ) : Type 0
     where
       pub begun : ℕ
@@ -123,7 +123,7 @@ module _ (Faulty : Type 0) (m : Setting) (program : Program) (end : ℕ) (wide :
       → After E sort e Δ beyond n x units read
   after-by d is-begun counts left = record { begun = _; derivation = d; is-begun = is-begun; counts = counts; left = left }
 
-  -- The same behind arguments, given the numbers found before them.
+  -- The same after arguments, given the numbers found before them.
   pub record AfterArgs (E : Environment) (xs : Args) (before Δ : List ℕ) (beyond : List Tree) (count n : ℕ) (numbers : Numbers count) (units read : ℕ) : Type 0
     where
       pub begun : ℕ
@@ -132,7 +132,7 @@ module _ (Faulty : Type 0) (m : Setting) (program : Program) (end : ℕ) (wide :
       pub counts : unitsInArgs derivation ≡ units
       pub left : Left (E .trees) Δ beyond read
 
-  -- Behind a call of f with these numbers on this tree: its own two instructions are counted.
+  -- After a call of f with these numbers on this tree: its own two instructions are counted.
   pub record AfterCall (f : Function) (numbers : List ℕ) (t : Tree) (beyond : List Tree) (n : ℕ) (x : ValuesOf (f .sort)) (units read : ℕ) : Type 0 where
     pub begun : ℕ
     pub derivation : Takes program (inCall numbers t) (f .body) k begun (valueOf (f .sort) x)
@@ -147,10 +147,10 @@ module _ (Faulty : Type 0) (m : Setting) (program : Program) (end : ℕ) (wide :
       (E : Environment) (words : Words) (w r : ℕ) (Δ Δ′ : List ℕ) (beyond : List Tree) (s : State)
       → Before g n E words w Δ beyond s
       → walk n r Δ e ≡ done Δ′
-      → wordsOf gs w e ≤ mostWords
+      → wordsOf gs w e ≤ mostFrameWords
       → At Has (s .address) (code (entryOf program) sort words w (s .address) e)
       → (q : ℕ)
-      → Goes Faulty m s (valueOf sort) (λ x read. finished sort x (behind e (s .address)) read s) (After E sort e Δ′ beyond)
+      → Goes Faulty m s (valueOf sort) (λ x read. finished sort x (codeEnd e (s .address)) read s) (After E sort e Δ′ beyond)
       (evaluate (called program k) E q e)
 
   abbrev pub SimArgs : (g n count : ℕ) (xs : Args) → Type 0
@@ -158,11 +158,11 @@ module _ (Faulty : Type 0) (m : Setting) (program : Program) (end : ℕ) (wide :
       (E : Environment) (words : Words) (w r : ℕ) (Δ Δ′ : List ℕ) (beyond : List Tree) (s : State) (before : List ℕ) (a read all : ℕ)
       → Before g n E words w Δ beyond (argued s before a read)
       → walkArgs n r Δ xs ≡ done Δ′
-      → wordsOfArgs gs w xs ≤ mostWords
+      → wordsOfArgs gs w xs ≤ mostFrameWords
       → At Has a (codeArgs (entryOf program) words w a xs)
       → length before + count ≡ all
       → (q : ℕ)
-      → Goes Faulty m (argued s before a read) (numbersOf all) (λ numbers read′. argued s (numbers .all) (behindArgs xs a) read′)
+      → Goes Faulty m (argued s before a read) (numbersOf all) (λ numbers read′. argued s (numbers .all) (argsEnd xs a) read′)
       (AfterArgs E xs before Δ′ beyond all)
       (evaluateArgs (called program k) E q xs before)
 
@@ -173,7 +173,7 @@ module _ (Faulty : Type 0) (m : Setting) (program : Program) (end : ℕ) (wide :
       → Has a (Call (entryOf program b) (f .parameters))
       → Carries Faulty (m .input) end read (t ∷ beyond)
       → Under (s .callers)
-      → length (s .frame) ≤ mostWords
+      → length (s .frame) ≤ mostFrameWords
       → (q : ℕ)
       → Goes Faulty m (argued s (numbers .all) a read) (valueOf (f .sort)) (λ x read′. finished (f .sort) x (suc a) read′ s)
       (AfterCall f (numbers .all) t beyond)
@@ -182,7 +182,7 @@ module _ (Faulty : Type 0) (m : Setting) (program : Program) (end : ℕ) (wide :
   -- ---- states before parts
 
   -- there is room for a word where fewer than 16 stand above the base
-  room : (s : State) → Under (s .callers) → length (s .frame) < mostWords → standing s < m .mostWords
+  room : (s : State) → Under (s .callers) → length (s .frame) < mostFrameWords → standing s < m .mostWords
   unfolding standing
   room s under few = omega (arith, under .few, under .allowed, wide)
 
@@ -238,86 +238,86 @@ module _ (Faulty : Type 0) (m : Setting) (program : Program) (end : ℕ) (wide :
 
   -- a constant is pushed
   sim-const : {g n : ℕ} (i : ℕ) → Sim g n numberValued (const i)
-  unfolding code behind walk wordsOf evaluate counted
-  sim-const i E words w r Δ Δ′ beyond s b walked few laid q =
+  unfolding code codeEnd walk wordsOf evaluate counted
+  sim-const i E words w r Δ Δ′ beyond s b walked few emitted q =
       goes-begins Faulty m
-      (goes-there Faulty m i 1 (s .read) (does-push m s i (laid .0) (room s (b .under) (omega (arith, b .frame))))
+      (goes-there Faulty m i 1 (s .read) (does-push m s i (emitted .0) (room s (b .under) (omega (arith, b .frame))))
       (after-by Const refl refl (rw (done-injective walked) at (b .left))))
 
   -- a name's number is got from its word
   sim-var : {g n : ℕ} (a : ℕ) → a < g → Sim g n numberValued (var a)
-  unfolding code behind walk wordsOf evaluate numberOr counted
-  sim-var a bound E words w r Δ Δ′ beyond s b walked few laid q =
+  unfolding code codeEnd walk wordsOf evaluate numberOr counted
+  sim-var a bound E words w r Δ Δ′ beyond s b walked few emitted q =
       let found = level-found (E .numbers) a (omega (arith, b .numbers)) in
       let on-word = on-its-word a (found .entry) (b .held) (found .is) in
       rw (found .is)
       (goes-begins Faulty m
       (goes-there Faulty m (found .entry) 1 (s .read)
-      (does-get m s (wordOf words a) (found .entry) (laid .0) on-word (room s (b .under) (omega (arith, b .frame))))
+      (does-get m s (wordOf words a) (found .entry) (emitted .0) on-word (room s (b .under) (omega (arith, b .frame))))
       (after-by (Var (found .is)) refl refl (rw (done-injective walked) at (b .left)))))
 
   -- two numbers, the first one a temporary below the second
   sim-add : {g n : ℕ} (p q : Expr) → Sim g n numberValued p → Sim g n numberValued q → Sim g n numberValued (add p q)
-  unfolding code behind walk wordsOf evaluate resultNumber counted
-  sim-add p q sim-p sim-q E words w r Δ Δ′ beyond s b walked few laid at-record =
-      let laid-p = at-code Has (entryOf program) numberValued words w (s .address) p _ laid in
-      let laid-q = at-code Has (entryOf program) numberValued words (suc w) (behind p (s .address)) q _ (laid-p .then) in
+  unfolding code codeEnd walk wordsOf evaluate resultNumber counted
+  sim-add p q sim-p sim-q E words w r Δ Δ′ beyond s b walked few emitted at-record =
+      let emitted-p = at-code Has (entryOf program) numberValued words w (s .address) p _ emitted in
+      let emitted-q = at-code Has (entryOf program) numberValued words (suc w) (codeEnd p (s .address)) q _ (emitted-p .then) in
       let parts = then-inv (walk _ (suc r) Δ p) _ Δ′ walked in
       goes-begins Faulty m
-      (goes-next Faulty m _ (sim-p E words w _ Δ (parts .value) beyond s b (parts .first) (omega arith) (laid-p .first) _) λ n₁ i u₁ read₁ after₁.
+      (goes-next Faulty m _ (sim-p E words w _ Δ (parts .value) beyond s b (parts .first) (omega arith) (emitted-p .first) _) λ n₁ i u₁ read₁ after₁.
       goes-next Faulty m _
       (sim-q E words (suc w) _ (parts .value) Δ′ beyond _ (before-temporary b i _ read₁ (after₁ .left)) (parts .second) (omega arith)
-      (laid-q .first) _)
+      (emitted-q .first) _)
       λ n₂ j u₂ read₂ after₂.
-      goes-there Faulty m (sum32 i j) 1 read₂ (does-add m _ i j (s .frame) (laid-q .then .0) refl)
+      goes-there Faulty m (sum32 i j) 1 read₂ (does-add m _ i j (s .frame) (emitted-q .then .0) refl)
       (after-by (Plus (after₁ .derivation) (after₂ .derivation))
       (omega (arith, after₁ .is-begun, after₂ .is-begun)) (omega (arith, after₁ .counts, after₂ .counts)) (after₂ .left)))
 
-  -- the test's word is popped; behind the zero part the other one is jumped over
+  -- the test's word is popped; after the zero part the other one is jumped over
   sim-ifZero : {g n : ℕ} {sort : Sort} (t z o : Expr) → Sim g n numberValued t → Sim g n sort z → Sim g n sort o → Sim g n sort (ifZero t z o)
-  unfolding code behind walk wordsOf evaluate resultNumber picked counted ifZeroUnits
-  sim-ifZero {sort = sort} t z o sim-t sim-z sim-o E words w r Δ Δ′ beyond s b walked few laid at-record =
+  unfolding code codeEnd walk wordsOf evaluate resultNumber picked counted ifZeroUnits
+  sim-ifZero {sort = sort} t z o sim-t sim-z sim-o E words w r Δ Δ′ beyond s b walked few emitted at-record =
       let entries = entryOf program in
-      let atZ = suc (behind t (s .address)) in
-      let L = suc (behind z atZ) in
-      let M = behind o L in
-      let laid-t = at-code Has entries numberValued words w (s .address) t _ laid in
-      let laid-z = at-code Has entries sort words w atZ z _ (laid-t .then .1) in
+      let atZ = suc (codeEnd t (s .address)) in
+      let L = suc (codeEnd z atZ) in
+      let M = codeEnd o L in
+      let emitted-t = at-code Has entries numberValued words w (s .address) t _ emitted in
+      let emitted-z = at-code Has entries sort words w atZ z _ (emitted-t .then .1) in
       let parts = then-inv (walk _ (suc r) Δ t) _ Δ′ walked in
       let both = both-branches r (walk _ (suc r + size t) (parts .value) z) (walk _ (suc r + size t + size z) (parts .value) o) Δ′ (parts .second) in
       let picks :
       (i n₁ u₁ read₁ : ℕ) (after₁ : After E numberValued t (parts .value) beyond n₁ i u₁ read₁)
-      → Goes Faulty m (finished numberValued i (behind t (s .address)) read₁ s) (valueOf sort) (λ x read. finished sort x M read s)
+      → Goes Faulty m (finished numberValued i (codeEnd t (s .address)) read₁ s) (valueOf sort) (λ x read. finished sort x M read s)
       (λ n₂ x u₂. After E sort (ifZero t z o) Δ′ beyond (suc (n₁ + n₂)) x (u₁ + u₂))
       (elim i [
         | zero ↦ evaluate (called program k) E (suc at-record + size t) z
         | suc j ↦ evaluate (called program k) E (suc at-record + size t + size z) o
       ]) = elim [
         | zero ↦ λ n₁ u₁ read₁ after₁.
-            goes-first Faulty m (does-ifnot-zero m _ L (s .frame) (laid-t .then .0) refl)
+            goes-first Faulty m (does-ifnot-zero m _ L (s .frame) (emitted-t .then .0) refl)
             (goes-then Faulty m
-            (sim-z E words w _ (parts .value) Δ′ beyond _ (before-at b atZ read₁ (s .output) (after₁ .left)) (both .0) (omega arith) (laid-z .first) _)
+            (sim-z E words w _ (parts .value) Δ′ beyond _ (before-at b atZ read₁ (s .output) (after₁ .left)) (both .0) (omega arith) (emitted-z .first) _)
             λ n₂ x u₂ read₂ after₂. record {
               more = 1;
               read = read₂;
-              path = does-jump m _ M (laid-z .then .0);
+              path = does-jump m _ M (emitted-z .then .0);
               post =
                   after-by (IfZero (after₁ .derivation) (after₂ .derivation))
                   (omega (arith, after₁ .is-begun, after₂ .is-begun)) (omega (arith, after₁ .counts, after₂ .counts)) (after₂ .left);
             })
         | suc j ↦ λ n₁ u₁ read₁ after₁.
-            goes-first Faulty m (does-ifnot-other m _ L j (s .frame) (laid-t .then .0) refl)
+            goes-first Faulty m (does-ifnot-other m _ L j (s .frame) (emitted-t .then .0) refl)
             (goes-map Faulty m
-            (sim-o E words w _ (parts .value) Δ′ beyond _ (before-at b L read₁ (s .output) (after₁ .left)) (both .1) (omega arith) (laid-z .then .1) _)
+            (sim-o E words w _ (parts .value) Δ′ beyond _ (before-at b L read₁ (s .output) (after₁ .left)) (both .1) (omega arith) (emitted-z .then .1) _)
             λ n₂ x u₂ read₂ after₂.
             after-by (IfZero (after₁ .derivation) (after₂ .derivation))
             (omega (arith, after₁ .is-begun, after₂ .is-begun)) (omega (arith, after₁ .counts, after₂ .counts)) (after₂ .left))
       ] in
       goes-begins Faulty m
-      (goes-next Faulty m _ (sim-t E words w _ Δ (parts .value) beyond s b (parts .first) (omega arith) (laid-t .first) _) λ n₁ i u₁ read₁ after₁.
+      (goes-next Faulty m _ (sim-t E words w _ Δ (parts .value) beyond s b (parts .first) (omega arith) (emitted-t .first) _) λ n₁ i u₁ read₁ after₁.
       picks i n₁ u₁ read₁ after₁)
 
-  -- behind a part under one more name, the word of that name goes
+  -- after a part under one more name, the word of that name goes
   does-end : (sort : Sort) (x : ValuesOf sort) (i a b read read′ : ℕ) (s : State) → Has a (endOf sort)
       → Path m (finished sort x a read (finished numberValued i b read′ s)) (finished sort x (suc a) read s) 1
   unfolding endOf
@@ -326,21 +326,21 @@ module _ (Faulty : Type 0) (m : Setting) (program : Program) (end : ℕ) (wide :
 
   -- the number is named by its word
   sim-let : {g n : ℕ} {sort : Sort} (p body : Expr) → Sim g n numberValued p → Sim (suc g) n sort body → Sim g n sort (letIn p body)
-  unfolding code behind walk wordsOf evaluate resultNumber counted
-  sim-let {sort = sort} p body sim-p sim-body E words w r Δ Δ′ beyond s b walked few laid at-record =
+  unfolding code codeEnd walk wordsOf evaluate resultNumber counted
+  sim-let {sort = sort} p body sim-p sim-body E words w r Δ Δ′ beyond s b walked few emitted at-record =
       let entries = entryOf program in
-      let laid-p = at-code Has entries numberValued words w (s .address) p _ laid in
-      let laid-body = at-code Has entries sort (w ∷ words) (suc w) (behind p (s .address)) body _ (laid-p .then) in
+      let emitted-p = at-code Has entries numberValued words w (s .address) p _ emitted in
+      let emitted-body = at-code Has entries sort (w ∷ words) (suc w) (codeEnd p (s .address)) body _ (emitted-p .then) in
       let parts = then-inv (walk _ (suc r) Δ p) _ Δ′ walked in
       goes-begins Faulty m
-      (goes-next Faulty m _ (sim-p E words w _ Δ (parts .value) beyond s b (parts .first) (omega arith) (laid-p .first) _) λ n₁ i u₁ read₁ after₁.
+      (goes-next Faulty m _ (sim-p E words w _ Δ (parts .value) beyond s b (parts .first) (omega arith) (emitted-p .first) _) λ n₁ i u₁ read₁ after₁.
       goes-then Faulty m
       (sim-body (withNumber i E) (w ∷ words) (suc w) _ (parts .value) Δ′ beyond _ (before-named b i _ read₁ (after₁ .left)) (parts .second) (omega arith)
-      (laid-body .first) _)
+      (emitted-body .first) _)
       λ n₂ x u₂ read₂ after₂. record {
         more = 1;
         read = read₂;
-        path = does-end sort x i _ (behind p (s .address)) read₂ read₁ s (laid-body .then .0);
+        path = does-end sort x i _ (codeEnd p (s .address)) read₂ read₁ s (emitted-body .then .0);
         post =
             after-by (Let (after₁ .derivation) (after₂ .derivation))
             (omega (arith, after₁ .is-begun, after₂ .is-begun)) (omega (arith, after₁ .counts, after₂ .counts)) (after₂ .left);
@@ -348,33 +348,33 @@ module _ (Faulty : Type 0) (m : Setting) (program : Program) (end : ℕ) (wide :
 
   -- the tag, then the label
   sim-leaf : {g n : ℕ} (p : Expr) → Sim g n numberValued p → Sim g n treeValued (leafOf p)
-  unfolding code behind walk wordsOf evaluate resultNumber counted tokens
-  sim-leaf p sim-p E words w r Δ Δ′ beyond s b walked few laid at-record =
-      let laid-p = at-code Has (entryOf program) numberValued words w (suc (s .address)) p _ (laid .1) in
+  unfolding code codeEnd walk wordsOf evaluate resultNumber counted tokens
+  sim-leaf p sim-p E words w r Δ Δ′ beyond s b walked few emitted at-record =
+      let emitted-p = at-code Has (entryOf program) numberValued words w (suc (s .address)) p _ (emitted .1) in
       goes-begins Faulty m
-      (goes-first Faulty m (does-leaf-tag m s (laid .0))
+      (goes-first Faulty m (does-leaf-tag m s (emitted .0))
       (goes-next Faulty m _
-      (sim-p E words w _ Δ Δ′ beyond _ (before-at b _ (s .read) (s .output ++ (leafTag ∷ [])) (b .left)) walked few (laid-p .first) _)
+      (sim-p E words w _ Δ Δ′ beyond _ (before-at b _ (s .read) (s .output ++ (leafTag ∷ [])) (b .left)) walked few (emitted-p .first) _)
       λ n₁ i u₁ read₁ after₁.
       goes-there Faulty m (leaf i) 1 read₁
-      (rw (← append-assoc (s .output) (leafTag ∷ []) (bytesOf labelBytes i)) (does-write-number m _ i (s .frame) (laid-p .then .0) refl))
+      (rw (← append-assoc (s .output) (leafTag ∷ []) (bytesOf labelBytes i)) (does-write-number m _ i (s .frame) (emitted-p .then .0) refl))
       (after-by (Leaf (after₁ .derivation)) (omega (arith, after₁ .is-begun)) (omega (arith, after₁ .counts)) (after₁ .left))))
 
   -- the tag, then the two parts in order
   sim-node : {g n : ℕ} (p q : Expr) → Sim g n treeValued p → Sim g n treeValued q → Sim g n treeValued (nodeOf p q)
-  unfolding code behind walk wordsOf evaluate resultTree counted tokens
-  sim-node p q sim-p sim-q E words w r Δ Δ′ beyond s b walked few laid at-record =
+  unfolding code codeEnd walk wordsOf evaluate resultTree counted tokens
+  sim-node p q sim-p sim-q E words w r Δ Δ′ beyond s b walked few emitted at-record =
       let entries = entryOf program in
-      let laid-p = at-code Has entries treeValued words w (suc (s .address)) p _ (laid .1) in
+      let emitted-p = at-code Has entries treeValued words w (suc (s .address)) p _ (emitted .1) in
       let parts = then-inv (walk _ (suc r) Δ p) _ Δ′ walked in
       let tag = s .output ++ (nodeTag ∷ []) in
       goes-begins Faulty m
-      (goes-first Faulty m (does-node-tag m s (laid .0))
+      (goes-first Faulty m (does-node-tag m s (emitted .0))
       (goes-next Faulty m _
-      (sim-p E words w _ Δ (parts .value) beyond _ (before-at b _ (s .read) tag (b .left)) (parts .first) (omega arith) (laid-p .first) _)
+      (sim-p E words w _ Δ (parts .value) beyond _ (before-at b _ (s .read) tag (b .left)) (parts .first) (omega arith) (emitted-p .first) _)
       λ n₁ x u₁ read₁ after₁.
       goes-next Faulty m _
-      (sim-q E words w _ (parts .value) Δ′ beyond _ (before-at b _ read₁ (tag ++ tokens x) (after₁ .left)) (parts .second) (omega arith) (laid-p .then) _)
+      (sim-q E words w _ (parts .value) Δ′ beyond _ (before-at b _ read₁ (tag ++ tokens x) (after₁ .left)) (parts .second) (omega arith) (emitted-p .then) _)
       λ n₂ y u₂ read₂ after₂.
       goes-there Faulty m (node x y) 0 read₂ (rw (← joined-tokens (s .output) x y) (no-step _))
       (after-by (Node (after₁ .derivation) (after₂ .derivation))
@@ -392,8 +392,8 @@ module _ (Faulty : Type 0) (m : Setting) (program : Program) (end : ℕ) (wide :
 
   -- by the tag of the tree that the input carries first: a label is named by its word; a node's parts are named and pending
   sim-case : {g n : ℕ} {sort : Sort} (a : ℕ) (p q : Expr) → Sim (suc g) n sort p → Sim g (suc (suc n)) sort q → Sim g n sort (caseOf a p q)
-  unfolding code behind wordsOf evaluate treeOr branch inBranch counted caseUnits
-  sim-case {g} {n} {sort} a p q sim-p sim-q E words w r Δ Δ′ beyond s b walked few laid at-record =
+  unfolding code codeEnd wordsOf evaluate treeOr branch inBranch counted caseUnits
+  sim-case {g} {n} {sort} a p q sim-p sim-q E words w r Δ Δ′ beyond s b walked few emitted at-record =
       let c = case-in-order n r a Δ Δ′ p q walked in
       let left : Left (E .trees) (a ∷ c .rest) beyond (s .read) = rw (c .at-head) at (b .left) in
       on-head (c .rest) (c .leaf-part) (c .node-part) (left .pending) (left .named) (left .carries)
@@ -405,13 +405,13 @@ module _ (Faulty : Type 0) (m : Setting) (program : Program) (end : ℕ) (wide :
       atP = suc (suc (s .address))
 
       L : ℕ
-      L = suc (suc (behind p atP))
+      L = suc (suc (codeEnd p atP))
 
       M : ℕ
-      M = behind q L
+      M = codeEnd q L
 
-      laid-p : Split Has atP (behind p atP) (code entries sort (w ∷ words) (suc w) atP p) (endOf sort ∷ (Jump M ∷ code entries sort words w L q))
-      laid-p = at-code Has entries sort (w ∷ words) (suc w) atP p _ (laid .1 .1)
+      emitted-p : Split Has atP (codeEnd p atP) (code entries sort (w ∷ words) (suc w) atP p) (endOf sort ∷ (Jump M ∷ code entries sort words w L q))
+      emitted-p = at-code Has entries sort (w ∷ words) (suc w) atP p _ (emitted .1 .1)
 
       leaf-read : State
       leaf-read = record { address = suc (s .address); frame = s .frame; callers = s .callers; read = s .read + 1; output = s .output }
@@ -431,41 +431,41 @@ module _ (Faulty : Type 0) (m : Setting) (program : Program) (end : ℕ) (wide :
       on-head rest in-leaf in-node pending (on-top {ys = ts} found named) (a-leaf {x = i} tag there is carries) =
           rw found
           (goes-begins Faulty m
-          (goes-first Faulty m (does-read-leaf m s L (laid .0) tag)
-          (goes-first Faulty m (does-read-number m leaf-read i (laid .1 .0) roomy there is)
+          (goes-first Faulty m (does-read-leaf m s L (emitted .0) tag)
+          (goes-first Faulty m (does-read-number m leaf-read i (emitted .1 .0) roomy there is)
           (goes-then Faulty m
           (sim-p (withNumber i E) (w ∷ words) (suc w) _ rest Δ′ beyond _
-          (before-named b i atP _ (record { pending = ts; named = named; carries = carries })) in-leaf (omega arith) (laid-p .first) _)
+          (before-named b i atP _ (record { pending = ts; named = named; carries = carries })) in-leaf (omega arith) (emitted-p .first) _)
           λ n₁ x u₁ read₁ after₁. record {
             more = 2;
             read = read₁;
-            path = join (does-end sort x i (behind p atP) atP read₁ (s .read + 1 + labelBytes) s (laid-p .then .0)) (does-jump m _ M (laid-p .then .1 .0));
+            path = join (does-end sort x i (codeEnd p atP) atP read₁ (s .read + 1 + labelBytes) s (emitted-p .then .0)) (does-jump m _ M (emitted-p .then .1 .0));
             post = after-by (Case found (after₁ .derivation)) (omega (arith, after₁ .is-begun)) (omega (arith, after₁ .counts)) (after₁ .left);
           }))))
       on-head rest in-leaf in-node pending (on-top found named) (a-node {l = l} {r = u} tag carries) =
           let older = picks-tail (walk-tail n _ rest Δ′ p in-leaf) named in
           rw found
           (goes-begins Faulty m
-          (goes-first Faulty m (does-read-node m s L (laid .0) tag)
+          (goes-first Faulty m (does-read-node m s L (emitted .0) tag)
           (goes-map Faulty m
           (sim-q (withTrees l u E) words w _ (n ∷ (suc n ∷ rest)) Δ′ beyond _ (before-parts b l u L _ named carries) in-node (omega arith)
-          (laid-p .then .1 .1) _)
+          (emitted-p .then .1 .1) _)
           λ n₁ x u₁ read₁ after₁.
           after-by (Case found (after₁ .derivation)) (omega (arith, after₁ .is-begun)) (omega (arith, after₁ .counts))
           (older-left l u (older .picks) (after₁ .left)))))
       on-head rest in-leaf in-node pending (on-top found named) (no-tag faulty tag) =
-          faults inputEnded faulty input-ended (refused-at-once s (λ space. no-tag-there m s L space (laid .0) tag))
+          faults inputEnded faulty input-ended (refused-at-once s (λ space. no-tag-there m s L space (emitted .0) tag))
       on-head rest in-leaf in-node pending (on-top found named) (other-tag faulty tag) =
-          faults notATag faulty not-a-tag (refused-at-once s (λ space. other-tag-there m s L space (laid .0) tag))
+          faults notATag faulty not-a-tag (refused-at-once s (λ space. other-tag-there m s L space (emitted .0) tag))
       on-head rest in-leaf in-node pending (on-top found named) (label-cut faulty tag short) =
           faults inputEnded faulty input-ended
-          (course-behind (does-read-leaf m s L (laid .0) tag)
-          (refused-at-once leaf-read (λ space. label-cut-there m leaf-read space (laid .1 .0) roomy short)))
+          (course-after (does-read-leaf m s L (emitted .0) tag)
+          (refused-at-once leaf-read (λ space. label-cut-there m leaf-read space (emitted .1 .0) roomy short)))
 
   -- no more arguments
   sim-none : {g n : ℕ} → SimArgs g n 0 noArgs
-  unfolding behindArgs walkArgs evaluateArgs
-  sim-none E words w r Δ Δ′ beyond s before a read all b walked few laid many q =
+  unfolding argsEnd walkArgs evaluateArgs
+  sim-none E words w r Δ Δ′ beyond s before a read all b walked few emitted many q =
       goes-there Faulty m (record { all = before; many = omega arith }) 0 read (no-step _) (record {
         begun = 0;
         derivation = no-more;
@@ -476,15 +476,15 @@ module _ (Faulty : Type 0) (m : Setting) (program : Program) (end : ℕ) (wide :
 
   -- each argument's number stays on top of those before it
   sim-arg : {g n : ℕ} (count : ℕ) (x : Expr) (xs : Args) → Sim g n numberValued x → SimArgs g n count xs → SimArgs g n (suc count) (arg x xs)
-  unfolding codeArgs behindArgs walkArgs wordsOfArgs evaluateArgs resultNumber counted
-  sim-arg count x xs sim-x sim-xs E words w r Δ Δ′ beyond s before a read all b walked few laid many q =
-      let laid-x = at-code Has (entryOf program) numberValued words w a x _ laid in
+  unfolding codeArgs argsEnd walkArgs wordsOfArgs evaluateArgs resultNumber counted
+  sim-arg count x xs sim-x sim-xs E words w r Δ Δ′ beyond s before a read all b walked few emitted many q =
+      let emitted-x = at-code Has (entryOf program) numberValued words w a x _ emitted in
       let parts = then-inv (walk _ r Δ x) _ Δ′ walked in
-      goes-next Faulty m _ (sim-x E words w _ Δ (parts .value) beyond (argued s before a read) b (parts .first) (omega arith) (laid-x .first) _)
+      goes-next Faulty m _ (sim-x E words w _ Δ (parts .value) beyond (argued s before a read) b (parts .first) (omega arith) (emitted-x .first) _)
       λ n₁ i u₁ read₁ after₁.
       goes-map Faulty m
-      (sim-xs E words (suc w) _ (parts .value) Δ′ beyond s (i ∷ before) (behind x a) read₁ all (before-temporary b i (behind x a) read₁ (after₁ .left))
-      (parts .second) (omega arith) (laid-x .then) (omega arith) _)
+      (sim-xs E words (suc w) _ (parts .value) Δ′ beyond s (i ∷ before) (codeEnd x a) read₁ all (before-temporary b i (codeEnd x a) read₁ (after₁ .left))
+      (parts .second) (omega arith) (emitted-x .then) (omega arith) _)
       λ n₂ numbers u₂ read₂ after₂. record {
         begun = after₁ .begun + after₂ .begun;
         derivation = one-more (after₁ .derivation) (after₂ .derivation);
@@ -501,23 +501,23 @@ module _ (Faulty : Type 0) (m : Setting) (program : Program) (end : ℕ) (wide :
       → countArgs xs ≡ f .parameters
       → SimArgs g n (f .parameters) xs
       → Sim g n (f .sort) (call a b xs)
-  unfolding code behind walk evaluate treeOr counted valueWords
-  sim-call {n = n} a b f xs calls known many sim-xs E words w r Δ Δ′ beyond s before walked few laid at-record =
+  unfolding code codeEnd walk evaluate treeOr counted wordsWithValue
+  sim-call {n = n} a b f xs calls known many sim-xs E words w r Δ Δ′ beyond s before walked few emitted at-record =
       let parts = then-inv (walkArgs n (suc r) Δ xs) _ Δ′ walked in
       let head = head-taken a r (parts .value) Δ′ (parts .second) in
       goes-begins Faulty m
       (goes-next Faulty m _
-      (sim-xs E words w _ Δ (a ∷ Δ′) beyond s [] (s .address) (s .read) (f .parameters) before (rw head at (parts .first)) (few-all .1) (laid-xs .first)
+      (sim-xs E words w _ Δ (a ∷ Δ′) beyond s [] (s .address) (s .read) (f .parameters) before (rw head at (parts .first)) (few-all .1) (emitted-xs .first)
       (zero-add (f .parameters)) _)
       λ n₁ numbers u₁ read₁ after₁. on-tree n₁ numbers u₁ read₁ after₁ (after₁ .left .pending) (after₁ .left .named) (after₁ .left .carries))
     where
       there : ℕ
-      there = behindArgs xs (s .address)
+      there = argsEnd xs (s .address)
 
-      laid-xs : Split Has (s .address) there (codeArgs (entryOf program) words w (s .address) xs) (Call (entryOf program b) (countArgs xs) ∷ [])
-      laid-xs = at-args Has (entryOf program) words w (s .address) xs _ laid
+      emitted-xs : Split Has (s .address) there (codeArgs (entryOf program) words w (s .address) xs) (Call (entryOf program b) (countArgs xs) ∷ [])
+      emitted-xs = at-args Has (entryOf program) words w (s .address) xs _ emitted
 
-      few-all : (w ≤ mostWords) × (wordsOfArgs gs w xs ≤ mostWords)
+      few-all : (w ≤ mostFrameWords) × (wordsOfArgs gs w xs ≤ mostFrameWords)
       few-all =
           let both = rw (words-call gs w a b xs (signatureOf f) (nth-mapped signatureOf (program .functions) b f known)) at few in
           (omega (arith, words-least-args gs w xs), omega arith)
@@ -534,7 +534,7 @@ module _ (Faulty : Type 0) (m : Setting) (program : Program) (end : ℕ) (wide :
       on-tree n₁ numbers u₁ read₁ after₁ pending (on-top {y = t} {ys = ts} found named) carries =
           rw found
           (goes-map Faulty m
-          (calls b f numbers t (ts ++ beyond) s there read₁ known (rw many at (laid-xs .then .0)) carries (before .under)
+          (calls b f numbers t (ts ++ beyond) s there read₁ known (rw many at (emitted-xs .then .0)) carries (before .under)
           (rw (sym (before .frame)) at (few-all .0)) at-record)
           λ n₂ x u₂ read₂ after₂.
           after-by (Calls (after₁ .derivation) found known (after₂ .derivation))

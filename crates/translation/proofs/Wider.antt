@@ -13,12 +13,12 @@ use borrow.Author.Tests.{le-leb, lt-leb}
 use lib.Dec.{leb}
 use lib.ListN.{length, length-append}
 use Rattle.formats.specs.Refusals.{inputEnded, outputFull, tooManyCalls, cannotPerform}
-use Rattle.formats.specs.Tokens.{labelBytes, Tag, ended, aLeaf, aNode, other, tagAt}
+use Rattle.formats.specs.Tokens.{labelBytes, Tag, noByte, aLeaf, aNode, other, tagAt}
 use Rattle.meaning.specs.Levels.{atLevel}
 use Rattle.meaning.specs.Instructions.{Instruction, Operation, Push, Get, Add, Ifnot, Jump, Slide, Drop, LeafTag, NodeTag}
 use Rattle.meaning.specs.Instructions.{WriteNumber, ReadTag, ReadNumber, Call, Return, operationOf}
 use Rattle.meaning.specs.Performing.{Setting, Caller, State, standing, opened, Step, goes, ends, refuses, holding}
-use Rattle.meaning.specs.Performing.{one, two, room, push, write, byTag, readNumber, call, kept, leave, operate, perform, step}
+use Rattle.meaning.specs.Performing.{one, two, room, pushWord, write, onTag, takeNumber, openCall, kept, leave, operate, perform, step}
 use Rattle.meaning.specs.StreamRun.{Steps, here, on}
 use Rattle.meaning.proofs.Inputs.{given}
 use Rattle.translation.proofs.Paths.{withSpace}
@@ -43,7 +43,7 @@ Fits m s (goes t) = length (s .output) ≤ m .space → length (t .output) ≤ m
 Fits m s (ends number) = Unit {0}
 Fits m s (refuses number) = Unit {0}
 
--- What becomes of an instruction under the limits of m, and under those of M: the same, or m has fewer words, fewer calls, or too little space.
+-- The outcome of an instruction under the limits of m, and under those of M: the same, or m has fewer words, fewer calls, or too little space.
 data Widened (m M : Setting) (s : State) : Step → Step → Type 0 where
   same : {r : Step} → Fits m s r → Widened m M s r r
   few-words : {q : Step} → m .mostWords < M .mostWords → Widened m M s (refuses cannotPerform) q
@@ -55,7 +55,7 @@ module _ {m M : Setting} (w : Wider m M) (s : State) where
   silent : (t : State) → t .output ≡ s .output → Widened m M s (goes t) (goes t)
   silent t e = same {r = goes t} (λ h. rw e h)
 
-  -- behind a test that both make; where something is found; with a word, or two
+  -- after a test that both make; where something is found; with a word, or two
   wide-if :
       (b : Bool) (why : ℕ) (r q : Step)
       → Widened m M s r q
@@ -85,7 +85,7 @@ module _ {m M : Setting} (w : Wider m M) (s : State) where
   unfolding two
   wide-two words f h = wide-one words _ _ (λ x under. wide-one under _ _ (λ y rest. same (h x y rest)))
 
-  -- behind a test against a limit: both pass it, or only M does, or neither
+  -- after a test against a limit: both pass it, or only M does, or neither
   wide-limit :
       (need small large why : ℕ) (r q : Step)
       → small ≤ large
@@ -109,8 +109,8 @@ module _ {m M : Setting} (w : Wider m M) (s : State) where
   wide-room r q h =
       wide-limit (suc (standing s)) (m .mostWords) (M .mostWords) cannotPerform r q (w .words) (λ _. h) (λ less k. few-words (le-trans less k))
 
-  wide-push : (x : ℕ) → Widened m M s (push m x s) (push M x s)
-  unfolding push
+  wide-push : (x : ℕ) → Widened m M s (pushWord m x s) (pushWord M x s)
+  unfolding pushWord
   wide-push x = wide-room _ _ (silent _ refl)
 
   wide-write : (words bytes : List ℕ) → Widened m M s (write m bytes (holding words s)) (write M bytes (holding words s))
@@ -121,8 +121,8 @@ module _ {m M : Setting} (w : Wider m M) (s : State) where
       (λ h. same (λ _. omega arith))
       (λ less _. short (omega arith))
 
-  wide-call : (entry n : ℕ) → Widened m M s (call m entry n s) (call M entry n s)
-  unfolding call
+  wide-call : (entry n : ℕ) → Widened m M s (openCall m entry n s) (openCall M entry n s)
+  unfolding openCall
   wide-call entry n =
       wide-limit (suc (opened s)) (m .mostOpen) (M .mostOpen) tooManyCalls _ _ (w .calls)
       (λ _. silent _ refl)
@@ -133,15 +133,15 @@ module _ {m M : Setting} (w : Wider m M) (s : State) where
   wide-input f h = subst (λ input. Widened m M s (f (m .input)) (f input)) (sym (w .input)) h
 
   -- a tag or a number read; a return
-  wide-tag : (g : Tag) (a : ℕ) → Widened m M s (byTag g a s) (byTag g a s)
-  unfolding byTag
-  wide-tag ended a = same tt
+  wide-tag : (g : Tag) (a : ℕ) → Widened m M s (onTag g a s) (onTag g a s)
+  unfolding onTag
+  wide-tag noByte a = same tt
   wide-tag aLeaf a = silent _ refl
   wide-tag aNode a = silent _ refl
   wide-tag other a = same tt
 
-  wide-number : Widened m M s (readNumber m s) (readNumber m s)
-  unfolding readNumber
+  wide-number : Widened m M s (takeNumber m s) (takeNumber m s)
+  unfolding takeNumber
   wide-number = wide-if (leb (s .read + labelBytes) (length (m .input))) inputEnded _ _ (silent _ refl)
 
   wide-leave : (cs : List Caller) (words : List ℕ) → Widened m M s (leave cs words s) (leave cs words s)
@@ -151,7 +151,7 @@ module _ {m M : Setting} (w : Wider m M) (s : State) where
 
   -- one line for each opcode
   wide-operate : (op : Operation) → Widened m M s (operate m s op) (operate M s op)
-  unfolding operate readNumber
+  unfolding operate takeNumber
   wide-operate (Push x) = wide-push x
   wide-operate (Get k) = wide-some (atLevel (s .frame) k) _ _ wide-push
   wide-operate Add = wide-two _ _ (λ q p rest h. h)
@@ -162,8 +162,8 @@ module _ {m M : Setting} (w : Wider m M) (s : State) where
   wide-operate LeafTag = wide-write (s .frame) _
   wide-operate NodeTag = wide-write (s .frame) _
   wide-operate WriteNumber = wide-one _ _ _ (λ x rest. wide-write rest _)
-  wide-operate (ReadTag a) = wide-input (λ input. byTag (tagAt input (s .read)) a s) (wide-tag _ a)
-  wide-operate ReadNumber = wide-room _ _ (wide-input (λ input. readNumber (given input m) s) wide-number)
+  wide-operate (ReadTag a) = wide-input (λ input. onTag (tagAt input (s .read)) a s) (wide-tag _ a)
+  wide-operate ReadNumber = wide-room _ _ (wide-input (λ input. takeNumber (given input m) s) wide-number)
   wide-operate (Call entry n) = wide-if (leb n (length (s .frame))) cannotPerform _ _ (wide-call entry n)
   wide-operate (Return k) = wide-some (kept k (s .frame)) _ _ (λ words. wide-leave (s .callers) words)
 

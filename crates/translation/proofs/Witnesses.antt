@@ -17,12 +17,12 @@ use Rattle.formats.proofs.ProgramCases.{grow, grow-lawful}
 use Rattle.rules.specs.Types.{Int, isInt, fits, resultType}
 use Rattle.rules.specs.Scopes.{scope, inside, startOf, entered, enteredAll}
 use Rattle.rules.specs.PassOne.{named, typed, bareNumber, wordsTested, roomy, atEntry, passOver, passOne}
-use Rattle.rules.specs.PassTwo.{takeHead, sameNames, joined, walk, noneLeft, walkAll, passTwo, order}
+use Rattle.rules.specs.PassTwo.{takeHead, sameNames, equalBranches, walk, noneLeft, walkAll, passTwo, bothPasses}
 use Rattle.rules.proofs.Cases.{numbered, taking, programOf, on, with-one, lets, grow-passes}
 use Rattle.meaning.specs.Levels.{atLevel}
 use Rattle.meaning.specs.Running.{mostCalls}
 use Rattle.meaning.specs.Evaluation.{Value, number, tree, Ends, resultNumber}
-use Rattle.meaning.specs.OpenCalls.{Outcome, gives, stops, after, next, numberOr, treeOr, resultTree, evaluate, firstRecord, called, evaluation}
+use Rattle.meaning.specs.OpenCalls.{Outcome, gives, stops, afterBegun, followedBy, numberOr, treeOr, resultTree, evaluate, firstRecord, called, evaluation}
 use Rattle.meaning.specs.Meaning.{Endless}
 use Rattle.meaning.proofs.Outcomes.{after-more, gives-not}
 use Rattle.meaning.proofs.Meaning.{meaning}
@@ -47,7 +47,7 @@ grow-checked = record { lawful = grow-lawful; passes = grow-passes }
 
 -- its evaluation on tree T ends with a tree
 ends-with-tree : Witness grow two-leaves (Ends grow two-leaves mostCalls 14 (tree (node (leaf 6) (leaf 8))))
-unfolding evaluation called evaluate next after resultNumber resultTree numberOr treeOr atLevel sum32 nth grow two-leaves
+unfolding evaluation called evaluate followedBy afterBegun resultNumber resultTree numberOr treeOr atLevel sum32 nth grow two-leaves
 ends-with-tree = record {
   checked = grow-checked;
   labelled = (lit< tt, lit< tt);
@@ -56,7 +56,7 @@ ends-with-tree = record {
 
 -- Sum is within the limits and passes both passes
 sum-checked : Checked sum
-unfolding order passOne passOver atEntry roomy wordsTested bareNumber typed named enteredAll entered inside startOf passTwo walkAll noneLeft walk joined sameNames takeHead resultType isInt fits size prefix nth signatureOf total arityOf countArgs mostParameters sum numbered programOf on
+unfolding bothPasses passOne passOver atEntry roomy wordsTested bareNumber typed named enteredAll entered inside startOf passTwo walkAll noneLeft walk equalBranches sameNames takeHead resultType isInt fits size prefix nth signatureOf total arityOf countArgs mostParameters sum numbered programOf on
 sum-checked = record {
   lawful = record {
     edition = refl;
@@ -77,7 +77,7 @@ sum-checked = record {
 
 -- its evaluation on tree T ends with a number
 ends-with-number : Witness sum two-leaves (Ends sum two-leaves mostCalls 8 (number 12))
-unfolding evaluation called evaluate next after resultNumber numberOr treeOr atLevel sum32 nth sum numbered programOf on two-leaves
+unfolding evaluation called evaluate followedBy afterBegun resultNumber numberOr treeOr atLevel sum32 nth sum numbered programOf on two-leaves
 ends-with-number = record {
   checked = sum-checked;
   labelled = (lit< tt, lit< tt);
@@ -96,7 +96,7 @@ countdown =
 
 -- it is within the limits and passes both passes
 countdown-checked : Checked countdown
-unfolding order passOne passOver atEntry roomy wordsTested bareNumber typed named enteredAll entered inside startOf passTwo walkAll noneLeft walk joined sameNames takeHead resultType isInt fits size prefix nth signatureOf total arityOf countArgs mostParameters countdown numbered taking programOf on with-one
+unfolding bothPasses passOne passOver atEntry roomy wordsTested bareNumber typed named enteredAll entered inside startOf passTwo walkAll noneLeft walk equalBranches sameNames takeHead resultType isInt fits size prefix nth signatureOf total arityOf countArgs mostParameters countdown numbered taking programOf on with-one
 countdown-checked = record {
   lawful = record {
     edition = refl;
@@ -127,46 +127,46 @@ one-less k h = omega arith
 -- a call of function 1 begins 6 expressions, then calls it with one less, by the Call at record 12
 goes-down : (calls k r : ℕ) (t : Tree)
     → k < 2 ^ 32
-    → called countdown (suc calls) r 1 (suc k ∷ []) t ≡ after 6 (called countdown calls 12 1 (k ∷ []) t)
-unfolding called evaluate next after resultNumber numberOr treeOr atLevel nth firstRecord total signatureOf size prefix countdown numbered taking programOf on with-one
-goes-down calls k r t h = ap (λ (i : ℕ). after 6 (called countdown calls 12 1 (i ∷ []) t)) (one-less k h)
+    → called countdown (suc calls) r 1 (suc k ∷ []) t ≡ afterBegun 6 (called countdown calls 12 1 (k ∷ []) t)
+unfolding called evaluate followedBy afterBegun resultNumber numberOr treeOr atLevel nth firstRecord total signatureOf size prefix countdown numbered taking programOf on with-one
+goes-down calls k r t h = ap (λ (i : ℕ). afterBegun 6 (called countdown calls 12 1 (i ∷ []) t)) (one-less k h)
 
 -- with 0 it begins 4, and gives a leaf's label
-at-zero : (calls r x : ℕ) → called countdown (suc calls) r 1 (0 ∷ []) (leaf x) ≡ after 4 (gives (number x))
-unfolding called evaluate next after resultNumber numberOr treeOr atLevel nth countdown taking programOf
+at-zero : (calls r x : ℕ) → called countdown (suc calls) r 1 (0 ∷ []) (leaf x) ≡ afterBegun 4 (gives (number x))
+unfolding called evaluate followedBy afterBegun resultNumber numberOr treeOr atLevel nth countdown taking programOf
 at-zero calls r x = refl
 
 -- so it ends where one more call than its number may be open
-ends-down : (k r x : ℕ) → k < 2 ^ 32 → called countdown (suc k) r 1 (k ∷ []) (leaf x) ≡ after (6 * k + 4) (gives (number x))
+ends-down : (k r x : ℕ) → k < 2 ^ 32 → called countdown (suc k) r 1 (k ∷ []) (leaf x) ≡ afterBegun (6 * k + 4) (gives (number x))
 ends-down zero r x h = at-zero 0 r x
 ends-down (suc k) r x h =
     let more : 6 + (6 * k + 4) ≡ 6 * suc k + 4 = omega arith in
     goes-down (suc k) k r (leaf x) (omega arith)
-    ∙ ap (after 6) (ends-down k 12 x (omega arith))
+    ∙ ap (afterBegun 6) (ends-down k 12 x (omega arith))
     ∙ after-more 6 _ _
-    ∙ ap (λ (n : ℕ). after n (gives (number x))) more
+    ∙ ap (λ (n : ℕ). afterBegun n (gives (number x))) more
 
 -- An outcome that stops at a call too many.
 record Stopped (o : Outcome Value) : Type 0 where
   begun : ℕ
-  place : ℕ
-  stopped : o ≡ after begun (stops tooManyCalls place)
+  position : ℕ
+  stopped : o ≡ afterBegun begun (stops tooManyCalls position)
 
 -- one after expressions begun before
-stopped-after : (n : ℕ) {o : Outcome Value} → Stopped o → Stopped (after n o)
-stopped-after n s = record { begun = n + s .begun; place = s .place; stopped = ap (after n) (s .stopped) ∙ after-more n _ _ }
+stopped-after : (n : ℕ) {o : Outcome Value} → Stopped o → Stopped (afterBegun n o)
+stopped-after n s = record { begun = n + s .begun; position = s .position; stopped = ap (afterBegun n) (s .stopped) ∙ after-more n _ _ }
 
 -- and stops where no more calls than its number may be open
 stops-down : (calls k r : ℕ) (t : Tree) → calls ≤ k → k < 2 ^ 32 → Stopped (called countdown calls r 1 (k ∷ []) t)
-unfolding called after
-stops-down zero k r t h fits = record { begun = 0; place = r; stopped = refl }
+unfolding called afterBegun
+stops-down zero k r t h fits = record { begun = 0; position = r; stopped = refl }
 stops-down (suc calls) zero r t h fits = absurd (omega arith)
 stops-down (suc calls) (suc k) r t h fits =
     rw (goes-down calls k r t (omega arith)) (stopped-after 6 (stops-down calls k 12 t (omega arith) (omega arith)))
 
 -- function 0 begins 2 expressions, then calls function 1 with 1,100, by the Call at record 3
-from-first : (calls : ℕ) (t : Tree) → evaluation countdown (suc calls) t ≡ after 2 (called countdown calls 3 1 (1100 ∷ []) t)
-unfolding evaluation called evaluate next after resultNumber treeOr atLevel nth firstRecord total countdown numbered programOf with-one
+from-first : (calls : ℕ) (t : Tree) → evaluation countdown (suc calls) t ≡ afterBegun 2 (called countdown calls 3 1 (1100 ∷ []) t)
+unfolding evaluation called evaluate followedBy afterBegun resultNumber treeOr atLevel nth firstRecord total countdown numbered programOf with-one
 from-first calls t = refl
 
 -- its evaluation on a leaf ends with 1,102 calls open at once, and not within 1,024
@@ -180,7 +180,7 @@ ends-too-deep =
       checked = countdown-checked;
       labelled = lit< tt;
       holds = (
-        held .gives-value 1102 6606 (number 9) .0 (from-first 1101 (leaf 9) ∙ ap (after 2) (ends-down 1100 3 9 (lit< tt)) ∙ after-more 2 6604 _),
+        held .gives-value 1102 6606 (number 9) .0 (from-first 1101 (leaf 9) ∙ ap (afterBegun 2) (ends-down 1100 3 9 (lit< tt)) ∙ after-more 2 6604 _),
         λ n v ends.
             gives-not n _ tooManyCalls _ v (sym (held .gives-value mostCalls n v .1 ends) ∙ from-first 1023 (leaf 9) ∙ stops-first .stopped),
       );
@@ -190,7 +190,7 @@ ends-too-deep =
 
 -- Call 0 on 0 is within the limits and passes both passes
 again-checked : Checked again
-unfolding order passOne passOver atEntry roomy wordsTested bareNumber typed named enteredAll entered startOf passTwo walkAll noneLeft walk takeHead resultType isInt fits nth signatureOf again numbered programOf on
+unfolding bothPasses passOne passOver atEntry roomy wordsTested bareNumber typed named enteredAll entered startOf passTwo walkAll noneLeft walk takeHead resultType isInt fits nth signatureOf again numbered programOf on
 again-checked = record { lawful = again-passes .lawful; passes = refl }
 
 -- its evaluation is endless
@@ -236,4 +236,4 @@ exceeds : Exceeds sixteen-lets
 unfolding passOne passOver atEntry roomy wordsTested typed named enteredAll entered inside startOf resultType isInt size prefix signatureOf sixteen-lets numbered programOf lets
 exceeds =
     let sound = every-append (Sound (signatures sixteen-lets)) (entered (scope 0 1 0 Int) 2 (lets 16 (const 1))) [] (lets-sound (signatures sixteen-lets) 16 0 1 0 2) tt in
-    code-limits sixteen-lets lets-lawful .words sound .0 (record { place = 34; refused = refl })
+    code-limits sixteen-lets lets-lawful .words sound .0 (record { position = 34; refused = refl })

@@ -25,13 +25,13 @@ use Rattle.formats.proofs.Programs.{every-left, every-right}
 use Rattle.formats.proofs.Results.{done-not}
 use Rattle.rules.specs.Types.{Ty, Int, Tree⁺}
 use Rattle.rules.specs.Scopes.{scope, inside, startOf, Entry, entry, entered, enteredArgs, enteredAll}
-use Rattle.rules.specs.PassOne.{mostWords, bareNumber, wordsTested, roomy, passOver, passOne, valueWords, wordsOf, wordsOfArgs}
+use Rattle.rules.specs.PassOne.{mostFrameWords, bareNumber, wordsTested, roomy, passOver, passOne, wordsWithValue, wordsOf, wordsOfArgs}
 use Rattle.rules.specs.PassOne.{FirstFails, here, later, name-not-bound, wrong-type, too-many-words}
 use Rattle.rules.specs.OrderChecker.{firstNode}
 use Rattle.rules.proofs.PassOne.{Passes, PassesArgs, pass-one, pass-nothing, pass-more, pass-left, pass-right, pass-both}
 use Rattle.rules.proofs.Words.{few-words}
 use Rattle.translation.specs.Templates.{entryOf}
-use Rattle.translation.specs.CodeLimits.{Stands, at-entry, onward, Exceeds, Sound, RefusedFor10}
+use Rattle.translation.specs.CodeLimits.{WordsStand, at-entry, onward, Exceeds, Sound, RefusedFor10}
 use Rattle.translation.proofs.Operands.{few-parameters}
 use Rattle.translation.proofs.Coded.{SoundIn, SoundArgs, called, coded-function}
 use Rattle.translation.proofs.WordWays.{call-words, most-reached, Safe, safe-few, safe-next, safe-at, all-safe}
@@ -44,43 +44,43 @@ module _ (program : Program) where
   gs = signatures program
 
   -- a record's condition on words holds if, where they are tested, one more is within the limit
-  room : (g n w : ℕ) (τ : Ty) (kind : Kind) → (wordsTested gs kind ≡ true → w < mostWords) → roomy gs (scope g n w τ) kind ≡ true
+  room : (g n w : ℕ) (τ : Ty) (kind : Kind) → (wordsTested gs kind ≡ true → w < mostFrameWords) → roomy gs (scope g n w τ) kind ≡ true
   unfolding roomy
   room g n w τ kind h = by-test (wordsTested gs kind) h
     where
-      by-test : (t : Bool) → (t ≡ true → w < mostWords) → elim t [ true ↦ ltb w mostWords | false ↦ true ] ≡ true
-      by-test true h = lt-ltb w mostWords (h refl)
+      by-test : (t : Bool) → (t ≡ true → w < mostFrameWords) → elim t [ true ↦ ltb w mostFrameWords | false ↦ true ] ≡ true
+      by-test true h = lt-ltb w mostFrameWords (h refl)
       by-test false h = refl
 
   -- a record whose name is bound and whose type is right passes if its condition on words holds
   sound-more : (g n w r : ℕ) (τ : Ty) (kind : Kind) (xs : List Entry)
       → Sound gs (entry (scope g n w τ) r kind)
-      → (wordsTested gs kind ≡ true → w < mostWords)
+      → (wordsTested gs kind ≡ true → w < mostFrameWords)
       → passOver gs xs ≡ done tt
       → passOver gs (entry (scope g n w τ) r kind ∷ xs) ≡ done tt
   sound-more g n w r τ kind xs h few = pass-more gs (scope g n w τ) r kind xs (h .0) (h .1) (room g n w τ kind few)
 
   -- where words are not tested
-  none-tested : (w : ℕ) → false ≡ true → w < mostWords
+  none-tested : (w : ℕ) → false ≡ true → w < mostFrameWords
   none-tested w t = absurd (false≢true t)
 
   -- words are tested at a Call of a number-valued function with no arguments: its value needs one more
-  call-tested : (w v b : ℕ) (f : Function) → nth (program .functions) b ≡ some f → valueWords (f .sort) w ≤ mostWords
+  call-tested : (w v b : ℕ) (f : Function) → nth (program .functions) b ≡ some f → wordsWithValue (f .sort) w ≤ mostFrameWords
       → wordsTested gs (Call v b) ≡ true
-      → w < mostWords
-  unfolding wordsTested bareNumber signatureOf valueWords
+      → w < mostFrameWords
+  unfolding wordsTested bareNumber signatureOf wordsWithValue
   call-tested w v b f known few t = by-sort (f .sort) refl (rw (nth-mapped signatureOf (program .functions) b f known, wordsTested) at t)
     where
-      by-sort : (s : Sort) → f .sort ≡ s → bareNumber (signatureOf f) ≡ true → w < mostWords
+      by-sort : (s : Sort) → f .sort ≡ s → bareNumber (signatureOf f) ≡ true → w < mostFrameWords
       by-sort numberValued e bare = rw e at few
       by-sort treeValued e bare = absurd (false≢true (rw (e, bareNumber) at bare))
 
   -- expression by expression: no more than the most words stand on entering, and all records pass
   mutual
-    unfolding entered inside wordsTested wordsOf valueWords enteredArgs
+    unfolding entered inside wordsTested wordsOf wordsWithValue enteredArgs
 
-    passes : (g n w r : ℕ) (τ : Ty) (e : Expr) → SoundIn program (scope g n w τ) r e → wordsOf gs w e ≤ mostWords
-        → (w ≤ mostWords) × Passes gs (scope g n w τ) r e
+    passes : (g n w r : ℕ) (τ : Ty) (e : Expr) → SoundIn program (scope g n w τ) r e → wordsOf gs w e ≤ mostFrameWords
+        → (w ≤ mostFrameWords) × Passes gs (scope g n w τ) r e
     passes g n w r τ (const i) h few = (omega arith, sound-more g n w r τ (Const i) [] (h .0) (λ t. few) (pass-nothing gs))
     passes g n w r τ (var v) h few = (omega arith, sound-more g n w r τ (Var v) [] (h .0) (λ t. few) (pass-nothing gs))
     passes g n w r τ (add p q) h few =
@@ -117,15 +117,15 @@ module _ (program : Program) where
         (second .0, sound-more g n w r τ (Case v) _ (h .0) (λ t. first .0) (pass-both gs _ _ (first .1) (second .1)))
     passes g n w r τ (call v b xs) h few =
         let f = called program g n w v b τ (h .0 .1) in
-        let both : max (valueWords (f .function .sort) w) (wordsOfArgs gs w xs) ≤ mostWords =
+        let both : max (wordsWithValue (f .function .sort) w) (wordsOfArgs gs w xs) ≤ mostFrameWords =
         rw (call-words program w v b xs (f .function) (f .known)) at few in
         let args = passes-args g n w (suc r) τ v b 0 xs (h .1) (rw add-zero (omega arith)) in
         (rw add-zero at (args .0), sound-more g n w r τ (Call v b) _ (h .0) (call-tested w v b (f .function) (f .known) (omega arith)) (args .1))
 
     -- a Call's arguments from part i on, where τ is expected of the Call
     passes-args : (g n w r : ℕ) (τ : Ty) (v b i : ℕ) (xs : Args) → SoundArgs program (Call v b) i (scope g n w τ) r xs
-        → wordsOfArgs gs (w + i) xs ≤ mostWords
-        → (w + i ≤ mostWords) × PassesArgs gs (Call v b) i (scope g n w τ) r xs
+        → wordsOfArgs gs (w + i) xs ≤ mostFrameWords
+        → (w + i ≤ mostFrameWords) × PassesArgs gs (Call v b) i (scope g n w τ) r xs
     passes-args g n w r τ v b i noArgs h few = (few, pass-nothing gs)
     passes-args g n w r τ v b i (arg x xs) h few =
         let left = entered (scope g n (w + i) Int) r x in
@@ -144,7 +144,7 @@ module _ (program : Program) where
     index : ℕ
     function : Function
     known : nth fs index ≡ some function
-    over : mostWords < wordsIn function
+    over : mostFrameWords < wordsIn function
 
   -- sound functions pass, or one takes more
   pass-or-over : (r : ℕ) (fs : List Function) → Every (Sound gs) (enteredAll r fs) → (passOver gs (enteredAll r fs) ≡ done tt) ⊎ Over fs
@@ -152,7 +152,7 @@ module _ (program : Program) where
   pass-or-over r [] h = inl (pass-nothing gs)
   pass-or-over r (f ∷ fs) h =
       let own = entered (startOf f) r (f .body) in
-      elim (decLe (wordsIn f) mostWords) [
+      elim (decLe (wordsIn f) mostFrameWords) [
         | yes few ↦ elim (pass-or-over _ fs (every-right _ own _ h)) [
           | inl rest ↦ inl (pass-both gs _ _ (passes _ _ _ r _ (f .body) (every-left _ own _ h) few .1) rest)
           | inr o ↦ inr (record { index = suc (o .index); function = o .function; known = o .known; over = o .over })
@@ -162,7 +162,7 @@ module _ (program : Program) where
 
   -- where all pass, none takes more; parameters alone do not
   few-in : (j r : ℕ) (fs : List Function) → LawfulFunctions gs j fs → passOver gs (enteredAll r fs) ≡ done tt
-      → (b : ℕ) (f : Function) → nth fs b ≡ some f → wordsIn f ≤ mostWords
+      → (b : ℕ) (f : Function) → nth fs b ≡ some f → wordsIn f ≤ mostFrameWords
   unfolding enteredAll startOf nth
   few-in j r [] lawful e b f known = absurd (Option·none-ne-some f known)
   few-in j r (g ∷ fs) lawful e zero f known =
@@ -190,13 +190,13 @@ module _ (program : Program) (sound : Every (Sound (signatures program)) (entere
       record { address = reached .address; count = reached .count; stands = reached .stands; above = lt-of-lt-of-le (o .over) (reached .enough) }
 
   -- where none does, no count exceeds 16: none on the ways from an entry, so none that stands
-  module _ (few : (b : ℕ) (f : Function) → nth (program .functions) b ≡ some f → wordsIn program f ≤ mostWords) where
+  module _ (few : (b : ℕ) (f : Function) → nth (program .functions) b ≡ some f → wordsIn program f ≤ mostFrameWords) where
     entry-safe : (b : ℕ) (f : Function) → nth (program .functions) b ≡ some f → Safe program (entryOf program b) (f .parameters)
     entry-safe b f known =
         let coded = coded-function program sound b f known in
         all-safe program (coded .body) (f .parameters) (few b f known) (λ value. safe-at program (coded .return) value tt)
 
-    stands-safe : {a w : ℕ} → Stands program a w → Safe program a w
+    stands-safe : {a w : ℕ} → WordsStand program a w → Safe program a w
     stands-safe (at-entry b known) = entry-safe b _ known
     stands-safe (onward before h lead) = safe-next program (stands-safe before) h lead
 
@@ -218,6 +218,6 @@ word-counts program lawful sound = (exceeds, refused (passOne program) refl)
     refused (done tt) e x =
         let few = few-in program 0 (firstNode program) (program .functions) (lawful .functions) e in
         absurd (omega (arith, safe-few program (stands-safe program sound few (x .stands)), x .above))
-    refused (refusal number place) e x =
-        let is = only-words program sound (pass-one program number place .0 e) in
-        record { place = place; refused = rw is at e }
+    refused (refusal number position) e x =
+        let is = only-words program sound (pass-one program number position .0 e) in
+        record { position = position; refused = rw is at e }

@@ -12,26 +12,26 @@ use Rattle.formats.specs.Results.{Result, done, refusal, onValue, each}
 use Rattle.formats.specs.Written.{written}
 use Rattle.formats.specs.Characters.{newline, ascii}
 use Rattle.formats.specs.Decimal.{digits, decimal}
-use Rattle.formats.specs.Tokens.{tokens, tagOf, tagAt, labelAt, partsAt, byTag as readTag, treeAt, firstTree}
+use Rattle.formats.specs.Tokens.{tokens, tagOf, tagAt, labelAt, branchesAt, treeByTag as readTag, treeAt, firstTree}
 use Rattle.formats.specs.Records.{Record, bytesOfRecord, flat, recordAt, Kind, Const, Var, Add, Leaf, Node, Case, Call as CallOf, fieldsOf, kinds, nth, kindOf, same, below, nodeRecord}
 use Rattle.formats.specs.Programs.{prefix, prefixes, size, countArgs, Sort, numberValued, treeValued, sortNumber, signatureRecord, arityOf, total, signatureOf, headerRecord, mostParameters}
 use Rattle.formats.specs.Rows.{headerFrom, headerRow, sorts, functionFrom, functionAt, functionRow, nodeAt, nodeRow, popArgs, build, exprsOf, exactlyOne, bodies, prefixRow, readProgram}
-use Rattle.formats.specs.Blocks.{wordSum, checkWord, blockBody, blockOf, blocksFrom, blocksFor, fileOf, lengthRow, zeros, usedFits, fieldsFit, usedOf, blockAt, blockRow, joined, flatIn, programIn, writeFile, within, lent}
+use Rattle.formats.specs.Blocks.{wordSum, checkWord, blockBody, blockOf, blocksFrom, blocksFor, fileOf, lengthRow, zeros, usedFits, fieldsFit, usedOf, blockAt, blockRow, concatenated, flatIn, programIn, writeFile, inRoom, lent}
 use Rattle.rules.specs.Types.{isInt, isTree, fits, resultType}
 use Rattle.rules.specs.Scopes.{inside, startOf, entered, enteredArgs, enteredAll}
 use Rattle.rules.specs.PassOne.{named, typed, bareNumber, wordsTested, roomy, atEntry, passOver, passOne}
-use Rattle.rules.specs.PassTwo.{takeHead, sameNames, joined as joinedLists, walk, walkArgs, noneLeft, walkAll, passTwo, order}
+use Rattle.rules.specs.PassTwo.{takeHead, sameNames, equalBranches as joinedLists, walk, walkArgs, noneLeft, walkAll, passTwo, bothPasses}
 use Rattle.meaning.specs.Levels.{atLevel}
 use Rattle.meaning.specs.Instructions.{heldBy, operations, operationOf, instructionOf}
-use Rattle.meaning.specs.Performing.{wordsBelow, standing, opened, one, two, room, push, write}
-use Rattle.meaning.specs.Performing.{byTag, readNumber, call, kept, numberKept, leave, operate, perform, step}
-use Rattle.meaning.specs.Running.{run, outcomeOf, numberTold, streamRun, valueWords, returnWords}
+use Rattle.meaning.specs.Performing.{wordsBelow, standing, opened, one, two, room, pushWord, write}
+use Rattle.meaning.specs.Performing.{onTag, takeNumber, openCall, kept, numberKept, leave, operate, perform, step}
+use Rattle.meaning.specs.Running.{run, outcomeOf, numberReported, streamRun, valueWords, returnWords}
 use Rattle.meaning.specs.Evaluation.{resultBytes, resultNumber}
-use Rattle.meaning.specs.OpenCalls.{next, numberOr, treeOr, resultTree, evaluate, evaluateArgs, firstRecord, called, evaluation, within as withFuel}
-use Rattle.meaning.specs.SourceRun.{SourceRan, told, tellFrom, checkSource, sourceRun}
-use Rattle.translation.specs.Templates.{behind, behindArgs, wordOf, firstWords, endOf, code, codeArgs, wordsKept}
-use Rattle.translation.specs.Templates.{functionCode, behindFunction, entryFrom, functionsCode, entryOf, operationsOf, codeOf}
-use Rattle.translation.specs.Calls.{checkedRecords, translateRecords, translateFile, prepared, Called, runFile}
+use Rattle.meaning.specs.OpenCalls.{followedBy, numberOr, treeOr, resultTree, evaluate, evaluateArgs, firstRecord, called, evaluation, withFuel}
+use Rattle.meaning.specs.SourceRun.{SourceRan, reported, reportFrom, checkSource, sourceRun}
+use Rattle.translation.specs.Templates.{codeEnd, argsEnd, wordOf, firstWords, endOf, code, codeArgs, wordsKept}
+use Rattle.translation.specs.Templates.{functionCode, functionEnd, entryFrom, functionsCode, entryOf, operationsOf, codeOf}
+use Rattle.translation.specs.Calls.{checkedRecords, translateRecords, translateFile, prepared, ProgramRan, runFile}
 use Rattle.translation.specs.Listing.{lineOf, linesFrom, instructionsIn, listingOf, listing}
 use Rattle.translation.specs.ListingText.{field, signedField, lineText, linesText, codeWord, refusedWord, text}
 
@@ -83,7 +83,7 @@ data Asked : Type 0 where
 data Gives : Type 0 where
   aListing : List ℕ → Gives
   aCode : Result (List ℕ) → List ℕ → Gives
-  aRun : Called → Gives
+  aRun : ProgramRan → Gives
   aSourceRun : SourceRan → Gives
 
 -- What a file gives. The source run is lent the work space of 01, Work words.
@@ -144,7 +144,7 @@ runs records input fuel space room due =
 source-runs : List Record → (input : List ℕ) (fuel space : ℕ) → Gives → Row
 source-runs records input fuel space due = record { records = records; asked = sourceOn input (nines space) fuel; due = due }
 
--- Grow's code at the start of a buffer, and so many bytes behind it.
+-- Grow's code at the start of a buffer, and so many bytes after it.
 grow-code : ℕ → List ℕ
 grow-code rest =
     10 ∷ 0 ∷ 9 ∷ 0 ∷ 0 ∷ 0 ∷ 0 ∷ 0
@@ -229,7 +229,7 @@ rows =
 
 -- One computation, through writer, reader, checker, translator, stream run, source run and listing.
 worked : map given rows ≡ map (λ r. done (r .due)) rows
-unfolding text linesText lineText signedField field codeWord refusedWord decimal digits ascii printed listing listingOf instructionsIn linesFrom lineOf signed32 runFile prepared translateFile translateRecords checkedRecords within lent codeOf operationsOf entryOf functionsCode entryFrom behindFunction functionCode wordsKept code codeArgs endOf firstWords wordOf behind behindArgs countArgs order passTwo walkAll noneLeft walk walkArgs joinedLists sameNames takeHead passOne passOver atEntry roomy wordsTested bareNumber typed named enteredAll entered enteredArgs inside startOf resultType isInt isTree fits size prefix prefixes signatureOf streamRun run step perform operate heldBy operationOf operations instructionOf standing wordsBelow opened atLevel one two room push write byTag readNumber call kept numberKept leave outcomeOf numberTold sum32 tagAt tagOf written sourceRun checkSource tellFrom told withFuel evaluation called evaluate evaluateArgs next resultNumber resultBytes resultTree numberOr treeOr firstRecord tokens firstTree treeAt readTag partsAt labelAt programIn writeFile fileOf blocksFor blocksFrom blockOf blockBody checkWord wordSum flatIn lengthRow blockRow blockAt usedOf fieldsFit usedFits zeros joined readProgram headerRow headerFrom functionRow functionAt functionFrom sorts mostParameters nodeRow nodeAt nodeRecord kindOf kinds nth same below fieldsOf each prefixRow bodies exactlyOne exprsOf build popArgs arityOf total recordAt flat bytesOfRecord bytesOf numberAt numberOf headerRecord signatureRecord sortNumber Call_on_ one-function grow swapped tree-left again T asked-of nines answers source-answers given lists runs source-runs grow-code again-code rows
+unfolding text linesText lineText signedField field codeWord refusedWord decimal digits ascii printed listing listingOf instructionsIn linesFrom lineOf signed32 runFile prepared translateFile translateRecords checkedRecords inRoom lent codeOf operationsOf entryOf functionsCode entryFrom functionEnd functionCode wordsKept code codeArgs endOf firstWords wordOf codeEnd argsEnd countArgs bothPasses passTwo walkAll noneLeft walk walkArgs joinedLists sameNames takeHead passOne passOver atEntry roomy wordsTested bareNumber typed named enteredAll entered enteredArgs inside startOf resultType isInt isTree fits size prefix prefixes signatureOf streamRun run step perform operate heldBy operationOf operations instructionOf standing wordsBelow opened atLevel one two room pushWord write onTag takeNumber openCall kept numberKept leave outcomeOf numberReported sum32 tagAt tagOf written sourceRun checkSource reportFrom reported withFuel evaluation called evaluate evaluateArgs followedBy resultNumber resultBytes resultTree numberOr treeOr firstRecord tokens firstTree treeAt readTag branchesAt labelAt programIn writeFile fileOf blocksFor blocksFrom blockOf blockBody checkWord wordSum flatIn lengthRow blockRow blockAt usedOf fieldsFit usedFits zeros concatenated readProgram headerRow headerFrom functionRow functionAt functionFrom sorts mostParameters nodeRow nodeAt nodeRecord kindOf kinds nth same below fieldsOf each prefixRow bodies exactlyOne exprsOf build popArgs arityOf total recordAt flat bytesOfRecord bytesOf numberAt numberOf headerRecord signatureRecord sortNumber Call_on_ one-function grow swapped tree-left again T asked-of nines answers source-answers given lists runs source-runs grow-code again-code rows
 worked = refl
 
 -- ---- other bytes, and the buffers' lengths
@@ -258,8 +258,8 @@ running file input fuel room values returns due =
     record { file = file; asked = runOn input (nines 12) (nines room) fuel values returns; due = due }
 
 -- Refused before the run: 0 in every count, and both buffers, the code's of so many bytes, untouched.
-untouched : (why place room : ℕ) → Gives
-untouched why place room = answers (refusal why place) 0 0 0 0 (nines 12) (nines room)
+untouched : (why position room : ℕ) → Gives
+untouched why position room = answers (refusal why position) 0 0 0 0 (nines 12) (nines room)
 
 -- The translator, and a code buffer of so many bytes.
 translating : (file : List ℕ) (room : ℕ) → Gives → OnFile
@@ -284,7 +284,7 @@ in-order =
     ∷ running (filed grow) (3 ∷ []) 25 110 16384 2048 (answers (refusal 16 0) 0 0 0 0 (nines 12) (grow-code 6))
     ∷ []
 
--- Grow on T, with so many bytes behind the code.
+-- Grow on T, with so many bytes after the code.
 grown : (rest : ℕ) → Gives
 grown rest = answers (done tt) 25 11 11 0 (2 ∷ 1 ∷ 6 ∷ 0 ∷ 0 ∷ 0 ∷ 1 ∷ 8 ∷ 0 ∷ 0 ∷ 0 ∷ 9 ∷ []) (grow-code rest)
 
@@ -338,5 +338,5 @@ calls = in-order ++ (lengths ++ (translations ++ listings))
 
 -- Again one computation.
 orderly : map (λ c. asked-of (c .file) (c .asked)) calls ≡ map (λ c. c .due) calls
-unfolding text linesText lineText signedField field codeWord refusedWord decimal digits ascii printed listing listingOf instructionsIn linesFrom lineOf signed32 runFile prepared translateFile translateRecords checkedRecords within lent codeOf operationsOf entryOf functionsCode entryFrom behindFunction functionCode wordsKept code codeArgs endOf firstWords wordOf behind behindArgs countArgs order passTwo walkAll noneLeft walk walkArgs joinedLists sameNames takeHead passOne passOver atEntry roomy wordsTested bareNumber typed named enteredAll entered enteredArgs inside startOf resultType isInt isTree fits size prefix prefixes signatureOf streamRun run step perform operate heldBy operationOf operations instructionOf standing wordsBelow opened atLevel one two room push write byTag readNumber call kept numberKept leave outcomeOf numberTold sum32 tagAt tagOf written fileOf blocksFor blocksFrom blockOf blockBody checkWord wordSum flatIn lengthRow blockRow blockAt usedOf fieldsFit usedFits zeros joined readProgram headerRow headerFrom functionRow functionAt functionFrom sorts mostParameters nodeRow nodeAt nodeRecord kindOf kinds nth same below fieldsOf each prefixRow bodies exactlyOne exprsOf build popArgs arityOf total recordAt flat bytesOfRecord bytesOf numberAt numberOf headerRecord signatureRecord sortNumber Call_on_ one-function grow swapped T asked-of nines answers grow-code filed not-bound one-too-many running untouched translating listing-of in-order grown lengths translations listings calls
+unfolding text linesText lineText signedField field codeWord refusedWord decimal digits ascii printed listing listingOf instructionsIn linesFrom lineOf signed32 runFile prepared translateFile translateRecords checkedRecords inRoom lent codeOf operationsOf entryOf functionsCode entryFrom functionEnd functionCode wordsKept code codeArgs endOf firstWords wordOf codeEnd argsEnd countArgs bothPasses passTwo walkAll noneLeft walk walkArgs joinedLists sameNames takeHead passOne passOver atEntry roomy wordsTested bareNumber typed named enteredAll entered enteredArgs inside startOf resultType isInt isTree fits size prefix prefixes signatureOf streamRun run step perform operate heldBy operationOf operations instructionOf standing wordsBelow opened atLevel one two room pushWord write onTag takeNumber openCall kept numberKept leave outcomeOf numberReported sum32 tagAt tagOf written fileOf blocksFor blocksFrom blockOf blockBody checkWord wordSum flatIn lengthRow blockRow blockAt usedOf fieldsFit usedFits zeros concatenated readProgram headerRow headerFrom functionRow functionAt functionFrom sorts mostParameters nodeRow nodeAt nodeRecord kindOf kinds nth same below fieldsOf each prefixRow bodies exactlyOne exprsOf build popArgs arityOf total recordAt flat bytesOfRecord bytesOf numberAt numberOf headerRecord signatureRecord sortNumber Call_on_ one-function grow swapped T asked-of nines answers grow-code filed not-bound one-too-many running untouched translating listing-of in-order grown lengths translations listings calls
 orderly = refl

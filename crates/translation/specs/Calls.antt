@@ -10,8 +10,8 @@ use Rattle.formats.specs.Refusals.{spaceTooShort}
 use Rattle.formats.specs.Results.{Result, done, refusal, andThen, onValue, check}
 use Rattle.formats.specs.Programs.{Program}
 use Rattle.formats.specs.Rows.{readProgram}
-use Rattle.formats.specs.Blocks.{flatIn, programIn, within, lent}
-use Rattle.rules.specs.PassTwo.{order}
+use Rattle.formats.specs.Blocks.{flatIn, programIn, inRoom, lent}
+use Rattle.rules.specs.PassTwo.{bothPasses}
 use Rattle.meaning.specs.Running.{Answer, valueWords, returnWords, streamRun}
 use Rattle.translation.specs.Templates.{codeOf}
 
@@ -19,12 +19,12 @@ use Rattle.translation.specs.Templates.{codeOf}
 
 -- The program that flat records are, where both passes accept it.
 unfoldable pub checkedRecords : List ℕ → Result Program
-checkedRecords s = andThen (readProgram s) (λ program. onValue (λ u. program) (order program))
+checkedRecords s = andThen (readProgram s) (λ program. onValue (λ u. program) (bothPasses program))
 
 -- 01, Checking: "the translator needs both passes, then tests 13." The code of flat records, where
 -- the code buffer has so much room.
 unfoldable pub translateRecords : ℕ → List ℕ → Result (List ℕ)
-translateRecords room s = andThen (checkedRecords s) (λ program. within room (codeOf program))
+translateRecords room s = andThen (checkedRecords s) (λ program. inRoom room (codeOf program))
 
 -- The code of a program file: the block rows first.
 unfoldable pub translateFile : ℕ → List ℕ → Result (List ℕ)
@@ -33,7 +33,7 @@ translateFile room file = andThen (flatIn file) (translateRecords room)
 -- ---- the runner
 
 -- What a call gives: its answer, and every byte of the output and of the code buffer.
-pub record Called : Type 0 where
+pub record ProgramRan : Type 0 where
   pub answer : Answer
   pub output : List ℕ
   pub code : List ℕ
@@ -46,12 +46,12 @@ prepared room values returns file =
 -- 01, What the lent buffers hold: "A run refused before its first instruction .. answers 0 in every
 -- count."
 abbrev pub refusedBefore : ℕ → ℕ → Answer
-refusedBefore number place = record { outcome = refusal number place; units = 0; bytesRead = 0; bytesWritten = 0; number = 0 }
+refusedBefore number position = record { outcome = refusal number position; units = 0; bytesRead = 0; bytesWritten = 0; number = 0 }
 
 -- The code goes to the start of the code buffer and stays, whatever the run answers; the run is
 -- that of the code alone. 01, What the lent buffers hold: "A refusal leaves every output buffer
 -- untouched, save the stream run's".
-unfoldable pub runFile : (file input output code : List ℕ) (fuel values returns : ℕ) → Called
+unfoldable pub runFile : (file input output code : List ℕ) (fuel values returns : ℕ) → ProgramRan
 runFile file input output code fuel values returns =
     elim (prepared (length code) values returns file) [
       | done bytes ↦
@@ -60,13 +60,13 @@ runFile file input output code fuel values returns =
             output = streamRun bytes input output fuel values returns .output;
             code = lent code (done bytes);
           }
-      | refusal number place ↦ record { answer = refusedBefore number place; output = output; code = code }
+      | refusal number position ↦ record { answer = refusedBefore number position; output = output; code = code }
     ]
 
 -- A call that comes to its run: the file holds this program, both passes accept it, and every lent buffer is long enough.
 pub record Ready (file code : List ℕ) (values returns : ℕ) (program : Program) : Type 0 where
   pub in-file : programIn file ≡ done program
-  pub passes : order program ≡ done tt
+  pub passes : bothPasses program ≡ done tt
   pub room : length (codeOf program) ≤ length code
   pub words-lent : valueWords ≤ values
-  pub places-lent : returnWords ≤ returns
+  pub returns-lent : returnWords ≤ returns

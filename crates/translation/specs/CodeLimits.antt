@@ -11,7 +11,7 @@ use Rattle.formats.specs.Results.{refusal}
 use Rattle.formats.specs.Records.{Ranged, nth}
 use Rattle.formats.specs.Programs.{Every, Function, Program, signatures, Signature, Lawful}
 use Rattle.rules.specs.Scopes.{Entry, entry, enteredAll}
-use Rattle.rules.specs.PassOne.{mostWords, named, typed, passOne}
+use Rattle.rules.specs.PassOne.{mostFrameWords, named, typed, passOne}
 use Rattle.rules.specs.OrderChecker.{firstNode}
 use Rattle.meaning.specs.Instructions.{Operation, Push, Get, Add, Ifnot, Jump, Slide, Drop, LeafTag, NodeTag, WriteNumber, ReadTag, ReadNumber, Call, instructionOf, mostInstructions}
 use Rattle.meaning.specs.Performing.{Setting, State, goes, operate}
@@ -27,42 +27,42 @@ pub record Leaves (program : Program) (entry words : ℕ) : Type 0 where
   pub begins : entryOf program index ≡ entry
   pub kept : wordsKept (function .sort) ≡ words
 
--- `Leads program op a w b v`: an instruction at address a, with w words above the base before it, leads to address b with v words. A test leads both
+-- `MovesWords program op a w b v`: an instruction at address a, with w words above the base before it, leads to address b with v words. A test leads both
 -- ways, as does a tag; a return leads to no other. A step of the machine within one frame leads so (`as-counted` below). A call's arguments leave the frame,
 -- and its result is counted when it is back; the frame of the function that is called is counted from its own entry on.
-pub data Leads (program : Program) : Operation → (a w b v : ℕ) → Type 0 where
-  push : {i a w : ℕ} → Leads program (Push i) a w (suc a) (suc w)
-  get : {k a w : ℕ} → Leads program (Get k) a w (suc a) (suc w)
-  add : {a w : ℕ} → Leads program Add a (suc (suc w)) (suc a) (suc w)
-  ifnot-zero : {b a w : ℕ} → Leads program (Ifnot b) a (suc w) (suc a) w
-  ifnot-other : {b a w : ℕ} → Leads program (Ifnot b) a (suc w) b w
-  jump : {b a w : ℕ} → Leads program (Jump b) a w b w
-  slide : {a w : ℕ} → Leads program Slide a (suc (suc w)) (suc a) (suc w)
-  drop : {a w : ℕ} → Leads program Drop a (suc w) (suc a) w
-  leaf-tag : {a w : ℕ} → Leads program LeafTag a w (suc a) w
-  node-tag : {a w : ℕ} → Leads program NodeTag a w (suc a) w
-  write-number : {a w : ℕ} → Leads program WriteNumber a (suc w) (suc a) w
-  read-leaf : {b a w : ℕ} → Leads program (ReadTag b) a w (suc a) w
-  read-node : {b a w : ℕ} → Leads program (ReadTag b) a w b w
-  read-number : {a w : ℕ} → Leads program ReadNumber a w (suc a) (suc w)
-  call : {b n a k : ℕ} (w : ℕ) → Leaves program b k → Leads program (Call b n) a (n + w) (suc a) (k + w)
+pub data MovesWords (program : Program) : Operation → (a w b v : ℕ) → Type 0 where
+  by-push : {i a w : ℕ} → MovesWords program (Push i) a w (suc a) (suc w)
+  by-get : {k a w : ℕ} → MovesWords program (Get k) a w (suc a) (suc w)
+  by-add : {a w : ℕ} → MovesWords program Add a (suc (suc w)) (suc a) (suc w)
+  by-ifnot-zero : {b a w : ℕ} → MovesWords program (Ifnot b) a (suc w) (suc a) w
+  by-ifnot-other : {b a w : ℕ} → MovesWords program (Ifnot b) a (suc w) b w
+  by-jump : {b a w : ℕ} → MovesWords program (Jump b) a w b w
+  by-slide : {a w : ℕ} → MovesWords program Slide a (suc (suc w)) (suc a) (suc w)
+  by-drop : {a w : ℕ} → MovesWords program Drop a (suc w) (suc a) w
+  by-leaf-tag : {a w : ℕ} → MovesWords program LeafTag a w (suc a) w
+  by-node-tag : {a w : ℕ} → MovesWords program NodeTag a w (suc a) w
+  by-write-number : {a w : ℕ} → MovesWords program WriteNumber a (suc w) (suc a) w
+  by-read-leaf : {b a w : ℕ} → MovesWords program (ReadTag b) a w (suc a) w
+  by-read-node : {b a w : ℕ} → MovesWords program (ReadTag b) a w b w
+  by-read-number : {a w : ℕ} → MovesWords program ReadNumber a w (suc a) (suc w)
+  by-call : {b n a k : ℕ} (w : ℕ) → Leaves program b k → MovesWords program (Call b n) a (n + w) (suc a) (k + w)
 
 -- The word counts of a program's code: a function begins with its number parameters, and each instruction leads on.
-pub data Stands (program : Program) : ℕ → ℕ → Type 0 where
-  at-entry : {f : Function} (b : ℕ) → nth (program .functions) b ≡ some f → Stands program (entryOf program b) (f .parameters)
+pub data WordsStand (program : Program) : ℕ → ℕ → Type 0 where
+  at-entry : {f : Function} (b : ℕ) → nth (program .functions) b ≡ some f → WordsStand program (entryOf program b) (f .parameters)
   onward :
       {a w b v : ℕ} {op : Operation}
-      → Stands program a w
+      → WordsStand program a w
       → nth (operationsOf program) a ≡ some op
-      → Leads program op a w b v
-      → Stands program b v
+      → MovesWords program op a w b v
+      → WordsStand program b v
 
 -- Some word count exceeds 16.
 pub record Exceeds (program : Program) : Type 0 where
   pub address : ℕ
   pub count : ℕ
-  pub stands : Stands program address count
-  pub above : mostWords < count
+  pub stands : WordsStand program address count
+  pub above : mostFrameWords < count
 
 -- At this record the name is bound (no 9) and the type is right (no 8).
 abbrev pub Sound : List Signature → Entry → Type 0
@@ -70,17 +70,17 @@ Sound gs (entry sc r kind) = (named sc kind ≡ true) × (typed gs sc kind ≡ t
 
 -- Pass one refuses with 10, at some record.
 pub record RefusedFor10 (program : Program) : Type 0 where
-  pub place : ℕ
-  pub refused : passOne program ≡ refusal tooManyWords place
+  pub position : ℕ
+  pub refused : passOne program ≡ refusal tooManyWords position
 
 -- ---- where functions stand
 
 -- The instructions of function b are a part of the program's, the one that begins at its entry.
 pub record InPlace (program : Program) (b : ℕ) (f : Function) : Type 0 where
   pub before : List Operation
-  pub behind : List Operation
+  pub after : List Operation
   pub many : length before ≡ entryOf program b
-  pub joined : operationsOf program ≡ before ++ (functionCode (entryOf program) (entryOf program b) f ++ behind)
+  pub joined : operationsOf program ≡ before ++ (functionCode (entryOf program) (entryOf program b) f ++ after)
 
 -- ---- the theorems
 
@@ -98,7 +98,7 @@ pub record CodeLimits (program : Program) : Type 0 where
       (m : Setting) (s t : State) (op : Operation)
       → operate m s op ≡ goes t
       → length (t .callers) ≡ length (s .callers)
-      → Leads program op (s .address) (length (s .frame)) (t .address) (length (t .frame))
+      → MovesWords program op (s .address) (length (s .frame)) (t .address) (length (t .frame))
   -- for a program with no 9 or 8, pass one says 10 exactly when some word count in its code exceeds 16 (at which record: rules, OrderChecker, `pass-one`)
   pub words :
       Every (Sound (signatures program)) (enteredAll (firstNode program) (program .functions))

@@ -10,17 +10,17 @@
 -- `mostCalls` is 1,024. The source's result: `resultBytes v`, a tree's tokens, none for a number;
 -- `resultNumber v`, the number, 0 for a tree. `Opens vs s`: vs are opening bytes of s, none or all
 -- included. `writtenBy`: the output's first bytes, as many as the answer says are written;
--- `untouchedBy`: the bytes behind those.
+-- `untouchedBy`: the bytes after those.
 use Prim.Native.Nat.{ℕ, _+_, _*_, _≤_}
 use mathlib.Core.List.{List, _++_}
 use mathlib.Core.Logic.{_≢_}
 use mathlib.Core.Path.{_≡_}
 use lib.ListN.{length, take, drop}
-use Rattle.formats.specs.Places.{Opens}
+use Rattle.formats.specs.Buffers.{Opens}
 use Rattle.formats.specs.Results.{done}
 use Rattle.formats.specs.Tokens.{Tree, Labelled, tokens}
 use Rattle.formats.specs.Programs.{Program, Lawful}
-use Rattle.rules.specs.PassTwo.{order}
+use Rattle.rules.specs.PassTwo.{bothPasses}
 use Rattle.meaning.specs.Running.{Ran, valueWords, returnWords, mostCalls, streamRun}
 use Rattle.meaning.specs.StreamRun.{writtenBy, untouchedBy}
 use Rattle.meaning.specs.Evaluation.{Value, Ends, resultBytes, resultNumber}
@@ -29,7 +29,7 @@ use Rattle.translation.specs.Templates.{codeOf}
 -- "any checked program": one within the limits of "Program file" that both passes accept.
 pub record Checked (program : Program) : Type 0 where
   pub lawful : Lawful program
-  pub passes : order program ≡ done tt
+  pub passes : bothPasses program ≡ done tt
 
 -- A checked program, with what its runs are given besides input, output and fuel: a code buffer
 -- that begins with its code, and work space, that of 01, Work words, or more.
@@ -40,7 +40,7 @@ pub record Given : Type 0 where
   pub values : ℕ
   pub returns : ℕ
   pub words-lent : valueWords ≤ values
-  pub places-lent : returnWords ≤ returns
+  pub returns-lent : returnWords ≤ returns
 
 -- The stream run of its code.
 abbrev pub runOn : Given → (input output : List ℕ) (fuel : ℕ) → Ran

@@ -6,7 +6,7 @@ use mathlib.Core.Option.{some}
 use mathlib.Core.Path.{_≡_}
 use lib.ListN.{length}
 use Rattle.formats.specs.Numbers.{Bytes}
-use Rattle.formats.specs.Places.{Opens}
+use Rattle.formats.specs.Buffers.{Opens}
 use Rattle.formats.specs.Records.{nth}
 use Rattle.formats.specs.Refusals.{fuelUsedUp, outputFull, tooManyCalls, cannotPerform}
 use Rattle.formats.specs.Results.{done, refusal}
@@ -29,8 +29,8 @@ pub record WholeAfter (units : ℕ) (t : Tree) (v : Value) (output : List ℕ) (
 
 -- The units of an evaluation: the table's column "units", summed over the expressions begun. 01,
 -- Templates: "function 0's own return adds 1 unit".
-abbrev pub unitsOf : {program : Program} {t : Tree} {o n : ℕ} {v : Value} → Ends program t o n v → ℕ
-unitsOf ends = suc (unitsIn (ends .takes))
+abbrev pub evaluationUnits : {program : Program} {t : Tree} {o n : ℕ} {v : Value} → Ends program t o n v → ℕ
+evaluationUnits ends = suc (unitsIn (ends .takes))
 
 -- Enough fuel, and enough space, to come to a call too many.
 pub record Refused18 (t : Tree) (run : (input output : List ℕ) (fuel : ℕ) → Ran) : Type 0 where
@@ -74,27 +74,27 @@ pub record EveryRun (program : Program) (run : (input output : List ℕ) (fuel :
       (t : Tree) (n : ℕ) (v : Value) (ends : Ends program t mostCalls n v) (rest output : List ℕ) (fuel : ℕ)
       → Labelled t
       → length (resultBytes v) ≤ length output
-      → unitsOf ends ≤ fuel
-      → WholeAfter (unitsOf ends) t v output (run (tokens t ++ rest) output fuel)
+      → evaluationUnits ends ≤ fuel
+      → WholeAfter (evaluationUnits ends) t v output (run (tokens t ++ rest) output fuel)
   -- .. and every smaller fuel is used up.
   pub fewer-units :
       (t : Tree) (n : ℕ) (v : Value) (ends : Ends program t mostCalls n v) (rest output : List ℕ) (fuel : ℕ)
       → Labelled t
       → length (resultBytes v) ≤ length output
-      → fuel < unitsOf ends
+      → fuel < evaluationUnits ends
       → RefusedAfter fuel fuelUsedUp (run (tokens t ++ rest) output fuel)
   -- With less space than the result takes, given the fuel, the output is full before the run ends.
   pub less-space :
       (t : Tree) (n : ℕ) (v : Value) (ends : Ends program t mostCalls n v) (rest output : List ℕ) (fuel : ℕ)
       → Labelled t
       → length output < length (resultBytes v)
-      → unitsOf ends ≤ fuel
+      → evaluationUnits ends ≤ fuel
       → run (tokens t ++ rest) output fuel .answer .outcome ≡ refusal outputFull (run (tokens t ++ rest) output fuel .answer .bytesRead)
   -- Where more than 1,024 calls would open (the evaluation does not end within 1,024 open calls), enough fuel and space give 18.
   pub too-many-calls : (t : Tree) → Labelled t → ((n : ℕ) (v : Value) → Ends program t mostCalls n v → ⊥) → Refused18 t run
   -- 01, Instructions that cannot be performed: "19 never follows translated code." On any input,
   -- trees or not.
-  pub never-19 : (input output : List ℕ) (fuel place : ℕ) → Bytes input → run input output fuel .answer .outcome ≢ refusal cannotPerform place
+  pub never-19 : (input output : List ℕ) (fuel position : ℕ) → Bytes input → run input output fuel .answer .outcome ≢ refusal cannotPerform position
   -- A run ends on nothing else than a tree, and then it gives what the program means.
   pub ended-is-meant :
       (input output : List ℕ) (fuel : ℕ)

@@ -13,24 +13,24 @@ use Rattle.translation.specs.Templates.{codeOf}
 use Rattle.translation.specs.Calls.{checkedRecords, translateFile}
 
 -- 01, The listing: "prints, a line each, address, opcode, byte 1, operand, number".
-pub data Line : Type 0 where
-  line : (address opcode byte1 operand : ℕ) (number : ℤ) → Line
+pub data ListingLine : Type 0 where
+  listingLine : (address opcode byte1 operand : ℕ) (number : ℤ) → ListingLine
 
 -- 01, The listing: "after a heading with the count (a refused file gives one line: refused, number,
 -- position)".
 pub data Listing : Type 0 where
   -- the heading, "code" and the count, and the lines
-  listed : (count : ℕ) (lines : List Line) → Listing
+  listed : (count : ℕ) (lines : List ListingLine) → Listing
   -- the one line, "refused", the number and the position
-  refused : (number position : ℕ) → Listing
+  refusedListing : (number position : ℕ) → Listing
 
 -- The line of the instruction at address a. 01, Notation: "instruction numbers are two's
 -- complement".
-unfoldable pub lineOf : ℕ → Instruction → Line
-lineOf a (fields opcode byte1 operand number) = line a opcode byte1 operand (signed32 number)
+unfoldable pub lineOf : ℕ → Instruction → ListingLine
+lineOf a (fields opcode byte1 operand number) = listingLine a opcode byte1 operand (signed32 number)
 
 -- The lines of so many instructions, the first at address a.
-unfoldable pub linesFrom : List ℕ → ℕ → ℕ → List Line
+unfoldable pub linesFrom : List ℕ → ℕ → ℕ → List ListingLine
 linesFrom code zero a = []
 linesFrom code (suc n) a = lineOf a (recordAt code a) ∷ linesFrom code n (suc a)
 
@@ -41,9 +41,9 @@ instructionsIn code = length code / instructionBytes
 -- The listing of a code, or of a refusal.
 unfoldable pub listingOf : Result (List ℕ) → Listing
 listingOf (done code) = listed (instructionsIn code) (linesFrom code (instructionsIn code) 0)
-listingOf (refusal number position) = refused number position
+listingOf (refusal number position) = refusedListing number position
 
--- The listing of a program file, whatever its bytes. There is room for every program's code (`NeverShort` below), so 13 is never told.
+-- The listing of a program file, whatever its bytes. There is room for every program's code (`NeverShort` below), so 13 is never reported.
 unfoldable pub listing : List ℕ → Listing
 listing file = listingOf (translateFile (instructionBytes * mostInstructions) file)
 

@@ -4,7 +4,7 @@ use mathlib.Core.List.{List, [], _∷_, _++_}
 use lib.IntN.{ℤ, pos, negsuc}
 use Rattle.formats.specs.Characters.{newline, space, minus, ascii}
 use Rattle.formats.specs.Decimal.{decimal}
-use Rattle.translation.specs.Listing.{Line, line, Listing, listed, refused}
+use Rattle.translation.specs.Listing.{ListingLine, listingLine, Listing, listed, refusedListing}
 
 -- A number and the character after it.
 unfoldable pub field : ℕ → ℕ → List ℕ
@@ -16,11 +16,11 @@ signedField (pos n) = field n newline
 signedField (negsuc n) = minus ∷ field (suc n) newline
 
 -- 01, The listing: "prints, a line each, address, opcode, byte 1, operand, number".
-unfoldable pub lineText : Line → List ℕ
-lineText (line address opcode byte1 operand number) =
+unfoldable pub lineText : ListingLine → List ℕ
+lineText (listingLine address opcode byte1 operand number) =
     field address space ++ (field opcode space ++ (field byte1 space ++ (field operand space ++ signedField number)))
 
-unfoldable pub linesText : List Line → List ℕ
+unfoldable pub linesText : List ListingLine → List ℕ
 linesText [] = []
 linesText (l ∷ ls) = lineText l ++ linesText ls
 
@@ -35,4 +35,4 @@ refusedWord = ascii "refused "
 -- position)".
 unfoldable pub text : Listing → List ℕ
 text (listed count lines) = codeWord ++ (field count newline ++ linesText lines)
-text (refused number position) = refusedWord ++ (field number space ++ field position newline)
+text (refusedListing number position) = refusedWord ++ (field number space ++ field position newline)

@@ -11,22 +11,22 @@ use Rattle.meaning.specs.Instructions.{Operation, Push, Get, Add, Ifnot, Jump, 
 
 -- ---- addresses
 
--- The address behind the code of an expression that begins at a.
+-- The address after the code of an expression that begins at a.
 unfoldable mutual
-  pub behind : Expr → ℕ → ℕ
-  behind (const i) a = suc a
-  behind (var k) a = suc a
-  behind (add p q) a = suc (behind q (behind p a))
-  behind (ifZero t z o) a = behind o (suc (behind z (suc (behind t a))))
-  behind (letIn p body) a = suc (behind body (behind p a))
-  behind (leafOf p) a = suc (behind p (suc a))
-  behind (nodeOf p q) a = behind q (behind p (suc a))
-  behind (caseOf k p q) a = behind q (suc (suc (behind p (suc (suc a)))))
-  behind (call k b xs) a = suc (behindArgs xs a)
+  pub codeEnd : Expr → ℕ → ℕ
+  codeEnd (const i) a = suc a
+  codeEnd (var k) a = suc a
+  codeEnd (add p q) a = suc (codeEnd q (codeEnd p a))
+  codeEnd (ifZero t z o) a = codeEnd o (suc (codeEnd z (suc (codeEnd t a))))
+  codeEnd (letIn p body) a = suc (codeEnd body (codeEnd p a))
+  codeEnd (leafOf p) a = suc (codeEnd p (suc a))
+  codeEnd (nodeOf p q) a = codeEnd q (codeEnd p (suc a))
+  codeEnd (caseOf k p q) a = codeEnd q (suc (suc (codeEnd p (suc (suc a)))))
+  codeEnd (call k b xs) a = suc (argsEnd xs a)
 
-  pub behindArgs : Args → ℕ → ℕ
-  behindArgs noArgs a = a
-  behindArgs (arg x xs) a = behindArgs xs (behind x a)
+  pub argsEnd : Args → ℕ → ℕ
+  argsEnd noArgs a = a
+  argsEnd (arg x xs) a = argsEnd xs (codeEnd x a)
 
 -- ---- words
 
@@ -67,26 +67,26 @@ unfoldable mutual
   code entries s words w a (var k) = Get (wordOf words k) ∷ []
   -- "p, q, add"
   code entries s words w a (add p q) =
-      code entries numberValued words w a p ++ (code entries numberValued words (suc w) (behind p a) q ++ (Add ∷ []))
+      code entries numberValued words w a p ++ (code entries numberValued words (suc w) (codeEnd p a) q ++ (Add ∷ []))
   -- "t, ifnot L, z, jump M, L: o, M:"
   code entries s words w a (ifZero t z o) =
-      let atZ = suc (behind t a) in
-      let L = suc (behind z atZ) in
-      let M = behind o L in
+      let atZ = suc (codeEnd t a) in
+      let L = suc (codeEnd z atZ) in
+      let M = codeEnd o L in
       code entries numberValued words w a t ++ (Ifnot L ∷ (code entries s words w atZ z ++ (Jump M ∷ code entries s words w L o)))
   -- "p, body, end"
   code entries s words w a (letIn p body) =
-      code entries numberValued words w a p ++ (code entries s (w ∷ words) (suc w) (behind p a) body ++ (endOf s ∷ []))
+      code entries numberValued words w a p ++ (code entries s (w ∷ words) (suc w) (codeEnd p a) body ++ (endOf s ∷ []))
   -- "leaf tag, p, write number"
   code entries s words w a (leafOf p) = LeafTag ∷ (code entries numberValued words w (suc a) p ++ (WriteNumber ∷ []))
   -- "node tag, p, q"
   code entries s words w a (nodeOf p q) =
-      NodeTag ∷ (code entries treeValued words w (suc a) p ++ code entries treeValued words w (behind p (suc a)) q)
+      NodeTag ∷ (code entries treeValued words w (suc a) p ++ code entries treeValued words w (codeEnd p (suc a)) q)
   -- "read tag L, read number, p, end, jump M, L: q, M:"
   code entries s words w a (caseOf k p q) =
       let atP = suc (suc a) in
-      let L = suc (suc (behind p atP)) in
-      let M = behind q L in
+      let L = suc (suc (codeEnd p atP)) in
+      let M = codeEnd q L in
       ReadTag L ∷ (ReadNumber ∷ (code entries s (w ∷ words) (suc w) atP p ++ (endOf s ∷ (Jump M ∷ code entries s words w L q))))
   -- "arguments, call"
   code entries s words w a (call k b xs) = codeArgs entries words w a xs ++ (Call (entries b) (countArgs xs) ∷ [])
@@ -94,7 +94,7 @@ unfoldable mutual
   -- The arguments of a Call, one after the other.
   pub codeArgs : (entries : ℕ → ℕ) (words : Words) (w a : ℕ) → Args → List Operation
   codeArgs entries words w a noArgs = []
-  codeArgs entries words w a (arg x xs) = code entries numberValued words w a x ++ codeArgs entries words (suc w) (behind x a) xs
+  codeArgs entries words w a (arg x xs) = code entries numberValued words w a x ++ codeArgs entries words (suc w) (codeEnd x a) xs
 
 -- ---- functions
 
@@ -108,22 +108,22 @@ unfoldable pub functionCode : (entries : ℕ → ℕ) → ℕ → Function → L
 functionCode entries a f =
     code entries (f .sort) (firstWords (f .parameters)) (f .parameters) a (f .body) ++ (Return (wordsKept (f .sort)) ∷ [])
 
--- The address behind a function that begins at a.
-unfoldable pub behindFunction : Function → ℕ → ℕ
-behindFunction f a = suc (behind (f .body) a)
+-- The address after a function that begins at a.
+unfoldable pub functionEnd : Function → ℕ → ℕ
+functionEnd f a = suc (codeEnd (f .body) a)
 
 -- 01, Addresses and entries: "Functions follow in order; each one's instructions go into the part
 -- of the code buffer that begins at its entry." Where function b begins, if the first of these
--- begins at a; behind the last where there is no function b.
+-- begins at a; after the last where there is no function b.
 unfoldable pub entryFrom : ℕ → List Function → ℕ → ℕ
 entryFrom a fs zero = a
 entryFrom a [] (suc b) = a
-entryFrom a (f ∷ fs) (suc b) = entryFrom (behindFunction f a) fs b
+entryFrom a (f ∷ fs) (suc b) = entryFrom (functionEnd f a) fs b
 
 -- Their code, if the first begins at a.
 unfoldable pub functionsCode : (entries : ℕ → ℕ) → ℕ → List Function → List Operation
 functionsCode entries a [] = []
-functionsCode entries a (f ∷ fs) = functionCode entries a f ++ functionsCode entries (behindFunction f a) fs
+functionsCode entries a (f ∷ fs) = functionCode entries a f ++ functionsCode entries (functionEnd f a) fs
 
 -- ---- programs
 

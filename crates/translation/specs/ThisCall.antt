@@ -9,7 +9,7 @@ use mathlib.Core.Option.{some}
 use mathlib.Core.Path.{_≡_}
 use lib.ListN.{length, take, drop}
 use Rattle.formats.specs.Numbers.{Bytes}
-use Rattle.formats.specs.Places.{Opens}
+use Rattle.formats.specs.Buffers.{Opens}
 use Rattle.formats.specs.Records.{nth}
 use Rattle.formats.specs.Refusals.{cannotPerform}
 use Rattle.formats.specs.Results.{done, refusal}
@@ -20,15 +20,15 @@ use Rattle.meaning.specs.Running.{Answer, Ran, valueWords, returnWords, mostCal
 use Rattle.meaning.specs.Evaluation.{Value, Ends, resultBytes}
 use Rattle.translation.specs.Demand3.{Checked, Whole}
 use Rattle.translation.specs.EveryRun.{Meant, OneForOne}
-use Rattle.translation.specs.Calls.{Called, runFile, Ready}
+use Rattle.translation.specs.Calls.{ProgramRan, runFile, Ready}
 
 -- Answer and output at exit, as what a run gives.
 abbrev pub ranWith : Answer → List ℕ → Ran
 ranWith answer after = record { answer = answer; output = after }
 
 -- "When any checked program is run over the stream on any tree's tokens, with anything after them, any fuel and any output length:" a call on the
--- tokens of t and the rest behind them. `alone` is what the definition gives on the tokens of t alone.
-pub record ThisCall (program : Program) (t : Tree) (rest before : List ℕ) (fuel : ℕ) (alone : Called) (answer : Answer) (after : List ℕ) : Type 0 where
+-- tokens of t and the rest after them. `alone` is what the definition gives on the tokens of t alone.
+pub record ThisCall (program : Program) (t : Tree) (rest before : List ℕ) (fuel : ℕ) (alone : ProgramRan) (answer : Answer) (after : List ℕ) : Type 0 where
   -- "the bytes read are opening bytes of that tree, none or all included;"
   pub read-opening : Opens (take (answer .bytesRead) (tokens t ++ rest)) (tokens t)
   pub read-no-more : answer .bytesRead ≤ length (tokens t)
@@ -54,7 +54,7 @@ pub record ThisCall (program : Program) (t : Tree) (rest before : List ℕ) (fue
 -- A call on any input, trees or not (the statements of EveryRun).
 pub record AnyCall (program : Program) (input before : List ℕ) (answer : Answer) (after : List ℕ) : Type 0 where
   -- 01, Instructions that cannot be performed: "19 never follows translated code."
-  pub never-19 : (place : ℕ) → answer .outcome ≢ refusal cannotPerform place
+  pub never-19 : (position : ℕ) → answer .outcome ≢ refusal cannotPerform position
   -- It ends on nothing else than a tree, and then it gives what the program means.
   pub ended-is-meant : answer .outcome ≡ done tt → Meant program input before (ranWith answer after)
   -- Where function 0 gives a tree: one whole tree read for one whole tree written.

@@ -1,4 +1,4 @@
--- A law for each way out of the tree reader's functions, by what the one number tells.
+-- A law for each way out of the tree reader's functions, by what the one number reports.
 use Prim.Native.Nat.{ℕ, _-_, _≤_, _<_}
 use mathlib.Core.List.{List, []}
 use mathlib.Core.Path.{_≡_, sym, _∙_}
@@ -7,25 +7,25 @@ use Rattle.formats.specs.Numbers.{Bytes}
 use Rattle.formats.specs.Results.{done}
 use Rattle.formats.specs.Tokens.{firstEnd, firstTree, ownBytes}
 use Rattle.formats.proofs.Endings.{own-ends, own-stops}
-use Rattle.tree.specs.Told.{refusalAt, allOnes, toldBy}
-use Rattle.tree.proofs.Told.{refused-past, refused-label, refused-node, refused-other, refusal-stops, told-end, told-stop}
-use Rattle.tree.specs.Answer.{answered}
+use Rattle.tree.specs.Inner.EndNumbers.{refusalAt, allOnes, endReported}
+use Rattle.tree.proofs.Told.{refused-past, refused-label, refused-node, refused-other, refusal-stops, reported-end, reported-stop}
+use Rattle.tree.specs.Inner.TreeResults.{treeResult}
 use Rattle.tree.specs.declared.TreeAnswer.{TreeAnswer}
 
-module _ (s : List ℕ) (r : ℕ) (told : toldBy s r ≡ firstEnd s) where
+module _ (s : List ℕ) (r : ℕ) (reported : endReported s r ≡ firstEnd s) where
   pub first-ends : r ≤ length s → done r ≡ firstEnd s
-  first-ends h = sym (told-end s r h) ∙ told
+  first-ends h = sym (reported-end s r h) ∙ reported
 
   first-stops : length s < r → refusalAt s (allOnes - r) ≡ firstEnd s
-  first-stops h = sym (told-stop s r h) ∙ told
+  first-stops h = sym (reported-stop s r h) ∙ reported
 
-  pub answer-stops : (answer : TreeAnswer) → length s < r → answered answer ≡ refusalAt s (allOnes - r) → answered answer ≡ firstEnd s
+  pub answer-stops : (answer : TreeAnswer) → length s < r → treeResult answer ≡ refusalAt s (allOnes - r) → treeResult answer ≡ firstEnd s
   answer-stops answer h is = is ∙ first-stops h
 
   pub own-found : Bytes s → r ≤ length s → take r s ≡ ownBytes (firstTree s)
   own-found bs h = own-ends s r bs (first-ends h)
 
   pub own-none : length s < r → [] ≡ ownBytes (firstTree s)
-  own-none h = let f = refusal-stops s (allOnes - r) in own-stops s (f .number) (f .place) (sym (f .is) ∙ first-stops h)
+  own-none h = let f = refusal-stops s (allOnes - r) in own-stops s (f .number) (f .position) (sym (f .is) ∙ first-stops h)
 
-pub ruleset first-told = (first-ends, answer-stops, own-found, own-none, refused-past, refused-label, refused-node, refused-other)
+pub ruleset first-reported = (first-ends, answer-stops, own-found, own-none, refused-past, refused-label, refused-node, refused-other)

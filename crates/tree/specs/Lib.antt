@@ -1,3 +1,2 @@
 -- What the tree reader's functions answer.
-pub mod Answer
-pub mod Told
+pub mod Inner

@@ -1,10 +1,10 @@
 // 01, The tree reader: the first tree of a buffer as a part of it, and beside it the refusal with
-// its place.
+// its position.
 use refusal::Refusal;
 ghost use mathlib.Core.Path.{_≡_};
 ghost use Rattle.formats.specs.Tokens.{endAt, firstEnd, firstTree, ownBytes};
-ghost use Rattle.tree.specs.Answer.{answered};
-ghost use Rattle.tree.specs.Told.{Placed, refusalAt, toldBy};
+ghost use Rattle.tree.specs.Inner.TreeResults.{treeResult};
+ghost use Rattle.tree.specs.Inner.EndNumbers.{InBuffer, refusalAt, endReported};
 
 const LEAF_TAG: u8 = 1;
 
@@ -16,22 +16,22 @@ const LEAF_BYTES: usize = 5;
 // The most nodes above a leaf.
 const MOST_DEPTH: usize = 1024;
 
-// What the tree reader finds. `answered` gives each case the document's number and values.
+// What the tree reader finds. `treeResult` gives each case the document's number and values.
 pub enum TreeAnswer {
     // A tree, and where it ends.
     Tree(usize),
-    // Why there is none, and the place.
+    // Why there is none, and the position.
     Refused(Refusal, usize),
 }
 
 // Where the tree ends that begins at `at`, with room for at most `room` nodes above its leaves: a node's left tree first, then
 // its right tree, which begins where the left one ends. The bytes left fall at each call, and the calls nest no deeper than the room.
 //
-// The answer is one number (`toldBy` says how), and the slice comes by a reference to it, so that all passes in
+// The answer is one number (`endReported` says how), and the slice comes by a reference to it, so that all passes in
 // registers: with an enum for the answer and the slice itself the reader takes 1.6 to 2.2 times as long.
 fn tree_end(input: &&[u8], at: usize, room: usize) -> usize
-    requires { ⌜ Placed (now (now input)) at ⌝ }
-    ensures { λ r. ⌜ toldBy (now (now (input .entry))) r ≡ endAt room (now (now (input .entry))) at ⌝ }
+    requires { ⌜ InBuffer (now (now input)) at ⌝ }
+    ensures { λ r. ⌜ endReported (now (now (input .entry))) r ≡ endAt room (now (now (input .entry))) at ⌝ }
 {
     if input.len() <= at {
         return usize::MAX - at;
@@ -57,16 +57,16 @@ fn tree_end(input: &&[u8], at: usize, room: usize) -> usize
     tree_end(input, end, room - 1)
 }
 
-// Where the first tree ends, or where it is refused (`toldBy` says how).
+// Where the first tree ends, or where it is refused (`endReported` says how).
 fn first_end(input: &[u8]) -> usize
-    ensures { λ r. ⌜ toldBy (now (input .entry)) r ≡ firstEnd (now (input .entry)) ⌝ }
+    ensures { λ r. ⌜ endReported (now (input .entry)) r ≡ firstEnd (now (input .entry)) ⌝ }
 {
     tree_end(&input, 0, MOST_DEPTH)
 }
 
 // The refusal that arises where the tag at `at` is due.
 fn refusal_at(input: &[u8], at: usize) -> TreeAnswer
-    ensures { λ r. ⌜ answered r ≡ refusalAt (now (input .entry)) at ⌝ }
+    ensures { λ r. ⌜ treeResult r ≡ refusalAt (now (input .entry)) at ⌝ }
 {
     if input.len() <= at {
         return TreeAnswer::Refused(Refusal::InputEnded, at);
@@ -81,9 +81,9 @@ fn refusal_at(input: &[u8], at: usize) -> TreeAnswer
     TreeAnswer::Refused(Refusal::NotATag, at)
 }
 
-// The first tree's length in bytes, or why there is none and the place.
+// The first tree's length in bytes, or why there is none and the position.
 pub fn tree_answer(input: &[u8]) -> TreeAnswer
-    ensures { λ r. ⌜ answered r ≡ firstEnd (now (input .entry)) ⌝ }
+    ensures { λ r. ⌜ treeResult r ≡ firstEnd (now (input .entry)) ⌝ }
 {
     let end = first_end(input);
     if end <= input.len() {

@@ -11,26 +11,26 @@ use lib.ListN.{length}
 use Rattle.formats.specs.Refusals.{fuelUsedUp, tooManyCalls}
 use Rattle.formats.specs.Written.{written}
 use Rattle.formats.proofs.Written.{written-none}
-use Rattle.meaning.specs.OpenCalls.{Outcome, gives, stops, begins, after, within}
-use Rattle.stepwise.specs.Steps.{State, begin, ended, deep, stuck}
-use Rattle.stepwise.specs.Comes.{Told, told, Comes, at-begin, at-end, at-deep}
+use Rattle.meaning.specs.OpenCalls.{Outcome, gives, stops, begins, afterBegun, withFuel}
+use Rattle.stepwise.specs.Inner.Steps.{State, begin, ended, deep, stuck}
+use Rattle.stepwise.specs.Inner.Outcomes.{Reported, reported, Comes, at-begin, at-end, at-deep}
 use Rattle.stages.specs.declared.Stage.{Stage}
-use Rattle.stages.specs.Stages.{toBegin, isThrough, toOpen, hasEnded, tooManyOpen, turnOf}
+use Rattle.stages.specs.Inner.Stages.{toBegin, isFinished, toOpen, hasEnded, tooManyOpen, turnOf}
 use Rattle.stages.proofs.Stages.{turn-begin, turn-ended, turn-deep, turn-none}
 use Rattle.source_walk.specs.declared.Walked.{Walked}
-use Rattle.source_walk.specs.Loop.{Run, run, turned, finished, Ending, ending, walking, firstStage, Walks}
-use Rattle.walk_outcome.specs.Tells.{Counts, Tells, tells-value, tells-stop}
+use Rattle.source_walk.specs.Inner.Loop.{Run, run, turned, finished, Ending, ending, walking, firstStage, Walks}
+use Rattle.walk_outcome.specs.Inner.Outcomes.{Counts, Reports, reports-value, reports-stop}
 use Rattle.walk_outcome.proofs.Holding.{Holding, turn-holds, turn-settles}
 
 -- ---- fuel
 
-within-gives : {A : Type 0} (fuel : ℕ) (x : A) → within fuel (gives x) ≡ gives x
-unfolding within
+within-gives : {A : Type 0} (fuel : ℕ) (x : A) → withFuel fuel (gives x) ≡ gives x
+unfolding withFuel
 within-gives zero x = refl
 within-gives (suc fuel) x = refl
 
-within-stops : {A : Type 0} (fuel why r : ℕ) → within {A = A} fuel (stops why r) ≡ stops why r
-unfolding within
+within-stops : {A : Type 0} (fuel why r : ℕ) → withFuel {A = A} fuel (stops why r) ≡ stops why r
+unfolding withFuel
 within-stops zero why r = refl
 within-stops (suc fuel) why r = refl
 
@@ -38,53 +38,53 @@ within-stops (suc fuel) why r = refl
 
 module _ (T input : List ℕ) where
   -- an ended run gives its number and what is written
-  comes-ended : {out : List ℕ} {x : ℕ} {o : Outcome Told} → Comes T input out (ended x) o → o ≡ gives (told x out)
+  comes-ended : {out : List ℕ} {x : ℕ} {o : Outcome Reported} → Comes T input out (ended x) o → o ≡ gives (reported x out)
   comes-ended at-end = refl
 
-  comes-deep : {out : List ℕ} {r : ℕ} {o : Outcome Told} → Comes T input out (deep r) o → o ≡ stops tooManyCalls r
+  comes-deep : {out : List ℕ} {r : ℕ} {o : Outcome Reported} → Comes T input out (deep r) o → o ≡ stops tooManyCalls r
   comes-deep at-deep = refl
 
-  comes-stuck : {out : List ℕ} {o : Outcome Told} {A : Type 0} → Comes T input out stuck o → A
+  comes-stuck : {out : List ℕ} {o : Outcome Reported} {A : Type 0} → Comes T input out stuck o → A
   comes-stuck c = elim c [ ]
 
   -- an expression that is to begin does
-  record IsBegun (o : Outcome Told) : Type 0 where
-    rest : Outcome Told
+  record IsBegun (o : Outcome Reported) : Type 0 where
+    rest : Outcome Reported
     is : o ≡ begins rest
 
-  comes-begins : {out : List ℕ} {r : ℕ} {st : State} {o : Outcome Told} → Comes T input out (begin r st) o → IsBegun o
+  comes-begins : {out : List ℕ} {r : ℕ} {st : State} {o : Outcome Reported} → Comes T input out (begin r st) o → IsBegun o
   comes-begins (at-begin {o = o} p few found c) = record { rest = o; is = refl }
 
   -- a settled turn that is no beginning has ended, or is a call too many
-  data Settled (values places out : List ℕ) (s : Stage) (o : Outcome Told) : Type 0 where
-    settled-end : s .mode ≡ hasEnded → o ≡ gives (told (s .number) out) → Settled values places out s o
-    settled-deep : s .mode ≢ hasEnded → o ≡ stops tooManyCalls (s .node) → Settled values places out s o
+  data Settled (values returns out : List ℕ) (s : Stage) (o : Outcome Reported) : Type 0 where
+    settled-end : s .mode ≡ hasEnded → o ≡ gives (reported (s .number) out) → Settled values returns out s o
+    settled-deep : s .mode ≢ hasEnded → o ≡ stops tooManyCalls (s .node) → Settled values returns out s o
 
-  settled : (values places out : List ℕ) (s : Stage) (o : Outcome Told) → s .mode ≢ toBegin → s .mode ≢ isThrough → s .mode ≢ toOpen
-      → Comes T input out (turnOf values places s) o
-      → Settled values places out s o
-  settled values places out s o a b c come = by (eqb (s .mode) hasEnded) (eqb (s .mode) tooManyOpen) refl refl
+  settled : (values returns out : List ℕ) (s : Stage) (o : Outcome Reported) → s .mode ≢ toBegin → s .mode ≢ isFinished → s .mode ≢ toOpen
+      → Comes T input out (turnOf values returns s) o
+      → Settled values returns out s o
+  settled values returns out s o a b c come = by (eqb (s .mode) hasEnded) (eqb (s .mode) tooManyOpen) refl refl
     where
-      by : (e d : Bool) → eqb (s .mode) hasEnded ≡ e → eqb (s .mode) tooManyOpen ≡ d → Settled values places out s o
+      by : (e d : Bool) → eqb (s .mode) hasEnded ≡ e → eqb (s .mode) tooManyOpen ≡ d → Settled values returns out s o
       by true d is deep-is =
           let mode = eqb-true (s .mode) hasEnded is in
-          settled-end mode (comes-ended (rw (turn-ended values places s mode) at come))
+          settled-end mode (comes-ended (rw (turn-ended values returns s mode) at come))
       by false true is deep-is =
           let mode = eqb-true (s .mode) tooManyOpen deep-is in
-          settled-deep (eqb-false (s .mode) hasEnded is) (comes-deep (rw (turn-deep values places s mode) at come))
+          settled-deep (eqb-false (s .mode) hasEnded is) (comes-deep (rw (turn-deep values returns s mode) at come))
       by false false is deep-is =
-          let none : turnOf values places s ≡ stuck =
-          turn-none values places s a b c (eqb-false (s .mode) hasEnded is) (eqb-false (s .mode) tooManyOpen deep-is) in
+          let none : turnOf values returns s ≡ stuck =
+          turn-none values returns s a b c (eqb-false (s .mode) hasEnded is) (eqb-false (s .mode) tooManyOpen deep-is) in
           comes-stuck (rw none at come)
 
 -- ---- the walk
 
 -- What the outcome is reported as, where so many expressions have begun before.
-data From (begun : ℕ) (o : Outcome Told) (output₀ : List ℕ) (e : Ending) : Type 0 where
+data From (begun : ℕ) (o : Outcome Reported) (output₀ : List ℕ) (e : Ending) : Type 0 where
   from-value :
       (k : ℕ) (out : List ℕ)
       → e .answer .begun ≡ begun + k
-      → o ≡ after k (gives (told (e .answer .number) out))
+      → o ≡ afterBegun k (gives (reported (e .answer .number) out))
       → e .answer .stop ≡ 0
       → Counts (e .answer .written) out
       → (length out ≤ length output₀ → e .last .output ≡ written output₀ 0 out)
@@ -92,52 +92,52 @@ data From (begun : ℕ) (o : Outcome Told) (output₀ : List ℕ) (e : Ending) :
   from-stop :
       (k at : ℕ)
       → e .answer .begun ≡ begun + k
-      → o ≡ after k (stops (e .answer .stop) at)
+      → o ≡ afterBegun k (stops (e .answer .stop) at)
       → (e .answer .stop ≡ fuelUsedUp) ⊎ (e .answer .stop ≡ tooManyCalls)
       → From begun o output₀ e
 
 module _ (T input output₀ : List ℕ) where
   -- one expression more
-  one-more : (begun : ℕ) (o : Outcome Told) (e : Ending) → From (suc begun) o output₀ e → From begun (begins o) output₀ e
-  unfolding after
+  one-more : (begun : ℕ) (o : Outcome Reported) (e : Ending) → From (suc begun) o output₀ e → From begun (begins o) output₀ e
+  unfolding afterBegun
   one-more begun o e (from-value k out count is stop counts wrote) = from-value (suc k) out (omega arith) (ap begins is) stop counts wrote
   one-more begun o e (from-stop k at count is which) = from-stop (suc k) at (omega arith) (ap begins is) which
 
   -- a turn after which no expression begins
-  stops-there : (fuel begun : ℕ) (q : Run) (rest : Outcome Told) → Holding T input output₀ q rest → q .stage .mode ≢ toBegin
-      → (q .stage .mode ≢ isThrough) × (q .stage .mode ≢ toOpen)
-      → From (suc begun) (within fuel rest) output₀ (ending (finished (q .stage) (suc begun)) q)
-  unfolding after finished
+  stops-there : (fuel begun : ℕ) (q : Run) (rest : Outcome Reported) → Holding T input output₀ q rest → q .stage .mode ≢ toBegin
+      → (q .stage .mode ≢ isFinished) × (q .stage .mode ≢ toOpen)
+      → From (suc begun) (withFuel fuel rest) output₀ (ending (finished (q .stage) (suc begun)) q)
+  unfolding afterBegun finished
   stops-there fuel begun q rest h other settles =
-      by (settled T input (q .values) (q .places) (h .out) (q .stage) rest other (settles .0) (settles .1) (h .comes))
+      by (settled T input (q .values) (q .returns) (h .out) (q .stage) rest other (settles .0) (settles .1) (h .comes))
     where
-      by : Settled T input (q .values) (q .places) (h .out) (q .stage) rest → From (suc begun) (within fuel rest) output₀ (ending (finished (q .stage) (suc begun)) q)
+      by : Settled T input (q .values) (q .returns) (h .out) (q .stage) rest → From (suc begun) (withFuel fuel rest) output₀ (ending (finished (q .stage) (suc begun)) q)
       by (settled-end mode is) =
           rw (finished, eq-eqb _ _ mode)
-          (from-value 0 (h .out) (omega arith) (ap (within fuel) is ∙ within-gives fuel _) refl (h .counts) (h .wrote))
+          (from-value 0 (h .out) (omega arith) (ap (withFuel fuel) is ∙ within-gives fuel _) refl (h .counts) (h .wrote))
       by (settled-deep mode is) =
           rw (finished, ne-eqb _ _ mode)
-          (from-stop 0 (q .stage .node) (omega arith) (ap (within fuel) is ∙ within-stops fuel tooManyCalls (q .stage .node)) (inr refl))
+          (from-stop 0 (q .stage .node) (omega arith) (ap (withFuel fuel) is ∙ within-stops fuel tooManyCalls (q .stage .node)) (inr refl))
 
-  from : (fuel begun : ℕ) (p : Run) (o : Outcome Told) → p .stage .mode ≡ toBegin → Holding T input output₀ p o
-      → From begun (within fuel o) output₀ (walking T input fuel begun p)
-  unfolding walking within after
+  from : (fuel begun : ℕ) (p : Run) (o : Outcome Reported) → p .stage .mode ≡ toBegin → Holding T input output₀ p o
+      → From begun (withFuel fuel o) output₀ (walking T input fuel begun p)
+  unfolding walking withFuel afterBegun
   from zero begun p o mode h =
-      let b = comes-begins T input (rw (turn-begin (p .values) (p .places) (p .stage) mode) at (h .comes)) in
+      let b = comes-begins T input (rw (turn-begin (p .values) (p .returns) (p .stage) mode) at (h .comes)) in
       rw (b .is) (from-stop 0 0 (omega arith) (none-yet (b .rest)) (inl refl))
     where
-      none-yet : (rest : Outcome Told) → within 0 (begins rest) ≡ after 0 (stops fuelUsedUp 0)
+      none-yet : (rest : Outcome Reported) → withFuel 0 (begins rest) ≡ afterBegun 0 (stops fuelUsedUp 0)
       none-yet rest = refl
   from (suc fuel) begun p o mode h =
       let b = turn-holds T input output₀ p o mode h in
       rw (b .begun)
-      (one-more begun (within fuel (b .rest)) (walking T input (suc fuel) begun p)
+      (one-more begun (withFuel fuel (b .rest)) (walking T input (suc fuel) begun p)
       (by fuel begun p (b .rest) (b .holds) (eqb (turned T input p .stage .mode) toBegin) refl (λ going. from fuel (suc begun) (turned T input p) (b .rest) going (b .holds))))
     where
-      by : (fuel begun : ℕ) (p : Run) (rest : Outcome Told) → Holding T input output₀ (turned T input p) rest
+      by : (fuel begun : ℕ) (p : Run) (rest : Outcome Reported) → Holding T input output₀ (turned T input p) rest
           → (c : Bool) → eqb (turned T input p .stage .mode) toBegin ≡ c
-          → (turned T input p .stage .mode ≡ toBegin → From (suc begun) (within fuel rest) output₀ (walking T input fuel (suc begun) (turned T input p)))
-          → From (suc begun) (within fuel rest) output₀
+          → (turned T input p .stage .mode ≡ toBegin → From (suc begun) (withFuel fuel rest) output₀ (walking T input fuel (suc begun) (turned T input p)))
+          → From (suc begun) (withFuel fuel rest) output₀
           (elim c [
             | true ↦ walking T input fuel (suc begun) (turned T input p)
             | false ↦ ending (finished (turned T input p .stage) (suc begun)) (turned T input p)
@@ -146,28 +146,28 @@ module _ (T input output₀ : List ℕ) where
       by fuel begun p rest holds false e next = stops-there fuel begun (turned T input p) rest holds (eqb-false _ _ e) (turn-settles T input p)
 
 -- an ending's answer and output
-ends-so : (o : Outcome Told) (output : List ℕ) (e : Ending) → From 0 o output e → Tells o output (e .last .output) (e .answer)
+ends-so : (o : Outcome Reported) (output : List ℕ) (e : Ending) → From 0 o output e → Reports o output (e .last .output) (e .answer)
 ends-so o output e (from-value k out count is stop counts wrote) =
     let same : k ≡ e .answer .begun = omega arith in
-    tells-value out (is ∙ ap (λ n. after n (gives (told (e .answer .number) out))) same) stop counts wrote
+    reports-value out (is ∙ ap (λ n. afterBegun n (gives (reported (e .answer .number) out))) same) stop counts wrote
 ends-so o output e (from-stop k at count is which) =
     let same : k ≡ e .answer .begun = omega arith in
-    tells-stop at (is ∙ ap (λ n. after n (stops (e .answer .stop) at)) same) which
+    reports-stop at (is ∙ ap (λ n. afterBegun n (stops (e .answer .stop) at)) same) which
 
-pub walk-tells :
-    (T input : List ℕ) (first fuel : ℕ) (output output′ values values′ places places′ : List ℕ) (r : Walked)
-    → Walks T input first fuel output output′ values values′ places places′ r
-    → (o : Outcome Told)
-    → Comes T input [] (begin first (record { words = values; places = places; calls = 0; tree = 0; known = 0; end = 0 })) o
-    → Tells (within fuel o) output output′ r
-walk-tells T input first fuel output output′ values values′ places places′ r w o c =
-    let p = run output values places (firstStage first) in
+pub walk-reports :
+    (T input : List ℕ) (first fuel : ℕ) (output output′ values values′ returns returns′ : List ℕ) (r : Walked)
+    → Walks T input first fuel output output′ values values′ returns returns′ r
+    → (o : Outcome Reported)
+    → Comes T input [] (begin first (record { words = values; returns = returns; calls = 0; tree = 0; known = 0; end = 0 })) o
+    → Reports (withFuel fuel o) output output′ r
+walk-reports T input first fuel output output′ values values′ returns returns′ r w o c =
+    let p = run output values returns (firstStage first) in
     rw (w .answer, w .output-is)
-    (ends-so (within fuel o) output (walking T input fuel 0 p)
+    (ends-so (withFuel fuel o) output (walking T input fuel 0 p)
     (from T input output fuel 0 p o refl
     (record {
       out = [];
-      comes = rw (turn-begin values places (firstStage first) refl) c;
+      comes = rw (turn-begin values returns (firstStage first) refl) c;
       counts = record { few = λ h. refl; many = λ h. absurd (omega arith) };
       wrote = λ h. sym (written-none output 0);
       long = refl;

@@ -1,2 +1,2 @@
--- What an evaluation's outcome is told as.
-pub mod Tells
+-- What an evaluation's outcome is reported as.
+pub mod Inner

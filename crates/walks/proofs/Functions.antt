@@ -12,8 +12,8 @@ use Rattle.formats.specs.Records.{recordAt}
 use Rattle.formats.specs.Programs.{size, total, Function, signatureOf, Program, signatures}
 use Rattle.formats.specs.Rows.{headerIn, functionIn, readProgram}
 use Rattle.rules.specs.OrderChecker.{firstNode}
-use Rattle.walks.specs.Limits.{parametersOfAny}
-use Rattle.walks.specs.Standing.{Known, Holds, Bodies, no-more, one-more}
+use Rattle.walks.specs.Inner.Limits.{parametersOfAny}
+use Rattle.walks.specs.Inner.Standing.{Known, Holds, Bodies, no-more, one-more}
 use Rattle.walks.proofs.Walks.{program-held}
 
 module _ (s : List ℕ) (functions last : ℕ) (whole : Program → Result (Unit {0})) (row : Program → ℕ → List Function → Result (Unit {0})) where
@@ -33,17 +33,17 @@ module _ (s : List ℕ) (functions last : ℕ) (whole : Program → Result (Unit
   unfolding headerIn recordAt
   all-left nodes bytes ef en el whole-row program e =
       let h = program-held s program bytes e in
-      let place : suc (length (program .functions)) ≡ 1 + functions = omega (arith, h .functions) in
+      let position : suc (length (program .functions)) ≡ 1 + functions = omega (arith, h .functions) in
       record {
         others = program .functions;
         known = h .known;
-        held = rw place at (h .held);
+        held = rw position at (h .held);
         many = omega (arith, h .functions);
         ends = omega (arith, h .nodes);
-        left = whole-row program ∙ ap (λ k. row program k (program .functions)) place;
+        left = whole-row program ∙ ap (λ k. row program k (program .functions)) position;
       }
 
-  -- function j, its body at record k, and those behind it
+  -- function j, its body at record k, and those after it
   pub record Turn (program : Program) (k j : ℕ) : Type 0 where
     pub here : Function
     pub others : List Function
@@ -62,7 +62,7 @@ module _ (s : List ℕ) (functions last : ℕ) (whole : Program → Result (Unit
       by : (fs : List Function) → Bodies s (signatures program) j k fs → j + length fs ≡ functions → k + total (map signatureOf fs) ≡ last
           → whole program ≡ row program k fs → Turn program k j
       by [] no-more many ends left = absurd (omega arith)
-      by (f ∷ fs) (one-more signed few holds behind) many ends left = record {
+      by (f ∷ fs) (one-more signed few holds after) many ends left = record {
         here = f;
         others = fs;
         known = l .known;
@@ -71,7 +71,7 @@ module _ (s : List ℕ) (functions last : ℕ) (whole : Program → Result (Unit
         holds = holds;
         fits = omega arith;
         left = left;
-        later = λ e. record { others = fs; known = l .known; held = rw add-one behind; many = omega arith; ends = omega arith; left = e };
+        later = λ e. record { others = fs; known = l .known; held = rw add-one after; many = omega arith; ends = omega arith; left = e };
       }
 
   -- at last none

@@ -5,8 +5,8 @@ use mathlib.Core.List.{List, _∷_}
 use mathlib.Core.Path.{_≡_}
 use native.Mathlib.Nat.{le-trans}
 use native.Mathlib.Numerals.{add-one}
-use Rattle.formats.specs.Programs.{Expr, size, Placed, behind, partsAt}
-use Rattle.walks.specs.Walks.{Here, HereRow}
+use Rattle.formats.specs.Programs.{Expr, size, Placed, placedAt, partsAt}
+use Rattle.walks.specs.Inner.Walks.{Here, HereRow}
 use Rattle.walks.proofs.Walks.{parts-held, FirstOf, row-upto}
 use Rattle.walks.proofs.Lists.{row-front, row-others}
 
@@ -21,13 +21,13 @@ module _ {s : List ℕ} {end : ℕ} where
 
   -- ---- of a row, the part in front and the others
 
-  abbrev pub first-here : {k i m : ℕ} {e : Expr} {ps : List Placed} → HereRow s end k (behind i e ∷ ps) m → Here s end k e
+  abbrev pub first-here : {k i m : ℕ} {e : Expr} {ps : List Placed} → HereRow s end k (placedAt i e ∷ ps) m → Here s end k e
   first-here h = record { signed = h .signed; known = h .known; holds = row-front (h .row); fits = le-trans (row-upto (row-others (h .row))) (h .fits) }
 
-  abbrev pub rest-here : {k i m : ℕ} {e : Expr} {ps : List Placed} → HereRow s end k (behind i e ∷ ps) m → HereRow s end (k + size e) ps m
+  abbrev pub rest-here : {k i m : ℕ} {e : Expr} {ps : List Placed} → HereRow s end k (placedAt i e ∷ ps) m → HereRow s end (k + size e) ps m
   rest-here h = record { signed = h .signed; known = h .known; row = row-others (h .row); fits = h .fits }
 
-  abbrev pub rest-from : {k i m : ℕ} {e : Expr} {ps : List Placed} (n : ℕ) → n ≡ k + size e → HereRow s end k (behind i e ∷ ps) m → HereRow s end n ps m
+  abbrev pub rest-from : {k i m : ℕ} {e : Expr} {ps : List Placed} (n : ℕ) → n ≡ k + size e → HereRow s end k (placedAt i e ∷ ps) m → HereRow s end n ps m
   rest-from n is h = record { signed = h .signed; known = h .known; row = rw is (row-others (h .row)); fits = h .fits }
 
   -- ---- the same, where the first is found by counting

@@ -4,23 +4,23 @@ use mathlib.Core.List.{List, [], _∷_}
 use mathlib.Core.Path.{_≡_, refl, ap}
 use Rattle.formats.specs.Results.{Result, done, refusal, andThen}
 use Rattle.formats.specs.Records.{Kind, Const, Var, Add, IfZero, Let, Leaf, Node, Case, Call}
-use Rattle.formats.specs.Programs.{Expr, const, var, add, ifZero, letIn, leafOf, nodeOf, caseOf, call, Args, noArgs, arg, size, Placed, behind, argsAt, partsAt, Signature}
+use Rattle.formats.specs.Programs.{Expr, const, var, add, ifZero, letIn, leafOf, nodeOf, caseOf, call, Args, noArgs, arg, size, Placed, placedAt, argsAt, partsAt, Signature}
 use Rattle.rules.specs.PassTwo.{takeHead, walk, walkArgs}
-use Rattle.walks.specs.Standing.{headOf, Holds, Row, end, next, walkParts}
+use Rattle.walks.specs.Inner.Standing.{headOf, Holds, Row, end, next, walkParts}
 use Rattle.walks.proofs.Walks.{then-nothing}
 
 -- what follows may be said in another way
 then-same : {A B : Type 0} (r : Result A) (f g : A → Result B) → ((x : A) → f x ≡ g x) → andThen r f ≡ andThen r g
 then-same (done x) f g h = h x
-then-same (refusal number place) f g h = refl
+then-same (refusal number position) f g h = refl
 
 -- the last part, and a part in front of others
-walk-last : (n k : ℕ) (Δ : List ℕ) (p : Expr) → walk n k Δ p ≡ walkParts n Δ (behind k p ∷ [])
+walk-last : (n k : ℕ) (Δ : List ℕ) (p : Expr) → walk n k Δ p ≡ walkParts n Δ (placedAt k p ∷ [])
 unfolding walkParts
 walk-last n k Δ p = then-nothing (walk n k Δ p)
 
 walk-two : (n k : ℕ) (Δ : List ℕ) (p q : Expr)
-    → andThen (walk n k Δ p) (λ Δ′. walk n (k + size p) Δ′ q) ≡ walkParts n Δ (behind k p ∷ behind (k + size p) q ∷ [])
+    → andThen (walk n k Δ p) (λ Δ′. walk n (k + size p) Δ′ q) ≡ walkParts n Δ (placedAt k p ∷ placedAt (k + size p) q ∷ [])
 unfolding walkParts
 walk-two n k Δ p q = then-same (walk n k Δ p) _ _ (λ Δ′. walk-last n (k + size p) Δ′ q)
 
@@ -81,11 +81,11 @@ shaped (call a b xs) = a-call
 
 module _ {s : List ℕ} {gs : List Signature} where
   -- the part in front, the others, and the end of the last one
-  pub row-front : {k i m : ℕ} {e : Expr} {ps : List Placed} → Row s gs k (behind i e ∷ ps) m → Holds s gs k e
+  pub row-front : {k i m : ℕ} {e : Expr} {ps : List Placed} → Row s gs k (placedAt i e ∷ ps) m → Holds s gs k e
   row-front (next h more) = h
 
-  pub row-others : {k i m : ℕ} {e : Expr} {ps : List Placed} → Row s gs k (behind i e ∷ ps) m → Row s gs (k + size e) ps m
+  pub row-others : {k i m : ℕ} {e : Expr} {ps : List Placed} → Row s gs k (placedAt i e ∷ ps) m → Row s gs (k + size e) ps m
   row-others (next h more) = more
 
-  pub row-last : {k i m : ℕ} {e : Expr} → Row s gs k (behind i e ∷ []) m → k + size e ≡ m
+  pub row-last : {k i m : ℕ} {e : Expr} → Row s gs k (placedAt i e ∷ []) m → k + size e ≡ m
   row-last (next h end) = refl

@@ -10,7 +10,7 @@ use lib.ListN.{length, length-append, length-map}
 use Rattle.formats.specs.Numbers.{Bytes}
 use Rattle.formats.specs.Results.{Result, done, refusal, andThen, each}
 use Rattle.formats.specs.Records.{Kind, Add, IfZero, Let, Leaf, Node, Case, Call, recordAt, fieldsOf, nth, partsOf, partCount}
-use Rattle.formats.specs.Programs.{Expr, const, var, add, ifZero, letIn, leafOf, nodeOf, caseOf, call, Args, noArgs, arg, prefix, prefixes, size, Placed, behind, argsAt, partsAt}
+use Rattle.formats.specs.Programs.{Expr, const, var, add, ifZero, letIn, leafOf, nodeOf, caseOf, call, Args, noArgs, arg, prefix, prefixes, size, Placed, placedAt, argsAt, partsAt}
 use Rattle.formats.specs.Programs.{countArgs, Applied, AppliedArgs, Signature, arityOf, total, Function, signatureOf, Program, signatures, nodes, mostNodes, mostParameters, InRange, Every, LawfulFunctions}
 use Rattle.formats.specs.Rows.{headerIn, functionIn, arityIn, nodeIn, nodeAt, headerRow, functionRow, nodeRow, prefixRow, readProgram}
 use Rattle.formats.specs.ProgramFiles.{Stands, one-more}
@@ -20,9 +20,9 @@ use Rattle.formats.proofs.Programs.{stands-left, stands-right, every-left, ever
 use Rattle.formats.proofs.Rows.{FieldsRead, header-own, function-read, summed-inv, bodies-inv, row-read, flattens, nodes-stand}
 use Rattle.rules.specs.Scopes.{Scope, inside, entry, Entry, entered, enteredArgs}
 use Rattle.rules.specs.PassOne.{atEntry, passOver}
-use Rattle.walks.specs.Limits.{parametersOfAny}
-use Rattle.walks.specs.Standing.{Known, headOf, Holds, Row, end, next, passParts, Bodies, no-more}
-use Rattle.walks.specs.Standing.{one-more as one-body}
+use Rattle.walks.specs.Inner.Limits.{parametersOfAny}
+use Rattle.walks.specs.Inner.Standing.{Known, headOf, Holds, Row, end, next, passParts, Bodies, no-more}
+use Rattle.walks.specs.Inner.Standing.{one-more as one-body}
 use Rattle.rules.proofs.PassOne.{pass-join}
 
 -- ---- an expression's own record
@@ -48,8 +48,8 @@ fronted (call a b xs) = record { rest = prefixes xs; both = refl }
 stands-first : {s : List ℕ} {k : ℕ} {kind : Kind} {ks : List Kind} → Stands s k (kind ∷ ks) → recordAt s k ≡ fieldsOf kind
 stands-first (one-more is more) = is
 
-stands-behind : {s : List ℕ} {k : ℕ} {kind : Kind} {ks : List Kind} → Stands s k (kind ∷ ks) → Stands s (suc k) ks
-stands-behind (one-more is more) = more
+stands-after : {s : List ℕ} {k : ℕ} {kind : Kind} {ks : List Kind} → Stands s k (kind ∷ ks) → Stands s (suc k) ks
+stands-after (one-more is more) = more
 
 -- its operands are in range ..
 head-in-range : (s : List ℕ) (gs : List Signature) (k : ℕ) (e : Expr) → Holds s gs k e → InRange (headerIn s .functions) (headOf e)
@@ -86,13 +86,13 @@ module _ (s : List ℕ) (gs : List Signature) where
     ranged : Every (InRange (headerIn s .functions)) ks
 
   -- the last of several expressions
-  alone : (k : ℕ) (e : Expr) → Kinds k (prefix e) → Applied (arityOf gs) e → Row s gs k (behind k e ∷ []) (k + length (prefix e))
+  alone : (k : ℕ) (e : Expr) → Kinds k (prefix e) → Applied (arityOf gs) e → Row s gs k (placedAt k e ∷ []) (k + length (prefix e))
   unfolding size
   alone k e h a = next (record { stands = h .stand; in-range = h .ranged; applied = a }) end
 
   -- one in front of others
   in-front : (k : ℕ) (e : Expr) (ks : List Kind) (ps : List Placed) → Kinds k (prefix e ++ ks) → Applied (arityOf gs) e
-      → (Kinds (k + size e) ks → Row s gs (k + size e) ps (k + size e + length ks)) → Row s gs k (behind k e ∷ ps) (k + length (prefix e ++ ks))
+      → (Kinds (k + size e) ks → Row s gs (k + size e) ps (k + size e + length ks)) → Row s gs k (placedAt k e ∷ ps) (k + length (prefix e ++ ks))
   unfolding size
   in-front k e ks ps h a others =
       let ranged = InRange (headerIn s .functions) in
@@ -106,26 +106,26 @@ module _ (s : List ℕ) (gs : List Signature) where
   args-row k (arg x xs) h a = in-front k x (prefixes xs) (argsAt (k + size x) xs) h (a .0) (λ g. args-row (k + size x) xs g (a .1))
 
   two-row : (k : ℕ) (p q : Expr) → Applied (arityOf gs) p × Applied (arityOf gs) q → Kinds k (prefix p ++ prefix q)
-      → Row s gs k (behind k p ∷ behind (k + size p) q ∷ []) (k + length (prefix p ++ prefix q))
+      → Row s gs k (placedAt k p ∷ placedAt (k + size p) q ∷ []) (k + length (prefix p ++ prefix q))
   two-row k p q a h = in-front k p (prefix q) _ h (a .0) (λ g. alone (k + size p) q g (a .1))
 
-  -- behind the expression's own record
-  behind-own : (k : ℕ) (kind : Kind) (ks : List Kind) (ps : List Placed) → Kinds k (kind ∷ ks) → (Kinds (suc k) ks → Row s gs (suc k) ps (suc k + length ks))
+  -- after the expression's own record
+  after-own : (k : ℕ) (kind : Kind) (ks : List Kind) (ps : List Placed) → Kinds k (kind ∷ ks) → (Kinds (suc k) ks → Row s gs (suc k) ps (suc k + length ks))
       → Row s gs (suc k) ps (k + suc (length ks))
-  behind-own k kind ks ps h others = rw (add-suc, ← suc-add) (others (record { stand = stands-behind (h .stand); ranged = h .ranged .1 }))
+  after-own k kind ks ps h others = rw (add-suc, ← suc-add) (others (record { stand = stands-after (h .stand); ranged = h .ranged .1 }))
 
-  -- the parts stand one behind the other, up to the expression's end
+  -- the parts stand one after the other, up to the expression's end
   parts-row : (k : ℕ) (e : Expr) → Kinds k (prefix e) → Applied (arityOf gs) e → Row s gs (suc k) (partsAt k e) (k + length (prefix e))
   unfolding prefix partsAt
-  parts-row k (const i) h a = behind-own k _ _ _ h (λ g. simp add-zero end)
-  parts-row k (var v) h a = behind-own k _ _ _ h (λ g. simp add-zero end)
-  parts-row k (add p q) h a = behind-own k _ _ _ h (two-row (suc k) p q a)
-  parts-row k (ifZero t z o) h a = behind-own k _ _ _ h (λ g. in-front (suc k) t _ _ g (a .0) (two-row (suc k + size t) z o (a .1)))
-  parts-row k (letIn p body) h a = behind-own k _ _ _ h (two-row (suc k) p body a)
-  parts-row k (leafOf p) h a = behind-own k _ _ _ h (λ g. alone (suc k) p g a)
-  parts-row k (nodeOf p q) h a = behind-own k _ _ _ h (two-row (suc k) p q a)
-  parts-row k (caseOf v p q) h a = behind-own k _ _ _ h (two-row (suc k) p q a)
-  parts-row k (call v b xs) h a = behind-own k _ _ _ h (λ g. args-row (suc k) xs g (a .1))
+  parts-row k (const i) h a = after-own k _ _ _ h (λ g. simp add-zero end)
+  parts-row k (var v) h a = after-own k _ _ _ h (λ g. simp add-zero end)
+  parts-row k (add p q) h a = after-own k _ _ _ h (two-row (suc k) p q a)
+  parts-row k (ifZero t z o) h a = after-own k _ _ _ h (λ g. in-front (suc k) t _ _ g (a .0) (two-row (suc k + size t) z o (a .1)))
+  parts-row k (letIn p body) h a = after-own k _ _ _ h (two-row (suc k) p body a)
+  parts-row k (leafOf p) h a = after-own k _ _ _ h (λ g. alone (suc k) p g a)
+  parts-row k (nodeOf p q) h a = after-own k _ _ _ h (two-row (suc k) p q a)
+  parts-row k (caseOf v p q) h a = after-own k _ _ _ h (two-row (suc k) p q a)
+  parts-row k (call v b xs) h a = after-own k _ _ _ h (λ g. args-row (suc k) xs g (a .1))
 
   pub parts-held : (k : ℕ) (e : Expr) → Holds s gs k e → Row s gs (suc k) (partsAt k e) (k + size e)
   unfolding size
@@ -135,7 +135,7 @@ module _ (s : List ℕ) (gs : List Signature) where
 pub record FirstOf (s : List ℕ) (gs : List Signature) (k : ℕ) (ps : List Placed) (m : ℕ) : Type 0 where
   pub expr : Expr
   pub others : List Placed
-  pub both : ps ≡ behind k expr ∷ others
+  pub both : ps ≡ placedAt k expr ∷ others
   pub here : Holds s gs k expr
   pub later : Row s gs (k + size expr) others m
 
@@ -150,7 +150,7 @@ row-none (next here later) h = absurd (omega arith)
 
 pub row-upto : {s : List ℕ} {gs : List Signature} {k m : ℕ} {ps : List Placed} → Row s gs k ps m → k ≤ m
 row-upto end = omega arith
-row-upto (next here later) = let behind-it = row-upto later in omega arith
+row-upto (next here later) = let after-it = row-upto later in omega arith
 
 -- as many as there are arguments
 pub length-args : (k : ℕ) (xs : Args) → length (argsAt k xs) ≡ countArgs xs
@@ -182,24 +182,24 @@ parts-counted s gs k e known h = by-kind e (head-in-range s gs k e h) (h .applie
 -- nothing more follows
 pub then-nothing : {A : Type 0} (r : Result A) → r ≡ andThen r (λ x. done x)
 then-nothing (done x) = refl
-then-nothing (refusal number place) = refl
+then-nothing (refusal number position) = refl
 
 module _ (gs : List Signature) where
   module _ (kind : Kind) where
     -- the last part, and a part in front of others
-    pass-last : (i : ℕ) (sc : Scope) (r : ℕ) (p : Expr) → passOver gs (entered (inside kind i sc) r p) ≡ passParts gs kind i sc (behind r p ∷ [])
+    pass-last : (i : ℕ) (sc : Scope) (r : ℕ) (p : Expr) → passOver gs (entered (inside kind i sc) r p) ≡ passParts gs kind i sc (placedAt r p ∷ [])
     unfolding passParts
     pass-last i sc r p = then-nothing (passOver gs (entered (inside kind i sc) r p))
 
     pass-more : (i : ℕ) (sc : Scope) (r : ℕ) (p : Expr) (xs : List Entry) (ps : List Placed) → passOver gs xs ≡ passParts gs kind (suc i) sc ps
-        → passOver gs (entered (inside kind i sc) r p ++ xs) ≡ passParts gs kind i sc (behind r p ∷ ps)
+        → passOver gs (entered (inside kind i sc) r p ++ xs) ≡ passParts gs kind i sc (placedAt r p ∷ ps)
     unfolding passParts
     pass-more i sc r p xs ps e =
         let first = entered (inside kind i sc) r p in
         pass-join gs first xs ∙ ap (λ q. andThen (passOver gs first) (λ u. q)) e
 
     pass-two : (i : ℕ) (sc : Scope) (r : ℕ) (p q : Expr)
-        → passOver gs (entered (inside kind i sc) r p ++ entered (inside kind (suc i) sc) (r + size p) q) ≡ passParts gs kind i sc (behind r p ∷ behind (r + size p) q ∷ [])
+        → passOver gs (entered (inside kind i sc) r p ++ entered (inside kind (suc i) sc) (r + size p) q) ≡ passParts gs kind i sc (placedAt r p ∷ placedAt (r + size p) q ∷ [])
     pass-two i sc r p q = pass-more i sc r p _ _ (pass-last (suc i) sc (r + size p) q)
 
     pass-args : (i : ℕ) (sc : Scope) (r : ℕ) (xs : Args) → passOver gs (enteredArgs kind i sc r xs) ≡ passParts gs kind i sc (argsAt r xs)
@@ -219,7 +219,7 @@ module _ (gs : List Signature) where
   pass-parts sc r (var a) = refl
   pass-parts sc r (add p q) = own _ (pass-two Add 0 sc (suc r) p q)
   pass-parts sc r (ifZero t z o) =
-      let others = behind (suc r + size t) z ∷ behind (suc r + size t + size z) o ∷ [] in
+      let others = placedAt (suc r + size t) z ∷ placedAt (suc r + size t + size z) o ∷ [] in
       own _ (pass-more IfZero 0 sc (suc r) t _ others (pass-two IfZero 1 sc (suc r + size t) z o))
   pass-parts sc r (letIn p body) = own _ (pass-two Let 0 sc (suc r) p body)
   pass-parts sc r (leafOf p) = own _ (pass-last Leaf 0 sc (suc r) p)
@@ -254,7 +254,7 @@ unfolding mostParameters
 few-parameters zero = omega arith
 few-parameters (suc j) = omega arith
 
--- the bodies stand one behind the other
+-- the bodies stand one after the other
 bodies-stand : (s : List ℕ) (gs : List Signature) (j k : ℕ) (fs : List Function) → length gs ≡ headerIn s .functions
     → each (functionIn s) (length fs) j ≡ done (map signatureOf fs) → Stands s k (nodes fs) → LawfulFunctions gs j fs → Bodies s gs j k fs
 unfolding nodes size

@@ -1,5 +1,3 @@
 -- What the functions share that walk a program's records: pass one, pass two, the translator and
 -- the decoder.
-pub mod Limits
-pub mod Standing
-pub mod Walks
+pub mod Inner

@@ -1,4 +1,4 @@
-// Bytes and 16-bit words read from byte slices, low byte first. Nothing here asks anything of its caller: a place may be anywhere, and a
+// Bytes and 16-bit words read from byte slices, low byte first. Nothing here asks anything of its caller: an offset may be anywhere, and a
 // number is read there whole or not at all.
 ghost use mathlib.Core.Path.{_≡_};
 ghost use mathlib.Core.List.{[], _∷_};
@@ -12,7 +12,7 @@ pub fn word16(b0: u8, b1: u8) -> u16
     (b0 as u16) + 256 * (b1 as u16)
 }
 
-// The byte at a place, or 0 where there is none.
+// The byte at an offset, or 0 where there is none.
 pub fn read8(s: &[u8], at: usize) -> u8
     ensures { λ r. ⌜ r ≡ getD (now (s .entry)) at 0 ⌝ }
 {
@@ -22,7 +22,7 @@ pub fn read8(s: &[u8], at: usize) -> u8
     0
 }
 
-// The 16-bit number at a place, or 0 where the slice does not hold it whole.
+// The 16-bit number at an offset, or 0 where the slice does not hold it whole.
 pub fn read16(s: &[u8], at: usize) -> u16
     ensures { λ r. ⌜ r ≡ numberAt 2 (now (s .entry)) at ⌝ }
 {

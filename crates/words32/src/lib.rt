@@ -1,4 +1,4 @@
-// 32-bit words in byte slices, low byte first, read and written. Nothing here asks anything of its caller: a place may be anywhere, and
+// 32-bit words in byte slices, low byte first, read and written. Nothing here asks anything of its caller: an offset may be anywhere, and
 // what is read or written there is read or written whole or not at all.
 ghost use mathlib.Core.Path.{_≡_};
 ghost use mathlib.Core.List.{[], _∷_};
@@ -12,7 +12,7 @@ pub fn word32(b0: u8, b1: u8, b2: u8, b3: u8) -> u32
     (b0 as u32) + 256 * ((b1 as u32) + 256 * ((b2 as u32) + 256 * (b3 as u32)))
 }
 
-// The 32-bit number at a place, or 0 where the slice does not hold it whole.
+// The 32-bit number at an offset, or 0 where the slice does not hold it whole.
 pub fn read32(s: &[u8], at: usize) -> u32
     ensures { λ r. ⌜ r ≡ numberAt 4 (now (s .entry)) at ⌝ }
 {
@@ -26,7 +26,7 @@ pub fn read32(s: &[u8], at: usize) -> u32
     0
 }
 
-// Writes the four bytes of n at a place, or nothing where they do not all fit.
+// Writes the four bytes of n at an offset, or nothing where they do not all fit.
 pub fn write32(s: &mut [u8], at: usize, n: u32)
     ensures { λ _. ⌜ now (s .exit) ≡ written (now (s .entry)) at (bytesOf 4 n) ⌝ }
 {

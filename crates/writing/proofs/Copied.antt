@@ -17,7 +17,7 @@ pub record Copied (s : List ℕ) (p : ℕ) (vs t : List ℕ) (k : ℕ) : Type 0 
 pub copy-none : (s : List ℕ) (p : ℕ) (vs : List ℕ) → Copied s p vs s 0
 copy-none s p vs = record { within = omega arith; same-length = refl; so-far = sym (written-none s p) }
 
--- one more behind those that are there
+-- one more after those that are there
 pub copy-more :
     (s : List ℕ) (p : ℕ) (vs t : List ℕ) (k : ℕ)
     → length vs ≤ length s
@@ -41,9 +41,9 @@ copy-more s p vs t k small fits more c =
           ∙ ap (written s p) (sym one);
     }
 
--- the place of the next byte is within
-pub copy-place : (s : List ℕ) (p : ℕ) (vs t : List ℕ) (k : ℕ) → length vs ≤ length s → p ≤ length s - length vs → k < length vs → Copied s p vs t k → p + k < length t
-copy-place s p vs t k small fits more c = omega (arith, c .same-length)
+-- the offset of the next byte is within
+pub copy-offset : (s : List ℕ) (p : ℕ) (vs t : List ℕ) (k : ℕ) → length vs ≤ length s → p ≤ length s - length vs → k < length vs → Copied s p vs t k → p + k < length t
+copy-offset s p vs t k small fits more c = omega (arith, c .same-length)
 
 pub copy-length : (s : List ℕ) (p : ℕ) (vs t : List ℕ) (k : ℕ) → Copied s p vs t k → length t ≡ length s
 copy-length s p vs t k c = c .same-length
@@ -59,4 +59,4 @@ copy-long s p vs h = sym (written-short s p vs (omega arith))
 pub copy-far : (s : List ℕ) (p : ℕ) (vs : List ℕ) → length vs ≤ length s → length s - length vs < p → s ≡ written s p vs
 copy-far s p vs small h = sym (written-short s p vs (omega arith))
 
-pub ruleset copied = (copy-none, copy-more, copy-place, copy-length, copy-all, copy-long, copy-far)
+pub ruleset copied = (copy-none, copy-more, copy-offset, copy-length, copy-all, copy-long, copy-far)

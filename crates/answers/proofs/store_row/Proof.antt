@@ -4,7 +4,7 @@ use Prim.Native.Nat.{_-_}
 use borrow.Author.Needs.{needs}
 use lib.ListN.{length}
 use Rattle.writing.proofs.Copied.{Copied}
-use Rattle.answers.proofs.Told.{rows}
+use Rattle.answers.proofs.Slots.{rows}
 use Rattle.answers.proofs.store_row.Statement.{statement}
 use Rattle.answers.proofs.store_row.Tie as tie
 

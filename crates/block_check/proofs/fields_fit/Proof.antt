@@ -1,6 +1,6 @@
 -- `block_check::fields_fit` meets its contract: each test that fails is a case of `fieldsFit`, and the last one decides.
 use borrow.Author.Needs.{needs}
-use Rattle.block_check.proofs.Checks.{fields-told}
+use Rattle.block_check.proofs.Checks.{fields-reported}
 use Rattle.block_check.proofs.fields_fit.Statement.{statement}
 use Rattle.block_check.proofs.fields_fit.Tie as tie
 
@@ -14,16 +14,16 @@ read16-requires-3 : tie.Need-read16-requires-3
 read16-requires-3 c κs = search needs
 
 returns : tie.Need-returns
-returns c = search fields-told
+returns c = search fields-reported
 
 used-fits-requires : tie.Need-used-fits-requires
 used-fits-requires c κs = search needs
 
 returns-2 : tie.Need-returns-2
-returns-2 c = search fields-told
+returns-2 c = search fields-reported
 
 returns-3 : tie.Need-returns-3
-returns-3 c = search fields-told
+returns-3 c = search fields-reported
 
 cast-zero-between : tie.Need-cast-zero-between
 cast-zero-between c = search needs
@@ -35,7 +35,7 @@ zero-between-requires : tie.Need-zero-between-requires
 zero-between-requires c κs = search needs
 
 returns-4 : tie.Need-returns-4
-returns-4 c = search fields-told
+returns-4 c = search fields-reported
 
 pub fields-fit-spec : {M : Type 1} → statement M
 fields-fit-spec =

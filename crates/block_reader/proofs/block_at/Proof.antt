@@ -1,6 +1,6 @@
 -- `block_reader::block_at` meets its contract: the part from the start on has the bytes of a block.
 use borrow.Author.Needs.{needs}
-use Rattle.formats.proofs.Places.{part-inside, length-inside}
+use Rattle.formats.proofs.Buffers.{part-inside, length-inside}
 use Rattle.block_reader.proofs.block_at.Statement.{statement}
 use Rattle.block_reader.proofs.block_at.Tie as tie
 

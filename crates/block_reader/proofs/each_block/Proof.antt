@@ -1,7 +1,7 @@
 -- `block_reader::each_block` meets its contract. Before each turn the blocks passed are right, so that those left decide; they fall.
 use borrow.Author.Needs.{needs}
 use Prim.Native.Nat.{_-_}
-use Rattle.block_reader.proofs.Rows.{RowsLeft, rows-told}
+use Rattle.block_reader.proofs.Rows.{RowsLeft, rows-reported}
 use Rattle.block_reader.proofs.each_block.Statement.{statement}
 use Rattle.block_reader.proofs.each_block.Tie as tie
 
@@ -12,7 +12,7 @@ abbrev μ-loop : tie.MeasureT-loop
 μ-loop file blocks j₀ j = blocks - j
 
 loop-holds : tie.Need-loop-holds Inv-loop μ-loop
-loop-holds c = search rows-told
+loop-holds c = search rows-reported
 
 cast-block-at : tie.Need-cast-block-at Inv-loop μ-loop
 cast-block-at c = search needs
@@ -27,7 +27,7 @@ enum-known-row : tie.Need-enum-known-row Inv-loop μ-loop
 enum-known-row c = search needs
 
 returns : tie.Need-returns Inv-loop μ-loop
-returns c = search rows-told
+returns c = search rows-reported
 
 enum-told : tie.Need-enum-told Inv-loop μ-loop
 enum-told c = search needs
@@ -39,10 +39,10 @@ loop-less : tie.Need-loop-less Inv-loop μ-loop
 loop-less c = search needs
 
 loop-again : tie.Need-loop-again Inv-loop μ-loop
-loop-again c = search rows-told
+loop-again c = search rows-reported
 
 returns-2 : tie.Need-returns-2 Inv-loop μ-loop
-returns-2 c = search rows-told
+returns-2 c = search rows-reported
 
 pub each-block-spec : {M : Type 1} → statement M
 each-block-spec =

@@ -1,6 +1,6 @@
 -- `block_writer::part_of` meets its contract: the part has its full size, or is all that is left.
 use borrow.Author.Needs.{needs}
-use Rattle.formats.proofs.Places.{part-inside, part-last}
+use Rattle.formats.proofs.Buffers.{part-inside, part-last}
 use Rattle.block_writer.proofs.part_of.Statement.{statement}
 use Rattle.block_writer.proofs.part_of.Tie as tie
 

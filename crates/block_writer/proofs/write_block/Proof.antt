@@ -1,6 +1,6 @@
--- `block_writer::write_block` meets its contract: the bytes summed are the body just written, and the check goes right behind it.
+-- `block_writer::write_block` meets its contract: the bytes summed are the body just written, and the check goes right after it.
 use borrow.Author.Needs.{needs}
-use Rattle.block_writer.proofs.Laid.{check-written}
+use Rattle.block_writer.proofs.Stored.{check-written}
 use Rattle.block_writer.proofs.write_block.Statement.{statement}
 use Rattle.block_writer.proofs.write_block.Tie as tie
 

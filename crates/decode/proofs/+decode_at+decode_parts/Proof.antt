@@ -12,8 +12,8 @@ use Rattle.decode.proofs.decode_parts.Reads as decode-parts
 use Rattle.decode.proofs.decode_parts.Kinds as decode-parts-kinds
 use Rattle.decode.proofs.+decode_at+decode_parts.Lts-decode_parts as decode-parts-lts
 use Rattle.parts.proofs.nth_part.Reads as nth-part-reads
-use Rattle.part_places.proofs.inside.Reads as inside-reads
-use Rattle.part_places.proofs.note_case.Reads as note-case-reads
+use Rattle.part_locations.proofs.inside.Reads as inside-reads
+use Rattle.part_locations.proofs.note_case.Reads as note-case-reads
 use Rattle.record_rows.proofs.own_of.Reads as own-of-reads
 use Rattle.decode.proofs.write_row.Reads as write-row-reads
 use Rattle.nodes.proofs.part_count.Reads as part-count-reads

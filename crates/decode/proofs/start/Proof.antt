@@ -1,6 +1,6 @@
 -- `decode::start` meets its contract: the field of the function's record gives its parameters.
 use borrow.Author.Needs.{needs}
-use Rattle.decode.proofs.Places.{started}
+use Rattle.decode.proofs.Locations.{started}
 use Rattle.decode.proofs.start.Statement.{statement}
 use Rattle.decode.proofs.start.Tie as tie
 

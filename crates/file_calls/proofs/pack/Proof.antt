@@ -1,4 +1,4 @@
--- `file_calls::pack` meets its contract: too few places, or what was written is answered.
+-- `file_calls::pack` meets its contract: too few slots, or what was written is answered.
 use borrow.Author.Needs.{needs}
 use Rattle.answers.proofs.Calls.{call-ways}
 use Rattle.file_calls.proofs.pack.Statement.{statement}
@@ -8,7 +8,7 @@ pub pack-spec : {M : Type 1} → statement M
 pack-spec =
     tie.close
     (tie.spec
-    -- too few places
+    -- too few slots
     (λ c κs. search needs) (λ c κs. search needs)
     (λ c. search needs)
     (λ c. search call-ways)

@@ -37,7 +37,7 @@ pub +put-number-spec : {M : Type 1} → statement M
     (λ c κs. search number-ways)
     (λ c. search needs)
     (λ c. search number-ways)
-    -- the last digit behind those of a tenth
+    -- the last digit after those of a tenth
     (λ c κs. (omega arith, search number-ways))
     (λ c. search needs) (λ c. search needs)
     (λ c κs. search number-ways)

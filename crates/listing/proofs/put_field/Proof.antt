@@ -1,4 +1,4 @@
--- `listing::put_field` meets its contract: the character is put behind the number.
+-- `listing::put_field` meets its contract: the character is put after the number.
 use borrow.Author.Needs.{needs}
 use Rattle.listing.proofs.Putting.{field-ways}
 use Rattle.listing.proofs.put_field.Statement.{statement}

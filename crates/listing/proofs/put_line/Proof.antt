@@ -1,4 +1,4 @@
--- `listing::put_line` meets its contract: the five fields are put one behind the other. What holds after each is handed to the laws, c₁ to c₄, since
+-- `listing::put_line` meets its contract: the five fields are put one after the other. What holds after each is handed to the laws, c₁ to c₄, since
 -- `search` does not find it among so much.
 use borrow.Author.Needs.{needs}
 use Rattle.listing.proofs.Putting.{line-ways}

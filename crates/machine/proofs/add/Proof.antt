@@ -1,4 +1,4 @@
--- `machine::add` meets its contract. Where the frame hasn't two words it is refused; else their sum is set in the place of the lower one, and is the
+-- `machine::add` meets its contract. Where the frame hasn't two words it is refused; else their sum is set in the position of the lower one, and is the
 -- top.
 use borrow.Author.Needs.{needs}
 use Rattle.machine.proofs.StackLaws.{adds}

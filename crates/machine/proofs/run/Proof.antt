@@ -7,15 +7,15 @@ use Rattle.machine.proofs.run.Statement.{statement}
 use Rattle.machine.proofs.run.Tie as tie
 
 abbrev Inv-loop : tie.InvT-loop
-Inv-loop fuel output₀ values₀ places₀ code input limit s₀ units₀ output values places s units =
-    Running code input fuel output₀ values₀ places₀ output values places s units
+Inv-loop fuel output₀ values₀ returns₀ code input limit s₀ units₀ output values returns s units =
+    Running code input fuel output₀ values₀ returns₀ output values returns s units
 
 abbrev μ-loop : tie.MeasureT-loop
-μ-loop fuel output₀ values₀ places₀ code input limit s₀ units₀ output values places s units = fuel - units
+μ-loop fuel output₀ values₀ returns₀ code input limit s₀ units₀ output values returns s units = fuel - units
 
 -- from the turn, the loop's test and the fuel's width
-tell-requires : tie.Need-tell-requires Inv-loop μ-loop
-tell-requires c κs =
+report-requires : tie.Need-report-requires Inv-loop μ-loop
+report-requires c κs =
     let turned = c .before .before .before .before .before .before .before .before .before in
     let test = turned .before .before .before .before in
     let begun = test .before .before .before .before .before .before .before .before in
@@ -31,7 +31,7 @@ run-spec =
     (λ c. search running)
     -- a turn, and the answer where it stops
     (λ c κs. search running)
-    tell-requires
+    report-requires
     (λ c. search running) (λ c. search running) (λ c. search running)
     (λ c. search running)
     -- the next turn

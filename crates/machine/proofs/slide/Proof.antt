@@ -1,4 +1,4 @@
--- `machine::slide` meets its contract. Where the frame hasn't two words it is refused; else the top word is set in the place of the one under it, and
+-- `machine::slide` meets its contract. Where the frame hasn't two words it is refused; else the top word is set in the position of the one under it, and
 -- is the top.
 use borrow.Author.Needs.{needs}
 use Rattle.machine.proofs.StackLaws.{slides}

@@ -2,7 +2,7 @@
 -- opcode from 14 up names none.
 use borrow.Author.Needs.{needs}
 use Rattle.machine.proofs.StepLaws.{pushes, gets, adds, ifnots, jumps, slides, drops, writes-leaf, writes-node, writes-number}
-use Rattle.machine.proofs.StepLaws.{reads-tag, reads-number, calls, returns, names-none}
+use Rattle.machine.proofs.StepLaws.{reads-tag, reads-number, calls, returned-so, names-none}
 use Rattle.machine.proofs.step.Statement.{statement}
 use Rattle.machine.proofs.step.Tie as tie
 
@@ -31,5 +31,5 @@ step-spec =
     (λ c. search reads-tag)
     (λ c. search needs) (λ c. search reads-number)
     (λ c. search needs) (λ c. search calls)
-    (λ c. search needs) (λ c. search needs) (λ c. search returns)
+    (λ c. search needs) (λ c. search needs) (λ c. search returned-so)
     (λ c. search names-none))

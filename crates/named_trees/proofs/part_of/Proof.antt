@@ -1,6 +1,6 @@
 -- `named_trees::part_of` meets its contract.
 use borrow.Author.Needs.{needs}
-use Rattle.named_trees.proofs.Places.{parts}
+use Rattle.named_trees.proofs.Offsets.{parts}
 use Rattle.named_trees.proofs.part_of.Statement.{statement}
 use Rattle.named_trees.proofs.part_of.Tie as tie
 

@@ -1,4 +1,4 @@
--- `perform_calls::perform` meets its contract: too few places, or the run's answer is stored.
+-- `perform_calls::perform` meets its contract: too few slots, or the run's answer is stored.
 use borrow.Author.Needs.{needs}
 use Rattle.perform_calls.proofs.Laws.{ways}
 use Rattle.perform_calls.proofs.perform.Statement.{statement}
@@ -8,7 +8,7 @@ pub perform-spec : {M : Type 1} → statement M
 perform-spec =
     tie.close
     (tie.spec
-    -- too few places
+    -- too few slots
     (λ c κs. search needs) (λ c κs. search needs)
     (λ c. search needs)
     (λ c. search ways)

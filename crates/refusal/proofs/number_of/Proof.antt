@@ -4,13 +4,13 @@ use Prim.Native.Nat.{ℕ}
 use mathlib.Core.Path.{_≡_, sym, ap, _∙_}
 use borrow.Author.Needs.{needs}
 use Rattle.refusal.specs.declared.Refusal.{Refusal}
-use Rattle.refusal.specs.Number.{number}
+use Rattle.refusal.specs.Inner.Numbers.{number}
 use Rattle.refusal.proofs.number_of.Statement.{statement}
 use Rattle.refusal.proofs.number_of.Tie as tie
 
 -- a refusal that is known to be q has the number of q
-told : (r q : Refusal) (n : ℕ) → r ≡ q → n ≡ number q → n ≡ number r
-told r q n is e = e ∙ sym (ap number is)
+reported : (r q : Refusal) (n : ℕ) → r ≡ q → n ≡ number q → n ≡ number r
+reported r q n is e = e ∙ sym (ap number is)
 
 pub number-of-spec : {M : Type 1} → statement M
 number-of-spec =
@@ -20,7 +20,7 @@ number-of-spec =
     (λ c. search needs) (λ c. search needs) (λ c. search needs) (λ c. search needs) (λ c. search needs)
     (λ c. search needs) (λ c. search needs) (λ c. search needs) (λ c. search needs) (λ c. search needs)
     (λ c. search needs) (λ c. search needs) (λ c. search needs) (λ c. search needs) (λ c. search needs)
-    (λ c. search told) (λ c. search told) (λ c. search told) (λ c. search told) (λ c. search told)
-    (λ c. search told) (λ c. search told) (λ c. search told) (λ c. search told) (λ c. search told)
-    (λ c. search told) (λ c. search told) (λ c. search told) (λ c. search told) (λ c. search told)
-    (λ c. search told) (λ c. search told) (λ c. search told) (λ c. search told) (λ c. search told))
+    (λ c. search reported) (λ c. search reported) (λ c. search reported) (λ c. search reported) (λ c. search reported)
+    (λ c. search reported) (λ c. search reported) (λ c. search reported) (λ c. search reported) (λ c. search reported)
+    (λ c. search reported) (λ c. search reported) (λ c. search reported) (λ c. search reported) (λ c. search reported)
+    (λ c. search reported) (λ c. search reported) (λ c. search reported) (λ c. search reported) (λ c. search reported))

@@ -1,4 +1,4 @@
--- `signatures::count` meets its contract: the count stands in its record behind the first two bytes.
+-- `signatures::count` meets its contract: the count stands in its record after the first two bytes.
 use borrow.Author.Needs.{needs}
 use Rattle.signatures.proofs.Laws.{fields-read}
 use Rattle.signatures.proofs.count.Statement.{statement}

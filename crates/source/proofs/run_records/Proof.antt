@@ -29,13 +29,13 @@ run-records-spec =
     let decoded = c .before .before .before .before .before .before .before .before .before .before .before .before .before .before .before .before .before .before .enum-told in
     let passed = c .before .before .before .before .before .before .before .before .before .before .before .before .before .before .before .before .before .before .before .match in
     let values-room = c .before .before .before .before .before .before .before .before .before .before .before .before .before .before .before .before .before .if1 in
-    let places-room = c .before .before .before .before .before .before .before .before .before .before .before .before .before .before .before .before .if2 in
+    let returns-room = c .before .before .before .before .before .before .before .before .before .before .before .before .before .before .before .before .if2 in
     let first = c .before .before .before .before .before .before .before .before .before .before .before .first-node in
     let ready =
-    records-ready _ _ _ (now (start .args .input)) (now (start .args .output)) (now (start .args .values)) (now (start .args .places)) (start .args .fuel) (search needs) _ (rows .ensures) (search needs) _ flat-bytes input-bytes
-    (values-room .left) (places-room .left) (first .ensures) in
+    records-ready _ _ _ (now (start .args .input)) (now (start .args .output)) (now (start .args .values)) (now (start .args .returns)) (start .args .fuel) (search needs) _ (rows .ensures) (search needs) _ flat-bytes input-bytes
+    (values-room .left) (returns-room .left) (first .ensures) in
     let tree = c .before .before .before .before .before .before .before .before .before .before .before .before .before .before .before .tree-answer in
-    let read = c .before .before .before .before .before .before .before .before .before .before .before .before .known-told3 in
+    let read = c .before .before .before .before .before .before .before .before .before .before .before .before .known-reported3 in
     let evaluated = c .before .before .before .before .before .before .evaluate in
     let found = c .before .before .before .before .before .before .before .before .before .before .before .before .before .tree2 .given in
     records-run _ _ _ _ _ _ _ _ (found .0 .0) _ _ _ _ _ ready (tree .ensures) (found .1) (evaluated .ensures)))

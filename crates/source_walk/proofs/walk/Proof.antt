@@ -7,10 +7,10 @@ use Rattle.source_walk.proofs.walk.Statement.{statement}
 use Rattle.source_walk.proofs.walk.Tie as tie
 
 abbrev Inv-loop : tie.InvT-loop
-Inv-loop table input first fuel output₀ values₀ places₀ s₀ begun₀ output values places s begun = Walking table input first fuel output₀ values₀ places₀ output values places s begun
+Inv-loop table input first fuel output₀ values₀ returns₀ s₀ begun₀ output values returns s begun = Walking table input first fuel output₀ values₀ returns₀ output values returns s begun
 
 abbrev μ-loop : tie.MeasureT-loop
-μ-loop table input first fuel output₀ values₀ places₀ s₀ begun₀ output values places s begun = fuel - begun
+μ-loop table input first fuel output₀ values₀ returns₀ s₀ begun₀ output values returns s begun = fuel - begun
 
 pub walk-spec : {M : Type 1} → statement M
 walk-spec =

@@ -1,4 +1,4 @@
--- `translate::measure` meets its contract: the entries of the functions below j are in the table, and the next one begins behind them. What is left of
+-- `translate::measure` meets its contract: the entries of the functions below j are in the table, and the next one begins after them. What is left of
 -- the functions falls.
 use Prim.Native.Nat.{_-_}
 use borrow.Author.Needs.{needs}

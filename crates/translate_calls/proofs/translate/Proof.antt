@@ -1,4 +1,4 @@
--- `translate_calls::translate` meets its contract: too few places, or what was written is answered.
+-- `translate_calls::translate` meets its contract: too few slots, or what was written is answered.
 use borrow.Author.Needs.{needs}
 use Rattle.answers.proofs.Calls.{call-ways}
 use Rattle.translate_calls.proofs.translate.Statement.{statement}
@@ -8,7 +8,7 @@ pub translate-spec : {M : Type 1} → statement M
 translate-spec =
     tie.close
     (tie.spec
-    -- too few places
+    -- too few slots
     (λ c κs. search needs) (λ c κs. search needs)
     (λ c. search needs)
     (λ c. search call-ways)

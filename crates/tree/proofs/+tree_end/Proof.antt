@@ -1,11 +1,11 @@
--- The proof of the cycle of calls {tree_end}. The measure is what is left of the input from the place on: the left tree begins behind the node's
--- tag, and the right one behind the left one's end. Each way out is a law of proofs/Told.
+-- The proof of the cycle of calls {tree_end}. The measure is what is left of the input from the position on: the left tree begins after the node's
+-- tag, and the right one after the left one's end. Each way out is a law of proofs/Reported.
 use borrow.Author.Needs.{needs}
 use Prim.Native.Nat.{ℕ, _<_, _+_, _-_}
 use native.Mathlib.Omega.{arith}
 use denote.Ref.{now}
 use lib.ListN.{length}
-use Rattle.tree.proofs.Told.{ends-told, told-behind}
+use Rattle.tree.proofs.Told.{ends-reported, reported-after}
 use borrow.Fn.Kinds.{In}
 use borrow.Fn.PlainCycle.{Measures, is, falls, and}
 use Rattle.tree.proofs.tree_end.Reads as tree-end
@@ -32,7 +32,7 @@ tree-end-sub-result t c = search needs
 tree-end-returns :
     (t : ℕ) →
     tree-end-lts.Need-returns (tree-end-below t, tree-end.Post) (tree-end-at t) tree-end.Post
-tree-end-returns t c = search ends-told
+tree-end-returns t c = search ends-reported
 
 tree-end-index-1-tag :
     (t : ℕ) →
@@ -52,7 +52,7 @@ tree-end-sub-result-2 t c = search needs
 tree-end-returns-2 :
     (t : ℕ) →
     tree-end-lts.Need-returns-2 (tree-end-below t, tree-end.Post) (tree-end-at t) tree-end.Post
-tree-end-returns-2 t c = search ends-told
+tree-end-returns-2 t c = search ends-reported
 
 tree-end-add-result :
     (t : ℕ) →
@@ -62,7 +62,7 @@ tree-end-add-result t c = search needs
 tree-end-returns-3 :
     (t : ℕ) →
     tree-end-lts.Need-returns-3 (tree-end-below t, tree-end.Post) (tree-end-at t) tree-end.Post
-tree-end-returns-3 t c = search ends-told
+tree-end-returns-3 t c = search ends-reported
 
 tree-end-sub-result-3 :
     (t : ℕ) →
@@ -72,7 +72,7 @@ tree-end-sub-result-3 t c = search needs
 tree-end-returns-4 :
     (t : ℕ) →
     tree-end-lts.Need-returns-4 (tree-end-below t, tree-end.Post) (tree-end-at t) tree-end.Post
-tree-end-returns-4 t c = search ends-told
+tree-end-returns-4 t c = search ends-reported
 
 tree-end-sub-result-4 :
     (t : ℕ) →
@@ -82,7 +82,7 @@ tree-end-sub-result-4 t c = search needs
 tree-end-returns-5 :
     (t : ℕ) →
     tree-end-lts.Need-returns-5 (tree-end-below t, tree-end.Post) (tree-end-at t) tree-end.Post
-tree-end-returns-5 t c = search ends-told
+tree-end-returns-5 t c = search ends-reported
 
 tree-end-add-left :
     (t : ℕ) →
@@ -103,7 +103,7 @@ tree-end-tree-end-requires t c κs = search needs
 tree-end-returns-6 :
     (t : ℕ) →
     tree-end-lts.Need-returns-6 (tree-end-below t, tree-end.Post) (tree-end-at t) tree-end.Post
-tree-end-returns-6 t c = search ends-told
+tree-end-returns-6 t c = search ends-reported
 
 tree-end-sub-tree-end-2 : (t : ℕ) → tree-end-lts.Need-sub-tree-end-2 (
   tree-end-below t,
@@ -117,14 +117,14 @@ tree-end-tree-end-requires-2 : (t : ℕ) → tree-end-lts.Need-tree-end-requires
 ) (tree-end-at t) tree-end.Post
 tree-end-tree-end-requires-2 t c κs =
     let a = c .before .before .before .before .before .before .before .args in
-    let behind : a .at + 1 < c .before .tree-end .result =
-    told-behind (a .room - 1) (now (now (a .input))) (a .at + 1) (c .before .tree-end .result) (c .before .tree-end .ensures) (c .if6 .left) in
+    let after : a .at + 1 < c .before .tree-end .result =
+    reported-after (a .room - 1) (now (now (a .input))) (a .at + 1) (c .before .tree-end .result) (c .before .tree-end .ensures) (c .if6 .left) in
     omega arith
 
 tree-end-returns-7 :
     (t : ℕ) →
     tree-end-lts.Need-returns-7 (tree-end-below t, tree-end.Post) (tree-end-at t) tree-end.Post
-tree-end-returns-7 t c = search ends-told
+tree-end-returns-7 t c = search ends-reported
 
 pub +tree-end-spec : {M : Type 1} → statement M
 +tree-end-spec =

@@ -1,11 +1,11 @@
--- `tree::first_tree` meets its contract: what `first_end` tells is the first tree's end, and the bytes up to it are its own, since each element of
+-- `tree::first_tree` meets its contract: what `first_end` reports is the first tree's end, and the bytes up to it are its own, since each element of
 -- the input is a byte.
 use borrow.Author.Needs.{needs}
 use native.Mathlib.Omega.{arith}
 use denote.Ref.{now}
 use lib.Seq.{length-take-le}
 use Rattle.formats.specs.Numbers.{Bytes}
-use Rattle.tree.proofs.Laws.{first-told}
+use Rattle.tree.proofs.Laws.{first-reported}
 use Rattle.tree.proofs.first_tree.Statement.{statement}
 use Rattle.tree.proofs.first_tree.Tie as tie
 
@@ -18,13 +18,13 @@ slice-aggregate-result c = search (needs, length-take-le)
 returns : tie.Need-returns
 returns c =
     let bytes : Bytes (now (c .before .before .before .before .args .input)) = λ i. omega (arith, c .before .before .before .shared-slice-known .given i) in
-    search first-told
+    search first-reported
 
 slice-aggregate-result-2 : tie.Need-slice-aggregate-result-2
 slice-aggregate-result-2 c = search (needs, length-take-le)
 
 returns-2 : tie.Need-returns-2
-returns-2 c = search first-told
+returns-2 c = search first-reported
 
 pub first-tree-spec : {M : Type 1} → statement M
 first-tree-spec =

@@ -1,4 +1,4 @@
--- `words::read16` meets its contract. Where the number is whole, the bytes read are those from the place on, and they stand for the number there.
+-- `words::read16` meets its contract. Where the number is whole, the bytes read are those from the offset on, and they stand for the number there.
 -- Elsewhere it reads as 0.
 use native.Mathlib.Nat.{add-zero}
 use native.Mathlib.Omega.{arith}
@@ -19,5 +19,5 @@ read16-spec =
     -- the call, and the number
     (λ c κs. search needs)
     (λ c. search (number-read, add-zero))
-    -- a place too near the end
+    -- an offset too near the end
     (λ c. number-cut 2 _ _ (omega arith)))

@@ -1,4 +1,4 @@
--- `words32::read32` meets its contract. Where the number is whole, the bytes read are those from the place on, and they stand for the number there.
+-- `words32::read32` meets its contract. Where the number is whole, the bytes read are those from the offset on, and they stand for the number there.
 -- Elsewhere it reads as 0.
 use native.Mathlib.Nat.{add-zero}
 use native.Mathlib.Omega.{arith}
@@ -21,5 +21,5 @@ read32-spec =
     -- the call, and the number
     (λ c κs. search needs)
     (λ c. search (number-read, add-zero))
-    -- a place too near the end
+    -- an offset too near the end
     (λ c. number-cut 4 _ _ (omega arith)))

@@ -25,5 +25,5 @@ write32-spec =
     (λ c. search needs)
     -- the number is written
     (λ c. simp towards-suc (number-written 4 _ _ _ (omega arith)))
-    -- a place too near the end
+    -- an offset too near the end
     (λ c. number-short 4 _ _ _ (omega arith)))

@@ -23,5 +23,5 @@ write16-spec =
     (λ c. search needs)
     -- the number is written
     (λ c. simp towards-suc (number-written 2 _ _ _ (omega arith)))
-    -- a place too near the end
+    -- an offset too near the end
     (λ c. number-short 2 _ _ _ (omega arith)))

@@ -1,0 +1,38 @@
+-- A table filled with a program's rows, or the refusal.
+use Prim.Native.Nat.{ℕ, _*_}
+use mathlib.Core.List.{List}
+use mathlib.Core.Path.{_≡_}
+use lib.Dec.{leb}
+use lib.ListN.{length}
+use Rattle.formats.specs.Refusals.{spaceTooShort}
+use Rattle.formats.specs.Results.{Result, done, refusal, andThen, verdict, check}
+use Rattle.formats.specs.Programs.{mostRecords}
+use Rattle.formats.specs.Rows.{readProgram}
+use Rattle.refusal.specs.Inner.Verdicts.{verdictResult}
+use Rattle.refusal.specs.declared.Verdict.{Verdict}
+use Rattle.rules.specs.PassOne.{passOne}
+use Rattle.stepwise.specs.Inner.Rows.{rowWords, tabled}
+
+-- The words of a table: a row for each of the most records, 8,456 in all.
+abbrev pub tableWords : ℕ
+tableWords = rowWords * mostRecords
+
+-- The table with the rows of a program that passes pass one; or the first refusal of the rows header to prefix form and pass one, and last 13 where the
+-- table is too short.
+unfoldable pub decoded : List ℕ → List ℕ → Result (List ℕ)
+decoded s table =
+    andThen
+    (readProgram s)
+    (λ program. andThen
+    (passOne program)
+    (λ u. check (leb tableWords (length table)) spaceTooShort 0 (tabled table program)))
+
+-- The value, or else what was there before.
+unfoldable pub orElse : {A : Type 0} → Result A → A → A
+orElse (done x) before = x
+orElse (refusal number location) before = before
+
+-- What is said, and every word of the table.
+pub record Decodes (s table after : List ℕ) (r : Verdict) : Type 0 where
+  pub said-so : verdictResult r ≡ verdict (decoded s table)
+  pub after-is : after ≡ orElse (decoded s table) table

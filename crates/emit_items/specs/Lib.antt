@@ -1,0 +1,2 @@
+-- What the functions answer that lay items down.
+pub mod Inner

@@ -1,2 +1,0 @@
--- What the functions answer that lay items down.
-pub mod Operations

@@ -1,0 +1,83 @@
+-- Where the parts of a record stand, whatever its own place: what `stepwise/specs/Inner/Rows` says of them, with counts that are 64-bit numbers.
+use Prim.Native.Nat.{ℕ, zero, suc, _+_, _-_, _%_, _^_}
+use mathlib.Core.Bool.{Bool, true, false}
+use mathlib.Core.List.{List, []}
+use lib.Dec.{leb}
+use lib.ListN.{set, take}
+use Rattle.formats.specs.Records.{Kind, Const, Var, Add, IfZero, Let, Leaf, Node, Case, Call, Part, aNumber, aTree, asWhole, underNumber, underTrees}
+use Rattle.stepwise.specs.Inner.Rows.{kept, lastArgument, lastWord, roleOf, slotOf}
+use Rattle.stepwise.specs.Inner.Rows.{Location as LocationThere}
+use Rattle.part_locations.specs.declared.Location.{Location}
+
+-- The largest 64-bit number, where sums stop.
+abbrev pub largest : ℕ
+largest = 2 ^ 64 - 1
+
+unfoldable pub capped : ℕ → ℕ
+capped n = elim (leb n largest) [ true ↦ n | false ↦ largest ]
+
+-- A place, with the Cases on the stack.
+abbrev pub locationWith : Location → List ℕ → LocationThere
+locationWith p cases =
+    record { role = p .role; parent = p .parent; slot = p .slot; names = p .names; keeps = p .keeps; cases = take (p .depth) cases }
+
+-- On entering a part, by what it is: numbers named, where so many are named at the record.
+unfoldable pub namesInside : Part → ℕ → ℕ
+namesInside aNumber names = names
+namesInside aTree names = names
+namesInside asWhole names = names
+namesInside underNumber names = capped (names + 1)
+namesInside underTrees names = names
+
+-- .. and Cases in whose node parts it stands.
+unfoldable pub depthInside : Part → ℕ → ℕ
+depthInside aNumber depth = depth
+depthInside aTree depth = depth
+depthInside asWhole depth = depth
+depthInside underNumber depth = depth
+depthInside underTrees depth = capped (depth + 1)
+
+-- On entering part i of a record, by its kind: numbers kept.
+unfoldable pub keepsInside : Kind → (i keeps : ℕ) → ℕ
+keepsInside (Const c) i keeps = keeps
+keepsInside (Var a) i keeps = keeps
+keepsInside Add zero keeps = keeps
+keepsInside Add (suc i) keeps = capped (keeps + 1)
+keepsInside IfZero i keeps = keeps
+keepsInside Let i keeps = keeps
+keepsInside Leaf i keeps = keeps
+keepsInside Node i keeps = keeps
+keepsInside (Case a) i keeps = keeps
+keepsInside (Call a b) i keeps = capped (keeps + i)
+
+-- Where part i of the record r stands, which has so many parts: by what the part is, and by the record's kind. (Of the functions only the arity counts, and of the place not its Cases.)
+unfoldable pub partIn : Part → Kind → (r i count : ℕ) → Location → Location
+partIn part kind r i count p =
+    record {
+      role = roleOf (λ b. 0) (λ b. count) kind i;
+      parent = r;
+      slot = slotOf (λ b. 0) (λ b. count) (locationWith p []) kind i;
+      names = namesInside part (p .names);
+      keeps = keepsInside kind i (p .keeps);
+      depth = depthInside part (p .depth);
+    }
+
+-- An argument of the Call at record r, the last one or not, with so many numbers kept before it.
+unfoldable pub argumentIn : (r kept : ℕ) → Bool → (names depth : ℕ) → Location
+argumentIn r keeps last names depth =
+    record {
+      role = elim last [ true ↦ lastArgument | false ↦ kept ];
+      parent = r;
+      slot = lastWord - keeps;
+      names = names;
+      keeps = keeps;
+      depth = depth;
+    }
+
+-- On entering a part of the record r, which stands in so many node parts of Cases: the stack of these Cases.
+unfoldable pub noted : Part → (r depth : ℕ) → List ℕ → List ℕ
+noted aNumber r depth cases = cases
+noted aTree r depth cases = cases
+noted asWhole r depth cases = cases
+noted underNumber r depth cases = cases
+noted underTrees r depth cases = set cases depth (r % 65536)

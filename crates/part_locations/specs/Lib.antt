@@ -1,0 +1,2 @@
+-- Where the parts of a record stand.
+pub mod Inner

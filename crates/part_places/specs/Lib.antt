@@ -1,2 +1,0 @@
--- Where the parts of a record stand.
-pub mod Parts

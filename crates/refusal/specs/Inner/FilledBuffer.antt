@@ -1,0 +1,20 @@
+-- What a call that fills a lent buffer answers, and what the buffer then holds.
+use Prim.Native.Nat.{ℕ}
+use mathlib.Core.List.{List}
+use mathlib.Core.Path.{_≡_}
+use lib.ListN.{length}
+use Rattle.formats.specs.Results.{Result, done, refusal, onValue}
+use Rattle.formats.specs.Blocks.{lent}
+use Rattle.refusal.specs.Inner.Numbers.{number}
+use Rattle.refusal.specs.declared.Filled.{Filled}
+use Rattle.refusal.specs.declared.Filled.the-variants.{Written, Refused}
+
+-- The bytes written, or the refusal's number and its position.
+abbrev pub filledResult : Filled → Result ℕ
+filledResult (Written bytes) = done bytes
+filledResult (Refused why position) = refusal (number why) position
+
+-- Of the bytes that are to go into the buffer, or the refusal: the answer, and every byte of the buffer.
+pub record FilledBuffer (due : Result (List ℕ)) (before after : List ℕ) (r : Filled) : Type 0 where
+  pub answer : filledResult r ≡ onValue length due
+  pub buffer : after ≡ lent before due

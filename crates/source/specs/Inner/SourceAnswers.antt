@@ -1,0 +1,87 @@
+-- What a call of the source run answers.
+use Prim.Native.Nat.{ℕ, suc, _≤_, _<_}
+use mathlib.Core.Bool.{true, false}
+use mathlib.Core.List.{List, []}
+use mathlib.Core.Logic.{_⊎_}
+use mathlib.Core.Path.{_≡_}
+use lib.Dec.{leb}
+use lib.ListN.{length}
+use Rattle.formats.specs.Refusals.{fuelUsedUp, outputFull, tooManyCalls}
+use Rattle.formats.specs.Results.{done, refusal}
+use Rattle.formats.specs.Blocks.{flatIn}
+use Rattle.formats.specs.Written.{written}
+use Rattle.refusal.specs.Inner.Verdicts.{verdictResult}
+use Rattle.refusal.specs.Inner.Numbers.{number as numberOf}
+use Rattle.refusal.specs.declared.Refusal.{Refusal}
+use Rattle.meaning.specs.Running.{valueWords, returnWords}
+use Rattle.meaning.specs.OpenCalls.{Outcome, gives, stops, begins, withFuel}
+use Rattle.meaning.specs.SourceRun.{SourceRan, refusedAfter, sourceRun}
+use Rattle.meaning.specs.SourceRun.{SourceAnswer as Due}
+use Rattle.meaning.specs.WorkWords.{beforeSource, WorkWords}
+use Rattle.stepwise.specs.Inner.Steps.{begin}
+use Rattle.stepwise.specs.Inner.Outcomes.{Reported, Comes}
+use Rattle.result_bytes.specs.Inner.Bytes.{countLimit}
+use Rattle.source.specs.declared.SourceAnswer.{SourceAnswer}
+
+-- The answer, as 01, The source run, has it.
+abbrev pub sourceAnswer : SourceAnswer → Due
+sourceAnswer a = record { outcome = verdictResult (a .verdict); begun = a .begun; bytesWritten = a .written; number = a .number }
+
+-- An evaluation that should give this: its answer, and every byte of the output. Its refusals are none of those that come before it.
+pub record Gave (due : SourceRan) (output′ : List ℕ) (r : SourceAnswer) : Type 0 where
+  pub answer : sourceAnswer r ≡ due .answer
+  pub output : output′ ≡ due .output
+  pub late : (number position : ℕ) → due .answer .outcome ≡ refusal number position → beforeSource number ≡ false
+
+-- The refusal of a walk that stops with this number.
+pub record Named (stop : ℕ) (why : Refusal) : Type 0 where
+  pub is : (stop ≡ fuelUsedUp) ⊎ (stop ≡ tooManyCalls) → numberOf why ≡ stop
+
+-- The length of a buffer: fewer bytes than 2^63.
+pub record Room (l : List ℕ) (r : ℕ) : Type 0 where
+  pub is : r ≡ length l
+  pub short : length l < countLimit
+
+-- ---- The outcome of the steps
+
+-- The result's bytes written from the output's start, its number reported; 17 where they do not fit.
+unfoldable pub reportedResult : ℕ → Reported → List ℕ → SourceRan
+reportedResult begun t output =
+    elim (leb (length (t .bytes)) (length output)) [
+      | true ↦
+          record {
+            answer = record { outcome = done tt; begun = begun; bytesWritten = length (t .bytes); number = t .number };
+            output = written output 0 (t .bytes);
+          }
+      | false ↦ refusedAfter begun outputFull 0 output
+    ]
+
+unfoldable pub reportSteps : ℕ → Outcome Reported → List ℕ → SourceRan
+reportSteps begun (gives t) output = reportedResult begun t output
+reportSteps begun (stops why r) output = refusedAfter begun why 0 output
+reportSteps begun (begins o) output = reportSteps (suc begun) o output
+
+-- Whatever enough words hold, the steps from this record on come to the outcome.
+pub record Always (T input : List ℕ) (first : ℕ) (o : Outcome Reported) : Type 0 where
+  pub comes : (words returns : List ℕ) → valueWords ≤ length words → returnWords ≤ length returns
+      → Comes T input [] (begin first (record { words = words; returns = returns; calls = 0; tree = 0; known = 0; end = 0 })) o
+
+-- The evaluation over a table.
+pub record Evaluates (T input : List ℕ) (first fuel : ℕ) (output output′ values values′ returns returns′ : List ℕ) (r : SourceAnswer) : Type 0 where
+  pub gave : (o : Outcome Reported) → Always T input first o → valueWords ≤ length values → returnWords ≤ length returns
+      → Gave (reportSteps 0 (withFuel fuel o) output) output′ r
+  pub long-values : length values′ ≡ length values
+  pub long-returns : length returns′ ≡ length returns
+
+-- ---- the call
+
+-- A call: its answer, every byte of the output, and the work words, which are free after a run and untouched where the call is refused before it.
+pub record Sourced (due : SourceRan) (output′ values values′ returns returns′ : List ℕ) (r : SourceAnswer) : Type 0 where
+  pub answer : sourceAnswer r ≡ due .answer
+  pub output : output′ ≡ due .output
+  pub words : WorkWords beforeSource (due .answer .outcome) values values′ returns returns′
+
+-- Of the flat records that a file has.
+pub record OfFile (flat input output output′ values values′ returns returns′ : List ℕ) (fuel : ℕ) (r : SourceAnswer) : Type 0 where
+  pub is : (file : List ℕ) → flatIn file ≡ done flat
+      → Sourced (sourceRun file input output fuel (length values) (length returns)) output′ values values′ returns returns′ r

@@ -1,0 +1,32 @@
+-- What the outcome of an evaluation is reported as by a walk.
+use Prim.Native.Nat.{ℕ, _≤_, _<_}
+use mathlib.Core.List.{List}
+use mathlib.Core.Logic.{_⊎_}
+use mathlib.Core.Path.{_≡_}
+use lib.ListN.{length}
+use Rattle.formats.specs.Refusals.{fuelUsedUp, tooManyCalls}
+use Rattle.formats.specs.Written.{written}
+use Rattle.meaning.specs.OpenCalls.{Outcome, gives, stops, afterBegun}
+use Rattle.stepwise.specs.Inner.Outcomes.{Reported, reported}
+use Rattle.result_bytes.specs.Inner.Bytes.{countLimit}
+use Rattle.source_walk.specs.declared.Walked.{Walked}
+
+-- So many bytes are counted for these.
+pub record Counts (at : ℕ) (out : List ℕ) : Type 0 where
+  pub few : at < countLimit → at ≡ length out
+  pub many : countLimit ≤ at → countLimit ≤ length out
+
+-- The walk's answer and the output after it: the value's number and its bytes, as far as they fit; or the number that the evaluation stops with.
+pub data Reports (o : Outcome Reported) (output output′ : List ℕ) (r : Walked) : Type 0 where
+  reports-value :
+      (out : List ℕ)
+      → o ≡ afterBegun (r .begun) (gives (reported (r .number) out))
+      → r .stop ≡ 0
+      → Counts (r .written) out
+      → (length out ≤ length output → output′ ≡ written output 0 out)
+      → Reports o output output′ r
+  reports-stop :
+      (at : ℕ)
+      → o ≡ afterBegun (r .begun) (stops (r .stop) at)
+      → (r .stop ≡ fuelUsedUp) ⊎ (r .stop ≡ tooManyCalls)
+      → Reports o output output′ r

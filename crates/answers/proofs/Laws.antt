@@ -14,7 +14,8 @@ use Rattle.refusal.specs.Inner.FilledBuffer.{filledResult}
 use Rattle.refusal.specs.declared.Filled.{Filled}
 use Rattle.refusal.specs.declared.Filled.the-variants.{Written, Refused}
 use Rattle.answers.specs.Slots.{refusalOf, positionOf}
-use Rattle.answers.specs.Answer.{answerSlots, byteCount, Stores, Answers}
+use Rattle.answers.specs.Answer.{answerSlots, byteCount, Answers}
+use Rattle.answers.specs.Inner.Stores.{Stores}
 use Rattle.answers.proofs.Slots.{reported-short}
 
 -- too few slots

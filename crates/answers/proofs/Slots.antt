@@ -18,7 +18,8 @@ use Rattle.refusal.specs.Inner.Numbers.{number}
 use Rattle.refusal.specs.Inner.Verdicts.{verdictResult}
 use Rattle.refusal.specs.declared.Verdict.{Verdict}
 use Rattle.refusal.specs.declared.Verdict.the-variants.{Passed, Refused}
-use Rattle.answers.specs.Slots.{refusalOf, positionOf, Stored, Reported}
+use Rattle.answers.specs.Slots.{refusalOf, positionOf, Reported}
+use Rattle.answers.specs.Inner.Stores.{Stored}
 
 -- ---- `store_row`
 

@@ -2,7 +2,7 @@
 use Prim.Native.Nat.{ℕ}
 use mathlib.Core.List.{List, [], _∷_}
 use Rattle.formats.specs.Results.{Result, done, refusal, verdict}
-use Rattle.answers.specs.Slots.{Stored, Reported}
+use Rattle.answers.specs.Slots.{Reported}
 
 -- How many slots the answer takes.
 abbrev pub answerSlots : ℕ
@@ -12,10 +12,6 @@ answerSlots = 2
 unfoldable pub byteCount : Result ℕ → ℕ
 byteCount (done bytes) = bytes
 byteCount (refusal number position) = 0
-
--- Slot 0: the refusal's position, 0 where all is done. Slot 1: the bytes.
-abbrev pub Stores : (number position bytes : ℕ) (before after : List ℕ) (r : ℕ) → Type 0
-Stores number position bytes before after r = Stored (position ∷ bytes ∷ []) number before after r
 
 abbrev pub Answers : (due : Result ℕ) (before after : List ℕ) (r : ℕ) → Type 0
 Answers due before after r = Reported answerSlots (λ position. position ∷ byteCount due ∷ []) (verdict due) before after r

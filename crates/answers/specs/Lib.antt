@@ -2,3 +2,4 @@
 pub mod Slots
 pub mod Answer
 pub mod Fills
+pub mod Inner

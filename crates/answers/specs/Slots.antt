@@ -18,11 +18,6 @@ unfoldable pub positionOf : Result (Unit {0}) → ℕ
 positionOf (done u) = 0
 positionOf (refusal number position) = position
 
--- A number given and a row stored: 13 where there are too few slots, which are then untouched.
-pub record Stored (row : List ℕ) (number : ℕ) (before after : List ℕ) (r : ℕ) : Type 0 where
-  pub given : r ≡ elim (ltb (length before) (length row)) [ true ↦ spaceTooShort | false ↦ number ]
-  pub slots : after ≡ written before 0 row
-
 -- An answer of so many slots, with the row that it has for a refusal's position, and what the slots then hold.
 pub record Reported (count : ℕ) (row : ℕ → List ℕ) (outcome : Result (Unit {0})) (before after : List ℕ) (r : ℕ) : Type 0 where
   pub number : r ≡ elim (ltb (length before) count) [ true ↦ spaceTooShort | false ↦ refusalOf outcome ]

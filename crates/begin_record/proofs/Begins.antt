@@ -7,7 +7,8 @@ use native.Mathlib.Numerals.{add-one}
 use borrow.Author.Tests.{lt-ltb, le-ltb}
 use lib.ListN.{length, getD, set, length-set}
 use Rattle.formats.specs.Numbers.{numberAt}
-use Rattle.formats.specs.Tokens.{leafTag, leafBytes}
+use Rattle.formats.specs.Tokens.{leafTag}
+use Rattle.formats.specs.Inner.Trees.{leafBytes}
 use Rattle.stepwise.specs.Inner.Rows.{givesConstant, givesNamed, looksAtTree, callsFunction}
 use Rattle.stepwise.specs.Inner.Steps.{State, begin, stuck, actionAt, operandAt, treeAt, moreAt, afterAt, frameWords, recordLimit, Found, beginning}
 use Rattle.stepwise.proofs.Steps.{looks-leaf, looks-node, looks-past, begins-const, begins-var, begins-case, begins-bare, begins-args, begins-first}

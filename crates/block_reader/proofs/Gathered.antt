@@ -13,7 +13,8 @@ use Rattle.formats.specs.Numbers.{numberAt}
 use Rattle.formats.specs.Written.{written}
 use Rattle.formats.specs.Results.{Result, done, onValue, verdict, each}
 use Rattle.formats.specs.Records.{recordBytes}
-use Rattle.formats.specs.Blocks.{blockBytes, blockRecords, partBytes, mostBytes, usedOffset, lengthRow, usedFits, blockAt, blockRow, concatenated, flatIn, lent}
+use Rattle.formats.specs.Blocks.{blockBytes, blockRecords, partBytes, usedOffset, lengthRow, usedFits, blockAt, blockRow, concatenated, flatIn, lent}
+use Rattle.formats.specs.Inner.Blocks.{mostBytes}
 use Rattle.formats.proofs.Written.{written-none, written-append, wrote}
 use Rattle.formats.proofs.Results.{then-inv, each-inv, each-none, each-length, each-front, each-part, value-inv, refused-is}
 use Rattle.formats.proofs.Blocks.{used-some, used-full, passed}

@@ -6,7 +6,8 @@ use native.Mathlib.Omega.{arith}
 use lib.ListN.{length, take, drop, length-append}
 use lib.Seq.{take-at}
 use Rattle.formats.specs.Results.{done, refusal}
-use Rattle.formats.specs.Blocks.{mostBytes, flatIn, lent}
+use Rattle.formats.specs.Blocks.{flatIn, lent}
+use Rattle.formats.specs.Inner.Blocks.{mostBytes}
 use Rattle.formats.proofs.Results.{value-inv, value-refused}
 use Rattle.formats.proofs.Written.{written-fits}
 use Rattle.formats.proofs.Files.{flat-short}

@@ -6,7 +6,8 @@ ghost use Prim.Native.Nat.{_+_, _*_, _≤_};
 ghost use mathlib.Core.Path.{_≡_};
 ghost use lib.ListN.{length, take, drop};
 ghost use Rattle.formats.specs.Results.{done, verdict, onValue};
-ghost use Rattle.formats.specs.Blocks.{blockBytes, mostBytes, blockRow, flatIn, lent};
+ghost use Rattle.formats.specs.Blocks.{blockBytes, blockRow, flatIn, lent};
+ghost use Rattle.formats.specs.Inner.Blocks.{mostBytes};
 ghost use Rattle.refusal.specs.Inner.FilledBuffer.{FilledBuffer};
 ghost use Rattle.refusal.specs.Inner.Verdicts.{verdictResult};
 

@@ -12,7 +12,8 @@ use lib.Seq.{length-take-le, take-all, drop-at, drop-drop, take-append-seam}
 use Rattle.formats.specs.Numbers.{bytesOf}
 use Rattle.formats.specs.Written.{written}
 use Rattle.formats.specs.Records.{recordBytes}
-use Rattle.formats.specs.Blocks.{blockBytes, partBytes, numberOffset, usedOffset, blocksOffset, checkOffset, wordSum, checkSum, wordLimit, checkWord, blockBody, blockOf, blocksFrom, blocksFor, fileOf, inRoom}
+use Rattle.formats.specs.Blocks.{blockBytes, partBytes, numberOffset, usedOffset, blocksOffset, wordSum, checkSum, wordLimit, checkWord, blockBody, blockOf, blocksFrom, blocksFor, fileOf, inRoom}
+use Rattle.formats.specs.Inner.Blocks.{checkOffset}
 use Rattle.formats.proofs.Numbers.{length-bytesOf}
 use Rattle.formats.proofs.Written.{written-none, written-fits, written-append, wrote}
 use Rattle.formats.proofs.Blocks.{padded, length-padded, length-body, length-block}

@@ -9,7 +9,7 @@ use native.Mathlib.Decide.{decLe}
 use native.Mathlib.Omega.{arith}
 use borrow.Author.Tests.{eq-eqb, ne-eqb}
 use lib.ListN.{getD, set, length-set}
-use Rattle.formats.specs.Buffers.{fromLast}
+use Rattle.formats.specs.Inner.Buffers.{fromLast}
 use Rattle.formats.specs.Programs.{numberValued}
 use Rattle.formats.specs.Records.{aNumber, aTree, asWhole, underNumber, underTrees}
 use Rattle.formats.specs.Records.{Part as PartOfKind}

@@ -9,8 +9,10 @@ use lib.ListN.{length, take, length-append}
 use Rattle.formats.specs.Numbers.{Bytes}
 use Rattle.formats.specs.Results.{done, each}
 use Rattle.formats.specs.Records.{recordAt}
-use Rattle.formats.specs.Programs.{size, Signature, arityOf, total, Function, signatureOf, Program, signatures, mostRecords}
-use Rattle.formats.specs.Rows.{headerIn, functionIn, readProgram}
+use Rattle.formats.specs.Programs.{size, Signature, arityOf, total, Function, signatureOf, Program, signatures}
+use Rattle.formats.specs.Inner.Limits.{mostRecords}
+use Rattle.formats.specs.Rows.{readProgram}
+use Rattle.formats.specs.Inner.Fields.{headerIn, functionIn}
 use Rattle.formats.specs.Written.{written}
 use Rattle.formats.proofs.Results.{Value, passed-is, each-inv, each-none, each-front}
 use Rattle.formats.proofs.Rows.{function-read, flattens}

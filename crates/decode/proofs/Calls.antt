@@ -8,7 +8,7 @@ use lib.Dec.{leb}
 use lib.ListN.{length}
 use Rattle.formats.specs.Refusals.{spaceTooShort}
 use Rattle.formats.specs.Results.{Result, done, refusal, verdict, check, andThen}
-use Rattle.formats.specs.Programs.{mostRecords}
+use Rattle.formats.specs.Inner.Limits.{mostRecords}
 use Rattle.formats.specs.Rows.{readProgram}
 use Rattle.formats.proofs.Results.{Followed, byResult, then-done, then-refused, then-inv}
 use Rattle.refusal.specs.Inner.Numbers.{number}
@@ -17,7 +17,8 @@ use Rattle.refusal.specs.declared.Refusal.{Refusal}
 use Rattle.refusal.specs.declared.Refusal.the-variants.{SpaceTooShort}
 use Rattle.refusal.specs.declared.Verdict.{Verdict}
 use Rattle.refusal.specs.declared.Verdict.the-variants.{Passed, Refused}
-use Rattle.rules.specs.PassOne.{passOne, checkOne}
+use Rattle.rules.specs.PassOne.{passOne}
+use Rattle.rules.specs.Inner.Checks.{checkOne}
 use Rattle.stepwise.specs.Inner.Rows.{tabled}
 use Rattle.decode.specs.Inner.Decoding.{tableWords, decoded, orElse, Decodes}
 use Rattle.decode.specs.Inner.Walk.{Ready, FillsAll}

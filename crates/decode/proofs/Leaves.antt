@@ -9,8 +9,8 @@ use borrow.Author.Tests.{ltb-true}
 use lib.ListN.{getD, take}
 use lib.Seq.{getD-take}
 use Rattle.formats.specs.Records.{Kind, Const, Var, Add, IfZero, Let, Leaf, Node, Case, Call, below}
-use Rattle.formats.specs.Programs.{mostRecords}
-use Rattle.formats.specs.Rows.{headerIn}
+use Rattle.formats.specs.Inner.Limits.{mostRecords}
+use Rattle.formats.specs.Inner.Fields.{headerIn}
 use Rattle.walks.specs.Inner.Limits.{mostCount}
 use Rattle.stepwise.specs.Inner.Rows.{actionOf, codeOf, operandOf, treeOf, moreOf}
 use Rattle.part_locations.specs.declared.Location.{Location}

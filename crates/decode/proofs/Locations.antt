@@ -12,8 +12,9 @@ use lib.ListN.{length, getD, set, take, length-set}
 use lib.Seq.{getD-set-same, getD-set-other, getD-take, take-set-le, take-suc-set, take-take}
 use Rattle.formats.specs.Records.{Kind, Part, aNumber, aTree, asWhole, underNumber, underTrees, partsOf, partCount, nth, nthPart}
 use Rattle.formats.specs.Records.{Const as aConst, Var as aVar, Add as anAdd, IfZero as anIfZero, Let as aLet, Leaf as aLeaf, Node as aNode, Case as aCase, Call as aCall}
-use Rattle.formats.specs.Programs.{signatureOf, mostRecords}
-use Rattle.formats.specs.Rows.{arityIn}
+use Rattle.formats.specs.Programs.{signatureOf}
+use Rattle.formats.specs.Inner.Limits.{mostRecords}
+use Rattle.formats.specs.Inner.Fields.{arityIn}
 use Rattle.formats.proofs.Rows.{function-read}
 use Rattle.records.specs.Inner.Read.{meant, partOf}
 use Rattle.records.specs.declared.Part.{Part as RecordPart}

@@ -7,7 +7,7 @@ use native.Mathlib.Numerals.{add-one}
 use native.Mathlib.Omega.{arith}
 use lib.ListN.{length}
 use Rattle.formats.specs.Records.{Record, fields, recordBytes, bytesOfRecord}
-use Rattle.formats.specs.Rows.{arityIn}
+use Rattle.formats.specs.Inner.Fields.{arityIn}
 use Rattle.formats.specs.Written.{written}
 use Rattle.formats.proofs.Records.{length-record}
 use Rattle.formats.proofs.Written.{written-short}

@@ -7,7 +7,8 @@ use lib.ListN.{length, take}
 use Rattle.formats.specs.Written.{written}
 use Rattle.formats.specs.Results.{refusal, andThen, onValue, verdict}
 use Rattle.formats.specs.Rows.{readProgram}
-use Rattle.formats.specs.Blocks.{mostBytes, flatIn, fileOf, programRecords, readFile, writeFile, inRoom, programInto, readInto, writeInto}
+use Rattle.formats.specs.Blocks.{flatIn, fileOf, programRecords, readFile, writeFile, inRoom, readInto, writeInto}
+use Rattle.formats.specs.Inner.Blocks.{mostBytes, programInto}
 use Rattle.formats.proofs.Results.{then-done, then-refused, Value, passed-is, refused-is}
 use Rattle.formats.proofs.Files.{within-room, within-short}
 use Rattle.refusal.specs.declared.Refusal.{Refusal}

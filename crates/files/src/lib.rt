@@ -4,7 +4,8 @@ use refusal::Filled;
 use refusal::Refusal;
 use refusal::Verdict;
 ghost use lib.ListN.{length};
-ghost use Rattle.formats.specs.Blocks.{programInto, readInto, writeInto};
+ghost use Rattle.formats.specs.Blocks.{readInto, writeInto};
+ghost use Rattle.formats.specs.Inner.Blocks.{programInto};
 ghost use Rattle.refusal.specs.Inner.FilledBuffer.{FilledBuffer};
 
 // Flat records that are a program, written to the start of a lent buffer: the rows header to prefix form, then 13 where the

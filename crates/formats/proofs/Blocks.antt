@@ -12,7 +12,8 @@ use Rattle.formats.specs.Numbers.{Bytes, bytesOf, numberAt}
 use Rattle.formats.specs.Refusals.{blockCheck, blockField}
 use Rattle.formats.specs.Results.{done, refusal, check}
 use Rattle.formats.specs.Records.{recordBytes}
-use Rattle.formats.specs.Blocks.{blockBytes, blockRecords, partBytes, numberOffset, usedOffset, blocksOffset, checkOffset, wordSum, checkSum, wordLimit, checkWord, blockBody, blockOf, zeros, usedFits, fieldsFit, usedOf}
+use Rattle.formats.specs.Blocks.{blockBytes, blockRecords, partBytes, numberOffset, usedOffset, blocksOffset, wordSum, checkSum, wordLimit, checkWord, blockBody, blockOf, zeros, usedFits, fieldsFit, usedOf}
+use Rattle.formats.specs.Inner.Blocks.{checkOffset}
 use Rattle.formats.proofs.Numbers.{length-bytesOf, numberAt-lt, bytesOf-numberAt, bytes-append, bytes-take, bytes-bytesOf, numberAt-after, numberAt-there}
 use Rattle.formats.proofs.Results.{done-not, check-inv, both-held}
 use Rattle.formats.proofs.Words.{checkWord-right, checkWord-only}

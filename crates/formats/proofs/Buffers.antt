@@ -6,7 +6,8 @@ use native.Mathlib.Nat.{add-zero, add-suc, suc-add}
 use native.Mathlib.Omega.{arith}
 use lib.ListN.{length, getD, set, take, drop, length-append, length-take, length-drop, List·getD-append}
 use lib.Seq.{getD-set-same, getD-set-other, drop-cons, getD-take, take-add, take-all, length-take-le}
-use Rattle.formats.specs.Buffers.{Opens, Lies, nothing, one-more, fromLast}
+use Rattle.formats.specs.Buffers.{Opens, Lies, nothing, one-more}
+use Rattle.formats.specs.Inner.Buffers.{fromLast}
 
 -- the position goes by its number
 pub lies-position : {s vs : List ℕ} {p q : ℕ} → p ≡ q → Lies s p vs → Lies s q vs

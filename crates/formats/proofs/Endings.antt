@@ -10,7 +10,8 @@ use native.Mathlib.Omega.{arith}
 use lib.ListN.{length, getD, take, length-append}
 use Rattle.formats.specs.Numbers.{Bytes, bytesOf}
 use Rattle.formats.specs.Refusals.{inputEnded, notATag, tooDeep}
-use Rattle.formats.specs.Tokens.{Tree, leaf, node, leafTag, nodeTag, leafBytes, mostDepth, tokens, treeAt, aNode, firstTree, ownBytes, endFrom, endAt, firstEnd}
+use Rattle.formats.specs.Tokens.{Tree, leaf, node, leafTag, nodeTag, mostDepth, tokens, treeAt, aNode, firstTree, ownBytes, endFrom, firstEnd}
+use Rattle.formats.specs.Inner.Trees.{leafBytes, endAt}
 use Rattle.formats.proofs.Tokens.{Look, past, at-leaf, at-node, at-other, read-ended, read-leaf, read-other, read-deep, label-whole, label-cut, left-refused, right-refused, read-node}
 use Rattle.formats.proofs.Reader.{tree-reader}
 use Rattle.formats.specs.Results.{Result, done, refusal}

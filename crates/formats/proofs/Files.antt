@@ -13,7 +13,8 @@ use Rattle.formats.specs.Numbers.{Bytes}
 use Rattle.formats.specs.Refusals.{fileLength, spaceTooShort}
 use Rattle.formats.specs.Results.{Result, done, refusal, onValue, each}
 use Rattle.formats.specs.Records.{recordBytes}
-use Rattle.formats.specs.Blocks.{blockBytes, mostBlocks, blockRecords, partBytes, mostBytes, wordLimit, blockOf, blocksFrom, blocksFor, fileOf, lengthRow, usedFits, usedOf, blockAt, blockRow, concatenated, flatIn, inRoom, lent}
+use Rattle.formats.specs.Blocks.{blockBytes, mostBlocks, blockRecords, partBytes, wordLimit, blockOf, blocksFrom, blocksFor, fileOf, lengthRow, usedFits, usedOf, blockAt, blockRow, concatenated, flatIn, inRoom, lent}
+use Rattle.formats.specs.Inner.Blocks.{mostBytes}
 use Rattle.formats.specs.ProgramFiles.{Fewest}
 use Rattle.formats.proofs.Numbers.{bytes-append, bytes-take, bytes-drop}
 use Rattle.formats.proofs.Written.{wrote}

@@ -17,7 +17,8 @@ use Rattle.formats.specs.Refusals.{nodeField}
 use Rattle.formats.specs.Results.{done, refusal, check}
 use Rattle.formats.specs.Records.{recordBytes, Record, fields, Ranged, bytesOfRecord, flat, recordAt, Kind, Const, Var, Add, IfZero, Let, Leaf, Node, Case, Call, fieldsOf, kinds, nth, kindOf, same, below, nodeRecord}
 use Rattle.formats.specs.Programs.{InRange, Every}
-use Rattle.formats.specs.Rows.{headerIn, nodeAt, nodeIn}
+use Rattle.formats.specs.Rows.{nodeAt}
+use Rattle.formats.specs.Inner.Fields.{headerIn, nodeIn}
 use Rattle.formats.proofs.Numbers.{length-bytesOf, bytesOf-numberAt, bytes-append, bytes-bytesOf, numberAt-fits, numberAt-after, numberAt-there}
 use Rattle.formats.proofs.Results.{done-not, check-inv, both-held}
 

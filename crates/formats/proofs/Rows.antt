@@ -18,7 +18,8 @@ use Rattle.formats.specs.Records.{recordBytes, Record, fields, Ranged, f
 use Rattle.formats.specs.Programs.{Expr, prefix, size, Applied, Sort, numberValued, treeValued, sortNumber, Signature, signatureRecord, arityOf, total}
 use Rattle.formats.specs.Programs.{Function, signatureOf, Program, signatures, nodes, Header, headerRecord, headerOf, recordsOf, flatOf}
 use Rattle.formats.specs.Programs.{firstEdition, mostFunctions, mostNodes, mostParameters, InRange, Every, LawfulFunctions, Lawful}
-use Rattle.formats.specs.Rows.{headerFrom, headerRow, headerIn, sorts, functionFrom, functionAt, functionIn, sortIn, arityIn, countIn, functionRow, nodeAt, nodeRow, exprsOf, exactlyOne, bodies, prefixRow, readProgram}
+use Rattle.formats.specs.Rows.{headerFrom, headerRow, sorts, functionFrom, functionAt, functionRow, nodeAt, nodeRow, exprsOf, exactlyOne, bodies, prefixRow, readProgram}
+use Rattle.formats.specs.Inner.Fields.{headerIn, functionIn, sortIn, arityIn, countIn}
 use Rattle.formats.specs.ProgramFiles.{Flattened, Stands, nothing, one-more}
 use Rattle.formats.proofs.Results.{done-injective, done-not, then-done, then-inv, each-done, each-inv, each-none, each-nth, each-length, check-inv, both-held}
 use Rattle.formats.proofs.Records.{length-flat, ranged-at, flat-bytes, at-flat, recordsFrom, flat-records, NodeRead, node-inv, node-done}

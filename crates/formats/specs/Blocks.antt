@@ -26,10 +26,6 @@ blockRecords = 63
 abbrev pub partBytes : ℕ
 partBytes = recordBytes * blockRecords
 
--- The bytes of flat records that the most blocks hold.
-abbrev pub mostBytes : ℕ
-mostBytes = partBytes * mostBlocks
-
 -- 01, Blocks: "504–505: block number from 0. 506–507: records used .. 508–509: number of blocks."
 abbrev pub numberOffset : ℕ
 numberOffset = 504
@@ -39,10 +35,6 @@ usedOffset = 506
 
 abbrev pub blocksOffset : ℕ
 blocksOffset = 508
-
--- 01, Blocks: "510–511: check".
-abbrev pub checkOffset : ℕ
-checkOffset = 510
 
 -- The sum of 16-bit words, low byte first. (A last byte alone is no word.)
 unfoldable pub wordSum : List ℕ → ℕ
@@ -156,9 +148,6 @@ writeFile r = onValue (λ program. fileOf r) (readProgram r)
 -- buffer has room for them.
 unfoldable pub inRoom : ℕ → List ℕ → Result (List ℕ)
 inRoom room bytes = check (leb (length bytes) room) spaceTooShort 0 bytes
-
-unfoldable pub programInto : ℕ → List ℕ → Result (List ℕ)
-programInto room r = andThen (programRecords r) (inRoom room)
 
 unfoldable pub readInto : ℕ → List ℕ → Result (List ℕ)
 readInto room s = andThen (readFile s) (inRoom room)

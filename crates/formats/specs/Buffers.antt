@@ -1,5 +1,5 @@
 -- What stands where in a buffer.
-use Prim.Native.Nat.{ℕ, zero, suc, _<_}
+use Prim.Native.Nat.{ℕ, suc, _<_}
 use mathlib.Core.List.{List, [], _∷_, _++_}
 use mathlib.Core.Path.{_≡_}
 use lib.ListN.{length, getD}
@@ -13,8 +13,3 @@ pub record Opens (vs s : List ℕ) : Type 0 where
 pub data Lies (s : List ℕ) : ℕ → List ℕ → Type 0 where
   nothing : {p : ℕ} → Lies s p []
   one-more : {p v : ℕ} {vs : List ℕ} → p < length s → getD s p 0 ≡ v → Lies s (suc p) vs → Lies s p (v ∷ vs)
-
--- So many entries of an array, the last of them first.
-unfoldable pub fromLast : List ℕ → ℕ → List ℕ
-fromLast entries zero = []
-fromLast entries (suc l) = getD entries l 0 ∷ fromLast entries l

@@ -9,19 +9,19 @@ use Rattle.formats.specs.Records.{Record, fields, flat, Kind, Const, Var
 -- An expression of each kind: its operands, then its parts. A Call's number arguments are a list.
 mutual
   pub data Expr : Type 0 where
-    const : ℕ → Expr
-    var : ℕ → Expr
-    add : Expr → Expr → Expr
-    ifZero : Expr → Expr → Expr → Expr
-    letIn : Expr → Expr → Expr
-    leafOf : Expr → Expr
-    nodeOf : Expr → Expr → Expr
-    caseOf : ℕ → Expr → Expr → Expr
-    call : ℕ → ℕ → Args → Expr
+    const : (i : ℕ) → Expr
+    var : (a : ℕ) → Expr
+    add : (p q : Expr) → Expr
+    ifZero : (test zero-part other-part : Expr) → Expr
+    letIn : (p body : Expr) → Expr
+    leafOf : (label : Expr) → Expr
+    nodeOf : (left right : Expr) → Expr
+    caseOf : (a : ℕ) (leaf-part node-part : Expr) → Expr
+    call : (a b : ℕ) (arguments : Args) → Expr
 
   pub data Args : Type 0 where
     noArgs : Args
-    arg : Expr → Args → Args
+    arg : (first : Expr) (rest : Args) → Args
 
 -- 01, Prefix order: "in prefix order". An expression's records: its own, then its parts'.
 unfoldable mutual
@@ -174,10 +174,6 @@ mostFunctions = 32
 
 abbrev pub mostNodes : ℕ
 mostNodes = 1024
-
--- The header, the functions' records and the nodes': 1,057.
-abbrev pub mostRecords : ℕ
-mostRecords = 1 + mostFunctions + mostNodes
 
 -- 01, Function records: "number parameters (0 to 4; function 0 has none)".
 unfoldable pub mostParameters : ℕ → ℕ

@@ -15,7 +15,7 @@ recordBytes = 8
 
 -- A record's fields. 01, Program file: "byte 0 (byte 1 is a, bytes 2–3 b, bytes 4–7 i ..)".
 pub data Record : Type 0 where
-  fields : ℕ → ℕ → ℕ → ℕ → Record
+  fields : (byte0 a b i : ℕ) → Record
 
 -- Each field fits its bytes.
 abbrev pub Ranged : Record → Type 0
@@ -39,19 +39,18 @@ recordAt s k =
 -- 01, Nine kinds of record: "Nine kinds of record". A kind with its operands, in the order of the
 -- table.
 pub data Kind : Type 0 where
-  -- i
-  Const : ℕ → Kind
+  Const : (i : ℕ) → Kind
   -- a: number name
-  Var : ℕ → Kind
+  Var : (a : ℕ) → Kind
   Add : Kind
   IfZero : Kind
   Let : Kind
   Leaf : Kind
   Node : Kind
   -- a: tree name
-  Case : ℕ → Kind
+  Case : (a : ℕ) → Kind
   -- a: tree name, b: function
-  Call : ℕ → ℕ → Kind
+  Call : (a b : ℕ) → Kind
 
 -- 01, Nine kinds of record: "by byte 0 (.. unused ones zero)". The fields of each kind's record.
 unfoldable pub fieldsOf : Kind → Record

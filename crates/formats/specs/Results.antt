@@ -5,7 +5,7 @@ use mathlib.Core.List.{List, [], _∷_}
 
 pub data Result (A : Type 0) : Type 0 where
   done : A → Result A
-  refusal : ℕ → ℕ → Result A
+  refusal : (number position : ℕ) → Result A
 
 -- A value goes on to what follows; a refusal stays.
 abbrev pub andThen : {A B : Type 0} → Result A → (A → Result B) → Result B

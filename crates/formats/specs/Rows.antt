@@ -27,10 +27,6 @@ headerFrom bytes (fields edition f n i) =
 unfoldable pub headerRow : List ℕ → Result Header
 headerRow s = headerFrom (length s) (recordAt s 0)
 
--- The header's fields, right or not.
-unfoldable pub headerIn : List ℕ → Header
-headerIn s = elim (recordAt s 0) [ fields edition f n i ↦ record { edition = edition; functions = f; nodes = n } ]
-
 -- The sorts of an edition, by their number.
 unfoldable pub sorts : ℕ → List Sort
 sorts edition = numberValued ∷ treeValued ∷ []
@@ -47,23 +43,6 @@ functionFrom edition j (fields x a n i) =
 unfoldable pub functionAt : ℕ → List ℕ → ℕ → Result Signature
 functionAt edition s j = functionFrom edition j (recordAt s (suc j))
 
--- Function j, by the header's own edition.
-unfoldable pub functionIn : List ℕ → ℕ → Result Signature
-functionIn s j = functionAt (headerIn s .edition) s j
-
--- The fields of function j's record, right or not. 01, Function records: "byte 0 result (0 number,
--- 1 tree)": the number of its sort ..
-unfoldable pub sortIn : List ℕ → ℕ → ℕ
-sortIn s j = elim (recordAt s (suc j)) [ fields x a n i ↦ x ]
-
--- .. 01, Function records: "byte 1 number parameters" ..
-unfoldable pub arityIn : List ℕ → ℕ → ℕ
-arityIn s j = elim (recordAt s (suc j)) [ fields x a n i ↦ a ]
-
--- .. 01, Function records: "bytes 2–3 its node count".
-unfoldable pub countIn : List ℕ → ℕ → ℕ
-countIn s j = elim (recordAt s (suc j)) [ fields x a n i ↦ n ]
-
 -- 01, The table of refusals: "a wrong sum of counts at the last one". It is looked at once all
 -- fields are right.
 unfoldable pub functionRow : Header → List ℕ → Result (List Signature)
@@ -73,10 +52,6 @@ functionRow h s =
 -- 01, The table of refusals: "6 ..", at the record.
 unfoldable pub nodeAt : Header → List ℕ → ℕ → Result Kind
 nodeAt h s k = nodeRecord (h .edition) (h .functions) k (recordAt s k)
-
--- Record k as a node, by the header's own fields.
-unfoldable pub nodeIn : List ℕ → ℕ → Result Kind
-nodeIn s k = nodeAt (headerIn s) s k
 
 unfoldable pub nodeRow : Header → List ℕ → Result (List Kind)
 nodeRow h s = each (nodeAt h s) (h .nodes) (suc (h .functions))

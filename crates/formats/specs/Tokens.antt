@@ -10,8 +10,8 @@ use Rattle.formats.specs.Results.{Result, done, refusal, andThen}
 
 -- A rooted tree, two branches at each node, a label at each leaf: a 32-bit word.
 pub data Tree : Type 0 where
-  leaf : ℕ → Tree
-  node : Tree → Tree → Tree
+  leaf : (label : ℕ) → Tree
+  node : (left right : Tree) → Tree
 
 -- Every label fits 32 bits.
 abbrev pub Labelled : Tree → Type 0
@@ -34,9 +34,6 @@ leafTag = 1
 
 abbrev pub labelBytes : ℕ
 labelBytes = 4
-
-abbrev pub leafBytes : ℕ
-leafBytes = suc labelBytes
 
 -- 01, Tokens: "A node is byte 2, then its left and right trees."
 abbrev pub nodeTag : ℕ
@@ -100,9 +97,6 @@ ownBytes (refusal number q) = []
 unfoldable pub endFrom : ℕ → Result Tree → Result ℕ
 endFrom p (done t) = done (p + length (tokens t))
 endFrom p (refusal number q) = refusal number q
-
-unfoldable pub endAt : ℕ → List ℕ → ℕ → Result ℕ
-endAt room s p = endFrom p (treeAt room s p)
 
 -- The end of the first tree of a buffer, which is its length, or the refusal.
 unfoldable pub firstEnd : List ℕ → Result ℕ

@@ -15,7 +15,8 @@ use Rattle.formats.specs.Refusals.{functionField}
 use Rattle.formats.specs.Results.{andThen, check, done, refusal, verdict, each}
 use Rattle.formats.specs.Records.{fields, recordAt, recordBytes, nth}
 use Rattle.formats.specs.Programs.{Signature, numberValued, treeValued, total, mostParameters}
-use Rattle.formats.specs.Rows.{headerIn, sorts, functionFrom, functionAt, functionIn, sortIn, arityIn, countIn, functionRow}
+use Rattle.formats.specs.Rows.{sorts, functionFrom, functionAt, functionRow}
+use Rattle.formats.specs.Inner.Fields.{headerIn, functionIn, sortIn, arityIn, countIn}
 use Rattle.formats.proofs.Results.{then-done, then-refused, each-inv, each-none, check-said, test-holds, test-fails, passed-is, refused-is, Passing, pass-more, pass-refused, pass-all}
 use Rattle.formats.proofs.Rows.{function-read}
 use Rattle.refusal.specs.Inner.Numbers.{number}

@@ -6,7 +6,8 @@ ghost use mathlib.Core.Path.{_≡_};
 ghost use Rattle.formats.specs.Programs.{mostParameters};
 ghost use Rattle.formats.specs.Refusals.{functionField};
 ghost use Rattle.formats.specs.Results.{check, each, verdict};
-ghost use Rattle.formats.specs.Rows.{headerIn, functionIn, functionRow};
+ghost use Rattle.formats.specs.Rows.{functionRow};
+ghost use Rattle.formats.specs.Inner.Fields.{headerIn, functionIn};
 ghost use Rattle.refusal.specs.Inner.Verdicts.{verdictResult};
 ghost use Rattle.functions.specs.Inner.Counts.{countsFrom};
 

@@ -13,7 +13,8 @@ use Rattle.formats.specs.Refusals.{headerField}
 use Rattle.formats.specs.Results.{check, done, refusal, verdict}
 use Rattle.formats.specs.Records.{fields, recordAt, recordBytes}
 use Rattle.formats.specs.Programs.{Header, firstEdition, mostFunctions, mostNodes}
-use Rattle.formats.specs.Rows.{headerIn, headerFrom, headerRow}
+use Rattle.formats.specs.Rows.{headerFrom, headerRow}
+use Rattle.formats.specs.Inner.Fields.{headerIn}
 use Rattle.formats.proofs.Results.{check-said, test-holds, test-fails}
 
 -- ---- `header_fits`

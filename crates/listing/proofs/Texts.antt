@@ -23,7 +23,8 @@ use Rattle.translation.specs.Listing.{refusedListing, linesFrom, instructionsIn
 use Rattle.translation.proofs.Calls.{has-room}
 use Rattle.formats.specs.Characters.{newline, space, ascii}
 use Rattle.translation.specs.ListingText.{field, linesText, codeWord, refusedWord, text}
-use Rattle.listing.specs.Shown.{longestLine, mostCode, mostText, Puts}
+use Rattle.listing.specs.Shown.{longestLine, mostText, Puts}
+use Rattle.listing.specs.Inner.Shown.{mostCode}
 use Rattle.listing.proofs.Putting.{put-both, put-length}
 use Rattle.listing.proofs.Lines.{field-length}
 

@@ -1,2 +1,3 @@
 -- What the program's functions put into the text.
 pub mod Shown
+pub mod Inner

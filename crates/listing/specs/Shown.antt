@@ -4,14 +4,7 @@ use mathlib.Core.List.{List}
 use mathlib.Core.Path.{_≡_}
 use lib.ListN.{length}
 use Rattle.formats.specs.Written.{written}
-use Rattle.meaning.specs.Instructions.{instructionBytes, mostInstructions}
-use Rattle.translation.specs.Listing.{listingLine as aLine}
-use Rattle.translation.specs.Listing.{ListingLine as LineOfListing}
-use Rattle.listing.specs.declared.Line.{Line}
-
--- The longest code. 01, Limits: "At most 4,128 instructions".
-abbrev pub mostCode : ℕ
-mostCode = instructionBytes * mostInstructions
+use Rattle.meaning.specs.Instructions.{mostInstructions}
 
 -- The longest line: an address of 4 digits, two bytes of 3, an operand of 5, a sign and 10 digits, and a character after each.
 abbrev pub longestLine : ℕ
@@ -20,10 +13,6 @@ longestLine = 31
 -- The longest heading has 10 bytes, and the longest listing the most lines. (A refusal is shorter.)
 abbrev pub mostText : ℕ
 mostText = 10 + longestLine * mostInstructions
-
--- The definition's line with these numbers.
-abbrev pub shown : Line → LineOfListing
-shown l = aLine (l .address) (l .opcode) (l .byte1) (l .operand) (l .number)
 
 -- These bytes are put into a buffer from place p on, the rest is untouched, and the offset after them is answered, which is
 -- within the buffer.

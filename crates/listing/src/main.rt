@@ -12,7 +12,8 @@ ghost use Rattle.formats.specs.Results.{done};
 ghost use Rattle.translation.specs.Listing.{lineOf, linesFrom, refusedListing, instructionsIn, listingOf, listing};
 ghost use Rattle.formats.specs.Decimal.{decimal};
 ghost use Rattle.translation.specs.ListingText.{field, signedField, lineText, linesText, text};
-ghost use Rattle.listing.specs.Shown.{longestLine, mostCode, mostText, shown, Puts};
+ghost use Rattle.listing.specs.Shown.{longestLine, mostText, Puts};
+ghost use Rattle.listing.specs.Inner.Shown.{mostCode, shown};
 
 const INSTRUCTION_BYTES: usize = 8;
 

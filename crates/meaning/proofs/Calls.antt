@@ -16,7 +16,8 @@ use Rattle.formats.proofs.Results.{done-not}
 use Rattle.formats.proofs.Written.{front-written, after-written, wrote}
 use Rattle.meaning.specs.Performing.{Setting, State, start, wordsBelow, standing, opened}
 use Rattle.meaning.specs.Running.{Stop, ended, refused, Run, run, outcomeOf, numberReported, valueWords, returnWords, ofCode, ranTo, tooShort, streamRun}
-use Rattle.meaning.specs.StreamRun.{writtenBy, Within, Runs, Calls}
+use Rattle.meaning.specs.StreamRun.{Within, Runs, Calls}
+use Rattle.meaning.specs.Running.{writtenBy}
 use Rattle.meaning.proofs.Inputs.{run-same}
 
 -- ---- bytes written from the first place on, where they fit

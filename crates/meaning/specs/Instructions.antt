@@ -30,27 +30,23 @@ heldBy code a =
 
 -- What an instruction does, with the fields that it uses.
 pub data Operation : Type 0 where
-  -- a number
-  Push : ℕ → Operation
+  Push : (number : ℕ) → Operation
   -- a word above the base
-  Get : ℕ → Operation
+  Get : (word : ℕ) → Operation
   Add : Operation
-  -- an address
-  Ifnot : ℕ → Operation
-  -- an address
-  Jump : ℕ → Operation
+  Ifnot : (address : ℕ) → Operation
+  Jump : (address : ℕ) → Operation
   Slide : Operation
   Drop : Operation
   LeafTag : Operation
   NodeTag : Operation
   WriteNumber : Operation
-  -- an address
-  ReadTag : ℕ → Operation
+  ReadTag : (address : ℕ) → Operation
   ReadNumber : Operation
   -- the entry, and how many arguments
-  Call : ℕ → ℕ → Operation
+  Call : (entry arguments : ℕ) → Operation
   -- how many words are kept
-  Return : ℕ → Operation
+  Return : (kept : ℕ) → Operation
 
 -- 01, Opcodes: "0 push, 1 get (operand: word above the base), 2 add, 3 ifnot (.. goes to operand),
 -- 4 jump, 5 slide, 6 drop, 7 leaf tag, 8 node tag, 9 write number, 10 read tag (.. goes to

@@ -13,9 +13,9 @@ use Rattle.meaning.specs.Evaluation.{Value, number, tree, Environment, n
 
 -- What an evaluation comes to: a mark for each expression begun, then its value, or the number of a refusal with its record (0 where it has none).
 pub data Outcome (A : Type 0) : Type 0 where
-  gives : A → Outcome A
-  stops : ℕ → ℕ → Outcome A
-  begins : Outcome A → Outcome A
+  gives : (value : A) → Outcome A
+  stops : (number at-record : ℕ) → Outcome A
+  begins : (rest : Outcome A) → Outcome A
 
 -- How many expressions begin.
 unfoldable pub begun : {A : Type 0} → Outcome A → ℕ

@@ -59,9 +59,9 @@ opened s = suc (length (s .callers))
 -- changes nothing." 01, The answer of a stream run: "The run ends at the return of the first frame.
 -- Its answer gives .. the number (0 for a tree ..)".
 pub data Step : Type 0 where
-  goes : State → Step
-  ends : ℕ → Step
-  refuses : ℕ → Step
+  goes : (to : State) → Step
+  ends : (number : ℕ) → Step
+  refuses : (number : ℕ) → Step
 
 -- ---- changes of the state
 

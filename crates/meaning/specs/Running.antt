@@ -2,7 +2,7 @@
 use Prim.Native.Nat.{ℕ, zero, suc}
 use mathlib.Core.Bool.{true, false, _&&_}
 use mathlib.Core.List.{List, [], _∷_}
-use lib.ListN.{length}
+use lib.ListN.{length, take, drop}
 use lib.Dec.{leb}
 use Rattle.formats.specs.Refusals.{spaceTooShort, fuelUsedUp}
 use Rattle.formats.specs.Results.{Result, done, refusal}
@@ -12,8 +12,8 @@ use Rattle.meaning.specs.Performing.{Setting, State, start, goes, ends, 
 
 -- Why a run stops: at the return of the first frame, with its number, or refused.
 pub data Stop : Type 0 where
-  ended : ℕ → Stop
-  refused : ℕ → Stop
+  ended : (number : ℕ) → Stop
+  refused : (number : ℕ) → Stop
 
 -- A run: the addresses of the instructions performed, in order; the state in which it stops; why it stops.
 pub record Run : Type 0 where
@@ -113,3 +113,14 @@ streamRun code input output fuel values returns =
       | true ↦ ranTo output (run (ofCode code input (length output)) fuel start)
       | false ↦ tooShort output
     ]
+
+-- The bytes that a call has written; those of a buffer that it has not.
+abbrev pub writtenBy : Ran → List ℕ
+writtenBy r = take (r .answer .bytesWritten) (r .output)
+
+abbrev pub untouchedBy : Ran → List ℕ → List ℕ
+untouchedBy r s = drop (r .answer .bytesWritten) s
+
+-- The bytes that a run has read of its input.
+abbrev pub readBy : Ran → List ℕ → List ℕ
+readBy ran input = take (ran .answer .bytesRead) input

@@ -6,7 +6,7 @@ use mathlib.Core.Option.{some}
 use mathlib.Core.Path.{_≡_}
 use mathlib.Core.Bool.{true, false}
 use lib.Dec.{eqb}
-use lib.ListN.{length, take, drop}
+use lib.ListN.{length, take}
 use Rattle.formats.specs.Buffers.{Opens}
 use Rattle.formats.specs.Refusals.{fuelUsedUp, inputEnded, notATag, outputFull, tooManyCalls, cannotPerform}
 use Rattle.formats.specs.Results.{Result, done, refusal}
@@ -16,6 +16,7 @@ use Rattle.meaning.specs.Performing.{Setting, State, standing, opened, g
 use Rattle.meaning.specs.CannotPerform.{CannotPerform}
 use Rattle.meaning.specs.Stopping.{Refused, ReturnsFirst}
 use Rattle.meaning.specs.Running.{Run, ended, refused, run, unitsOf, Answer, Ran, streamRun}
+use Rattle.meaning.specs.Running.{writtenBy, untouchedBy}
 
 -- ---- one step
 
@@ -109,13 +110,6 @@ lookedAt (refusal number position) =
 -- The opening bytes of an input that a call's answer rests on.
 abbrev pub restsOn : Answer → ℕ
 restsOn a = a .bytesRead + lookedAt (a .outcome)
-
--- The bytes that a call has written; those of a buffer that it has not.
-abbrev pub writtenBy : Ran → List ℕ
-writtenBy r = take (r .answer .bytesWritten) (r .output)
-
-abbrev pub untouchedBy : Ran → List ℕ → List ℕ
-untouchedBy r s = drop (r .answer .bytesWritten) s
 
 -- Calls of the stream run, each with its input and fuel, and with one code, one work space and one output.
 pub record Calls (output : List ℕ) (call : List ℕ → ℕ → Ran) : Type 0 where

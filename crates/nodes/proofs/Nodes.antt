@@ -7,7 +7,8 @@ use lib.ListN.{getD}
 use Rattle.formats.specs.Numbers.{numberAt}
 use Rattle.formats.specs.Results.{Result, done, refusal, onValue, verdict, each}
 use Rattle.formats.specs.Records.{recordAt, partCount}
-use Rattle.formats.specs.Rows.{headerIn, arityIn, nodeIn, nodeRow}
+use Rattle.formats.specs.Rows.{nodeRow}
+use Rattle.formats.specs.Inner.Fields.{headerIn, arityIn, nodeIn}
 use Rattle.formats.proofs.Results.{byResult, done-injective, done-not, Passing, pass-more, pass-refused, pass-all}
 use Rattle.refusal.specs.Inner.Numbers.{number}
 use Rattle.refusal.specs.declared.Refusal.{Refusal}

@@ -4,7 +4,8 @@ use mathlib.Core.List.{List}
 use mathlib.Core.Path.{_≡_, sym, ap, _∙_}
 use lib.ListN.{length, take}
 use Rattle.formats.specs.Results.{refusal}
-use Rattle.formats.specs.Blocks.{mostBytes, flatIn}
+use Rattle.formats.specs.Blocks.{flatIn}
+use Rattle.formats.specs.Inner.Blocks.{mostBytes}
 use Rattle.formats.proofs.Results.{then-done, then-refused}
 use Rattle.refusal.specs.Inner.Numbers.{number}
 use Rattle.refusal.specs.Inner.FilledBuffer.{FilledBuffer}

@@ -12,7 +12,7 @@ use Rattle.formats.specs.Refusals.{wrongType, notBound, tooManyWords}
 use Rattle.formats.specs.Results.{Result, andThen}
 use Rattle.formats.specs.Records.{below}
 use Rattle.formats.specs.Programs.{Sort, numberValued, treeValued, sortNumber, Signature}
-use Rattle.formats.specs.Rows.{headerIn, sortIn, arityIn}
+use Rattle.formats.specs.Inner.Fields.{headerIn, sortIn, arityIn}
 use Rattle.formats.proofs.Rows.{function-read}
 use Rattle.refusal.specs.declared.Refusal.the-variants.{WrongType, NotBound, TooManyWords}
 use Rattle.refusal.specs.declared.Verdict.the-variants.{Passed, Refused}
@@ -26,7 +26,8 @@ use Rattle.records.specs.declared.TreeName.{TreeName}
 use Rattle.records.specs.declared.Called.{Called}
 use Rattle.rules.specs.Types.{isInt, isTree, fits}
 use Rattle.rules.specs.Scopes.{entry}
-use Rattle.rules.specs.PassOne.{mostFrameWords, named, typed, bareNumber, wordsTested, roomy, holdsAt, atEntry}
+use Rattle.rules.specs.PassOne.{named, typed, bareNumber, wordsTested, roomy, holdsAt, atEntry}
+use Rattle.rules.specs.Limits.{mostFrameWords}
 use Rattle.walks.specs.Inner.Standing.{Known}
 use Rattle.walks.proofs.Walks.{Signed, signature-of}
 use Rattle.pass_one.specs.Inner.Walk.{expected, scopeOf, Typed, Bare, Roomy, Tested}

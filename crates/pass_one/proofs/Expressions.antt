@@ -9,7 +9,7 @@ use lib.ListN.{length}
 use Rattle.formats.specs.Results.{Result, done, andThen, onValue}
 use Rattle.formats.specs.Records.{Kind, below, partsOf, nthPart, partCount}
 use Rattle.formats.specs.Programs.{Expr, size, Placed, partsAt}
-use Rattle.formats.specs.Rows.{headerIn, arityIn, nodeIn}
+use Rattle.formats.specs.Inner.Fields.{headerIn, arityIn, nodeIn}
 use Rattle.formats.proofs.Results.{done-injective, done-not, then-done, then-refused, value-inv, value-refused}
 use Rattle.formats.proofs.Records.{node-below}
 use Rattle.formats.proofs.Programs.{some-record}

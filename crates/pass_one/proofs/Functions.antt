@@ -7,7 +7,8 @@ use lib.Dec.{eqb}
 use Rattle.formats.specs.Numbers.{Bytes}
 use Rattle.formats.specs.Results.{Result, done, refusal, andThen, onValue, verdict}
 use Rattle.formats.specs.Programs.{size, Sort, numberValued, treeValued, sortNumber, Function, signatureOf, Program, signatures}
-use Rattle.formats.specs.Rows.{headerIn, sortIn, arityIn, readProgram}
+use Rattle.formats.specs.Rows.{readProgram}
+use Rattle.formats.specs.Inner.Fields.{headerIn, sortIn, arityIn}
 use Rattle.formats.proofs.Results.{Value, then-done, then-refused, value-inv, passed-is, refused-is, value-refused}
 use Rattle.formats.proofs.Rows.{function-read, flattens}
 use Rattle.refusal.specs.Inner.Numbers.{number}
@@ -18,7 +19,8 @@ use Rattle.refusal.specs.declared.Verdict.the-variants.{Passed}
 use Rattle.refusal.specs.declared.Verdict.the-variants.{Refused as Refuses}
 use Rattle.rules.specs.Types.{resultType}
 use Rattle.rules.specs.Scopes.{scope, startOf, entered, enteredAll}
-use Rattle.rules.specs.PassOne.{passOver, passOne, checkOne}
+use Rattle.rules.specs.PassOne.{passOver, passOne}
+use Rattle.rules.specs.Inner.Checks.{checkOne}
 use Rattle.rules.proofs.PassOne.{pass-join}
 use Rattle.walks.specs.Inner.Walks.{Inside}
 use Rattle.walks.proofs.Walks.{program-held}

@@ -12,7 +12,8 @@ ghost use Rattle.formats.specs.Rows.{readProgram};
 ghost use Rattle.records.specs.Inner.Read.{meant, partOf};
 ghost use Rattle.refusal.specs.Inner.Verdicts.{verdictResult};
 ghost use Rattle.rules.specs.Scopes.{partScope};
-ghost use Rattle.rules.specs.PassOne.{named, checkOne};
+ghost use Rattle.rules.specs.PassOne.{named};
+ghost use Rattle.rules.specs.Inner.Checks.{checkOne};
 ghost use Rattle.pass_one.specs.Inner.Walk.{scopeOf, RoomFor, Fits, FitsParts, Typed, Bare, Roomy, Tested, Entered, EnteredParts, Starts, PassSays};
 
 // The most words above the frame's base.

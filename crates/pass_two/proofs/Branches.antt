@@ -15,7 +15,7 @@ use Rattle.formats.proofs.Results.{then-done, then-refused}
 use Rattle.refusal.specs.declared.Refusal.{Refusal}
 use Rattle.refusal.specs.declared.Refusal.the-variants.{OutOfOrder, TooManyPending}
 use Rattle.refusal.specs.declared.Verdict.the-variants.{Passed, Refused}
-use Rattle.rules.specs.Leftover.{mostPending}
+use Rattle.rules.specs.Limits.{mostPending}
 use Rattle.rules.specs.PassOne.{holdsAt}
 use Rattle.rules.specs.PassTwo.{sameNames, equalBranches, walk}
 use Rattle.walks.specs.Inner.Walks.{Here}

@@ -7,7 +7,8 @@ use Rattle.formats.specs.Numbers.{Bytes}
 use Rattle.formats.specs.Results.{Result, done, refusal, andThen, verdict}
 use Rattle.formats.specs.Records.{recordAt}
 use Rattle.formats.specs.Programs.{size, Function, Program, signatures}
-use Rattle.formats.specs.Rows.{headerIn, readProgram}
+use Rattle.formats.specs.Rows.{readProgram}
+use Rattle.formats.specs.Inner.Fields.{headerIn}
 use Rattle.formats.proofs.Rows.{flattens}
 use Rattle.formats.proofs.Results.{byResult, then-done, then-refused, Followed, then-inv, passed-is}
 use Rattle.refusal.specs.Inner.Numbers.{number}
@@ -15,7 +16,8 @@ use Rattle.refusal.specs.Inner.Verdicts.{verdictResult}
 use Rattle.refusal.specs.declared.Refusal.{Refusal}
 use Rattle.refusal.specs.declared.Verdict.{Verdict}
 use Rattle.refusal.specs.declared.Verdict.the-variants.{Passed, Refused}
-use Rattle.rules.specs.PassOne.{passOne, checkOne}
+use Rattle.rules.specs.PassOne.{passOne}
+use Rattle.rules.specs.Inner.Checks.{checkOne}
 use Rattle.rules.specs.PassTwo.{walk, noneLeft, walkAll, passTwo, bothPasses, checkRecords}
 use Rattle.walks.specs.Inner.Walks.{Inside, Here}
 use Rattle.walks.proofs.Walks.{program-held}

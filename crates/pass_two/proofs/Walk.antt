@@ -11,12 +11,12 @@ use borrow.Author.Needs.{needs}
 use denote.Enum.Declared.{tagOf}
 use types.Run.{OneOf, miss}
 use lib.ListN.{length}
-use Rattle.formats.specs.Buffers.{fromLast}
+use Rattle.formats.specs.Inner.Buffers.{fromLast}
 use Rattle.formats.specs.Results.{done, onValue}
 use Rattle.formats.specs.Records.{Kind, partCount}
 use Rattle.formats.specs.Records.{IfZero as anIfZero, Case as aCase, Call as aCall}
 use Rattle.formats.specs.Programs.{Expr, size, Placed, placedAt, partsAt, Signature}
-use Rattle.formats.specs.Rows.{arityIn, nodeIn}
+use Rattle.formats.specs.Inner.Fields.{arityIn, nodeIn}
 use Rattle.formats.proofs.Results.{done-injective, done-not}
 use Rattle.formats.proofs.Programs.{some-record}
 use Rattle.refusal.specs.declared.Refusal.{Refusal}

@@ -9,12 +9,12 @@ use native.Mathlib.Numerals.{towards-suc}
 use borrow.Author.Tests.{not-true, not-false, eq-eqb, ne-eqb, eqb-true, eqb-false, le-leb, lt-leb}
 use lib.Dec.{leb, eqb}
 use lib.ListN.{length, getD, replicate, set, length-set}
-use Rattle.formats.specs.Buffers.{fromLast}
+use Rattle.formats.specs.Inner.Buffers.{fromLast}
 use Rattle.formats.specs.Refusals.{outOfOrder}
 use Rattle.formats.specs.Results.{done, refusal, check}
 use Rattle.formats.proofs.Buffers.{length-from, from-top}
 use Rattle.formats.proofs.Results.{done-injective, done-not}
-use Rattle.rules.specs.Leftover.{mostPending}
+use Rattle.rules.specs.Limits.{mostPending}
 use Rattle.rules.specs.PassTwo.{takeHead, sameNames}
 use Rattle.pending.specs.declared.Pending.{Pending}
 use Rattle.pending.specs.declared.Taken.{Taken}

@@ -3,7 +3,7 @@
 ghost use mathlib.Core.Path.{_≡_};
 ghost use lib.Dec.{leb};
 ghost use lib.ListN.{length};
-ghost use Rattle.rules.specs.Leftover.{mostPending};
+ghost use Rattle.rules.specs.Limits.{mostPending};
 ghost use Rattle.rules.specs.PassTwo.{sameNames};
 ghost use Rattle.pending.specs.Inner.List.{lengthOf, listOf, Alone, Took, InFront};
 

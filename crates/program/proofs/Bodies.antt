@@ -12,7 +12,8 @@ use Rattle.formats.specs.Refusals.{prefixForm}
 use Rattle.formats.specs.Results.{Result, done, refusal, andThen, check, verdict, each}
 use Rattle.formats.specs.Records.{Kind, recordAt}
 use Rattle.formats.specs.Programs.{Expr, Signature, arityOf, total, Function}
-use Rattle.formats.specs.Rows.{headerIn, functionIn, countIn, functionRow, nodeIn, nodeRow, exprsOf, exactlyOne, bodies, prefixRow}
+use Rattle.formats.specs.Rows.{functionRow, nodeRow, exprsOf, exactlyOne, bodies, prefixRow}
+use Rattle.formats.specs.Inner.Fields.{headerIn, functionIn, countIn, nodeIn}
 use Rattle.formats.proofs.Results.{then-done, then-refused, each-inv, each-none, each-front, test-holds, test-fails, passed-is, refused-is, each-after}
 use Rattle.formats.proofs.Rows.{function-read, summed-inv, row-read, arity-read}
 use Rattle.program.specs.Inner.Prefix.{IsOne, PrefixSays}

@@ -13,7 +13,8 @@ use lib.ListN.{take, drop, take-append-drop}
 use Rattle.formats.specs.Refusals.{prefixForm}
 use Rattle.formats.specs.Results.{Result, done, check, verdict, each}
 use Rattle.formats.specs.Records.{Kind, Const, Var, Add, IfZero, Let, Leaf, Node, Case, Call, below, partsOf, partCount}
-use Rattle.formats.specs.Rows.{headerIn, arityIn, nodeIn, exprsOf, exactlyOne}
+use Rattle.formats.specs.Rows.{exprsOf, exactlyOne}
+use Rattle.formats.specs.Inner.Fields.{headerIn, arityIn, nodeIn}
 use Rattle.formats.proofs.Results.{each-inv, each-none, each-after}
 use Rattle.formats.proofs.Records.{node-below}
 use Rattle.formats.proofs.Prefix.{Height, height-short, height-step, none-stays, one-of, not-one-of, none-of}

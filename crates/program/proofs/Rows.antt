@@ -5,7 +5,8 @@ use mathlib.Core.Path.{_≡_, refl, sym, ap, _∙_}
 use Rattle.formats.specs.Results.{Result, done, refusal, andThen, verdict}
 use Rattle.formats.specs.Records.{Kind}
 use Rattle.formats.specs.Programs.{Header, Signature, Function, Program}
-use Rattle.formats.specs.Rows.{headerRow, headerIn, functionRow, nodeRow, prefixRow, readProgram}
+use Rattle.formats.specs.Rows.{headerRow, functionRow, nodeRow, prefixRow, readProgram}
+use Rattle.formats.specs.Inner.Fields.{headerIn}
 use Rattle.formats.proofs.Rows.{header-own}
 use Rattle.formats.proofs.Results.{then-done, then-refused, Value, passed-is, refused-is}
 use Rattle.refusal.specs.Inner.Numbers.{number}

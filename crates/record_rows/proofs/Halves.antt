@@ -9,7 +9,7 @@ use lib.ListN.{length, getD, take, length-take, List·getD-eq-default}
 use lib.Seq.{getD-take}
 use Rattle.formats.specs.Records.{Kind, recordAt}
 use Rattle.formats.specs.Records.{Const as aConst, Var as aVar, Add as anAdd, IfZero as anIfZero, Let as aLet, Leaf as aLeaf, Node as aNode, Case as aCase, Call as aCall}
-use Rattle.formats.specs.Rows.{headerIn, arityIn, countIn}
+use Rattle.formats.specs.Inner.Fields.{headerIn, arityIn, countIn}
 use Rattle.functions.proofs.Functions.{Summed, sum-none, sum-more, sum-all}
 use Rattle.records.specs.Inner.Read.{meant}
 use Rattle.records.specs.declared.Record.{Record}

@@ -17,7 +17,8 @@ use Rattle.formats.specs.Results.{done, refusal, check, onValue}
 use Rattle.formats.specs.Records.{Kind, Parts, fields, recordBytes, recordAt, kinds, kindOf, nth, same, below, fieldsOf, nodeRecord, partsOf}
 use Rattle.formats.specs.Records.{aNumber, aTree, asWhole, underNumber, underTrees, these, argumentsOf, Const, Var, Add, IfZero, Let, Leaf, Node, Case, Call}
 use Rattle.formats.specs.Inner.CodeColumn.{templateOf}
-use Rattle.formats.specs.Rows.{headerIn, nodeAt, nodeIn}
+use Rattle.formats.specs.Rows.{nodeAt}
+use Rattle.formats.specs.Inner.Fields.{headerIn, nodeIn}
 use Rattle.formats.proofs.Numbers.{numberAt-cut}
 use Rattle.formats.proofs.Results.{both-held}
 use Rattle.formats.proofs.Records.{none-past, but}

@@ -6,7 +6,7 @@ ghost use mathlib.Core.Bool.{_&&_};
 ghost use lib.Dec.{eqb, ltb};
 ghost use Rattle.formats.specs.Refusals.{nodeField};
 ghost use Rattle.formats.specs.Results.{check, onValue};
-ghost use Rattle.formats.specs.Rows.{nodeIn};
+ghost use Rattle.formats.specs.Inner.Fields.{nodeIn};
 ghost use Rattle.records.specs.Inner.Read.{OfKind, StandsAt, described, shaped, shapeOf};
 ghost use Rattle.records.specs.declared.Items.the-variants.{None, One};
 

@@ -10,7 +10,8 @@ use borrow.Author.Tests.{lt-ltb, le-ltb}
 use lib.Dec.{ltb}
 use lib.ListN.{length}
 use Rattle.formats.specs.Numbers.{bytesOf}
-use Rattle.formats.specs.Tokens.{leaf, leafTag, nodeTag, leafBytes, tokens}
+use Rattle.formats.specs.Tokens.{leaf, leafTag, nodeTag, tokens}
+use Rattle.formats.specs.Inner.Trees.{leafBytes}
 use Rattle.formats.specs.Written.{written}
 use Rattle.formats.proofs.Numbers.{length-bytesOf}
 use Rattle.formats.proofs.Written.{written-one, written-append, written-none, written-short}

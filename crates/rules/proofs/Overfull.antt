@@ -17,7 +17,8 @@ use Rattle.formats.specs.Records.{Kind, Call, nth}
 use Rattle.formats.specs.Programs.{Expr, const, var, add, ifZero, letIn, leafOf, nodeOf, caseOf, call, Args, noArgs, arg, prefix, size, Sort, numberValued, treeValued, Signature, signatureOf, Program, signatures}
 use Rattle.rules.specs.Types.{Ty, Int, Tree⁺, resultType, isInt}
 use Rattle.rules.specs.Scopes.{Scope, scope, startOf, inside, Entry, entry, entered, enteredArgs, enteredAll}
-use Rattle.rules.specs.PassOne.{mostFrameWords, named, typed, bareNumber, wordsTested, roomy, atEntry, passOver, passOne, wordsWithValue, wordsOf, wordsOfArgs}
+use Rattle.rules.specs.PassOne.{named, typed, bareNumber, wordsTested, roomy, atEntry, passOver, passOne, wordsWithValue, wordsOf, wordsOfArgs}
+use Rattle.rules.specs.Limits.{mostFrameWords}
 use Rattle.rules.specs.PassOne.{Fails, too-many-words, all-three, FirstFails, here, later}
 use Rattle.rules.specs.OrderChecker.{firstNode, Overfull}
 use Rattle.rules.proofs.PassOne.{pass-one}

@@ -22,7 +22,8 @@ use Rattle.rules.specs.Typing.{TypedFunction}
 use Rattle.rules.specs.Scopes.{scope}
 use Rattle.rules.specs.PassOne.{holdsAt}
 use Rattle.rules.specs.Leftover.{ChecksName, T-Var1, Checks, T-Var2, T-Int, T-App, T-Plus, T-Leaf, T-Node, T-Case, Let-01, IfZero-01, ChecksApplied, to-number, to-tree}
-use Rattle.rules.specs.Leftover.{Line, lines, linesApplied, mostPending, FewAtCase, InOrder}
+use Rattle.rules.specs.Leftover.{Line, lines, linesApplied, FewAtCase, InOrder}
+use Rattle.rules.specs.Limits.{mostPending}
 use Rattle.rules.specs.PassTwo.{takeHead, sameNames, equalBranches, walk, walkArgs, noneLeft, walkAll, passTwo}
 use Rattle.rules.specs.FirstFault.{Spot, spot, ArgsInOrder, finished, one-more, EntersArg, this-one, Enters, WalksTo, here, further, IsHead, head, Faults}
 use Rattle.rules.specs.FirstFault.{add-left, add-right, if-test, if-zero, if-other, let-number, let-body, leaf-number, node-left, node-right, case-leaf, case-node, call-number}

@@ -11,7 +11,7 @@ use Rattle.formats.specs.Programs.{Expr, const, var, add, ifZero, letIn, leafOf
 use Rattle.formats.proofs.Results.{Outcome, gave, stopped, outcome, done-not, then-done, then-refused}
 use Rattle.formats.proofs.Programs.{some-record}
 use Rattle.rules.specs.Typing.{TypedFunction}
-use Rattle.rules.specs.Leftover.{mostPending}
+use Rattle.rules.specs.Limits.{mostPending}
 use Rattle.rules.specs.PassTwo.{takeHead, sameNames, equalBranches, walk, walkArgs, noneLeft, walkAll, passTwo}
 use Rattle.rules.specs.OrderChecker.{firstNode, Untyped, this-one, after-it}
 use Rattle.rules.proofs.Splits.{types-checks}

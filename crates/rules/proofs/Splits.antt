@@ -11,7 +11,8 @@ use Rattle.formats.proofs.Programs.{every-append, every-left, every-right}
 use Rattle.rules.specs.Types.{Ty}
 use Rattle.rules.specs.Typing.{TypesName, Types, Applies}
 use Rattle.rules.specs.Leftover.{ChecksName, Checks, T-Var1, T-Var2, T-Int, T-App, T-Plus, T-Leaf, T-Node, T-Case, Let-01, IfZero-01}
-use Rattle.rules.specs.Leftover.{ChecksApplied, to-number, to-tree, Line, lines, linesApplied, mostPending, FewAtCase, NoLonger}
+use Rattle.rules.specs.Leftover.{ChecksApplied, to-number, to-tree, Line, lines, linesApplied, FewAtCase, NoLonger}
+use Rattle.rules.specs.Limits.{mostPending}
 use Rattle.rules.specs.OrderChecker.{Split}
 
 -- ---- from Figure 19 to Figure 6

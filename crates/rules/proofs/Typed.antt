@@ -15,7 +15,8 @@ use Rattle.formats.proofs.Programs.{every-left, every-right}
 use Rattle.rules.specs.Types.{Ty, Int, Tree⁺, resultType, arrows, functionType, isInt, isTree, fits}
 use Rattle.rules.specs.Typing.{TypesName, T-Var1, Types, T-Var2, T-Int, T-App, T-Plus, T-Leaf, T-Node, T-Case, Let-01, IfZero-01, Applies, to-number, to-tree}
 use Rattle.rules.specs.Scopes.{scope, inside, entered}
-use Rattle.rules.specs.PassOne.{mostFrameWords, named, typed, bareNumber, wordsTested, roomy, passOver, wordsWithValue, wordsOf, wordsOfArgs}
+use Rattle.rules.specs.PassOne.{named, typed, bareNumber, wordsTested, roomy, passOver, wordsWithValue, wordsOf, wordsOfArgs}
+use Rattle.rules.specs.Limits.{mostFrameWords}
 use Rattle.rules.proofs.Words.{words-call}
 use Rattle.rules.proofs.PassOne.{Passes, PassesArgs, pass-nothing, pass-more, pass-both}
 

@@ -13,7 +13,8 @@ use Rattle.formats.specs.Programs.{Expr, const, var, add, ifZero, letIn, leafOf
 use Rattle.formats.specs.Programs.{Applied, AppliedArgs, Sort, numberValued, treeValued, Signature, arityOf, Function, mostParameters, LawfulFunction}
 use Rattle.rules.specs.Types.{Ty, Int, Tree⁺, resultType, isInt}
 use Rattle.rules.specs.Scopes.{scope, Entry, entry, entered}
-use Rattle.rules.specs.PassOne.{mostFrameWords, bareNumber, wordsTested, roomy, passOver, wordsWithValue, wordsOf, wordsOfArgs}
+use Rattle.rules.specs.PassOne.{bareNumber, wordsTested, roomy, passOver, wordsWithValue, wordsOf, wordsOfArgs}
+use Rattle.rules.specs.Limits.{mostFrameWords}
 use Rattle.rules.proofs.PassOne.{Passes, PassesArgs, pass-inv, pass-add, pass-ifZero, pass-let, pass-leaf, pass-node, pass-case, pass-call, pass-arg}
 
 -- ---- a number needs a word

@@ -6,11 +6,12 @@ use lib.ListN.{length}
 use Rattle.formats.specs.Refusals.{outOfOrder, tooManyPending}
 use Rattle.formats.specs.Programs.{Expr, add, ifZero, letIn, leafOf, nodeOf, caseOf, call, Args, noArgs, arg, size, Signature, Function}
 use Rattle.rules.specs.Types.{Ty, Int, Tree⁺, resultType}
-use Rattle.rules.specs.Leftover.{InOrder, mostPending}
+use Rattle.rules.specs.Leftover.{InOrder}
+use Rattle.rules.specs.Limits.{mostPending}
 
 -- An expression that the walk enters: number and tree names bound, its record, the list, its type.
 pub data Spot : Type 0 where
-  spot : ℕ → ℕ → ℕ → List ℕ → Expr → Ty → Spot
+  spot : (numbers trees at-record : ℕ) (pending : List ℕ) (expr : Expr) (type : Ty) → Spot
 
 -- The walk goes on from list Δ at record r to list Δ′ after the arguments xs, all in order.
 pub data ArgsInOrder (gs : List Signature) (g n : ℕ) : ℕ → List ℕ → Args → List ℕ → Type 0 where

@@ -11,6 +11,7 @@ use lib.ListN.{length}
 use Rattle.formats.specs.Records.{Kind, Const, Var, Add, IfZero, Let, Leaf, Node, Case, Call, nth}
 use Rattle.formats.specs.Programs.{Expr, const, var, add, ifZero, letIn, leafOf, nodeOf, caseOf, call, Args, noArgs, arg, size, Every, Signature}
 use Rattle.rules.specs.Types.{Ty, Int, Tree⁻, Tree⁺, arrow, functionType}
+use Rattle.rules.specs.Limits.{mostPending}
 
 -- The judgement for the tree name that a Case or a Call has.
 pub data ChecksName : List ℕ → ℕ → Ty → List ℕ → Type 0 where
@@ -83,7 +84,7 @@ mutual
 
 -- A record, its kind, the list before it and the list after it.
 pub data Line : Type 0 where
-  line : ℕ → Kind → List ℕ → List ℕ → Line
+  line : (at-record : ℕ) (kind : Kind) (before after : List ℕ) → Line
 
 -- A line for each record: parts in order, before the whole.
 unfoldable mutual
@@ -106,10 +107,6 @@ unfoldable mutual
   linesApplied (to-tree name) = []
 
 -- ---- the limit of 16 pending
-
--- 01, Pass two: "The pending trees are a list of at most 16 numbers".
-abbrev pub mostPending : ℕ
-mostPending = 16
 
 -- At a Case fewer than 16 are pending, the head included.
 abbrev pub FewAtCase : Line → Type 0

@@ -9,3 +9,5 @@ pub mod PassTwo
 pub mod FirstFault
 pub mod Printed
 pub mod OrderChecker
+pub mod Inner
+pub mod Limits

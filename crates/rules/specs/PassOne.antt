@@ -10,13 +10,9 @@ use Rattle.formats.specs.Refusals.{wrongType, notBound, tooManyWords}
 use Rattle.formats.specs.Results.{Result, done, andThen, check}
 use Rattle.formats.specs.Records.{Kind, Const, Var, Add, IfZero, Let, Leaf, Node, Case, Call, nth}
 use Rattle.formats.specs.Programs.{Expr, const, var, add, ifZero, letIn, leafOf, nodeOf, caseOf, call, Args, noArgs, arg, Sort, numberValued, treeValued, Signature, Program, signatures}
-use Rattle.formats.specs.Rows.{readProgram}
 use Rattle.rules.specs.Types.{isInt, isTree, fits}
 use Rattle.rules.specs.Scopes.{Scope, scope, Entry, entry, enteredAll}
-
--- 01, Words: "16 is the most".
-abbrev pub mostFrameWords : ℕ
-mostFrameWords = 16
+use Rattle.rules.specs.Limits.{mostFrameWords}
 
 -- The name is bound.
 unfoldable pub named : Scope → Kind → Bool
@@ -79,11 +75,6 @@ passOver gs (x ∷ xs) = andThen (atEntry gs x) (λ u. passOver gs xs)
 
 unfoldable pub passOne : Program → Result (Unit {0})
 passOne program = passOver (signatures program) (enteredAll (suc (length (program .functions))) (program .functions))
-
--- Flat records: the rows header to prefix form, then pass one. 01, Checking: "The source run needs
--- pass one only".
-unfoldable pub checkOne : List ℕ → Result (Unit {0})
-checkOne s = andThen (readProgram s) passOne
 
 -- ---- where a condition first fails
 

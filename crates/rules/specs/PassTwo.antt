@@ -9,7 +9,7 @@ use Rattle.formats.specs.Results.{Result, done, refusal, andThen, check}
 use Rattle.formats.specs.Programs.{Expr, const, var, add, ifZero, letIn, leafOf, nodeOf, caseOf, call, Args, noArgs, arg, size, Function, Program}
 use Rattle.formats.specs.Rows.{readProgram}
 use Rattle.formats.specs.Blocks.{flatIn}
-use Rattle.rules.specs.Leftover.{mostPending}
+use Rattle.rules.specs.Limits.{mostPending}
 use Rattle.rules.specs.PassOne.{holdsAt, passOne}
 
 -- 01, Pass two: "11 not the head", at the record. What is left when the tree is taken.

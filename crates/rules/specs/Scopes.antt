@@ -10,7 +10,7 @@ use Rattle.rules.specs.Types.{Ty, Int, Tree⁺, resultType}
 
 -- Number names and tree names bound, words above the frame's base, and the type expected.
 pub data Scope : Type 0 where
-  scope : ℕ → ℕ → ℕ → Ty → Scope
+  scope : (numbers trees words : ℕ) (expected : Ty) → Scope
 
 -- 01, Names: "Names count from 0 along the path: parameters first". The numbers given are a frame's
 -- first words.
@@ -64,7 +64,7 @@ pub data PartTyped : Parts → ℕ → Ty → Ty → Type 0 where
 
 -- A record entered: what is known, its number, its kind.
 pub data Entry : Type 0 where
-  entry : Scope → ℕ → Kind → Entry
+  entry : (known : Scope) (at-record : ℕ) (kind : Kind) → Entry
 
 -- The records of the expression at record r, in prefix order.
 unfoldable mutual

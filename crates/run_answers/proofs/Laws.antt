@@ -5,11 +5,12 @@ use mathlib.Core.Path.{_≡_, refl}
 use Rattle.refusal.specs.declared.Refusal.{Refusal}
 use Rattle.refusal.specs.Inner.Numbers.{number}
 use Rattle.refusal.specs.declared.Verdict.the-variants.{Passed, Refused}
-use Rattle.answers.specs.Slots.{Stored}
+use Rattle.answers.specs.Inner.Stores.{Stored}
 use Rattle.answers.proofs.Slots.{reported-ended, reported-refused}
 use Rattle.machine.specs.Inner.Answers.{runAnswer}
 use Rattle.machine.specs.declared.Answer.{Answer}
-use Rattle.run_answers.specs.RunAnswer.{runSlots, signExtended, runSlotsOf, StoresRun, AnswersRun}
+use Rattle.run_answers.specs.RunAnswer.{runSlots, signExtended, runSlotsOf}
+use Rattle.run_answers.specs.Inner.Stores.{StoresRun, AnswersRun}
 
 -- ---- `store`
 

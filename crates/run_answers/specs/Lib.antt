@@ -1,3 +1,4 @@
 -- What a stream run answers.
 pub mod RunAnswer
 pub mod RunCall
+pub mod Inner

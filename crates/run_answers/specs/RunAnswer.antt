@@ -7,7 +7,6 @@ use lib.Dec.{ltb}
 use lib.IntN.{ℤ, pos, negsuc}
 use Rattle.formats.specs.Numbers.{signed32}
 use Rattle.meaning.specs.Running.{Answer}
-use Rattle.answers.specs.Slots.{Stored, Reported}
 
 -- How many slots the answer takes.
 abbrev pub runSlots : ℕ
@@ -32,9 +31,3 @@ pub record Extends (w : ℕ) : Type 0 where
 -- Place 0: the refusal's position, 0 where the run ended. Then units, bytes read, bytes written and the number, sign-extended to 64 bits.
 abbrev pub runSlotsOf : ℕ → Answer → List ℕ
 runSlotsOf position a = position ∷ a .units ∷ a .bytesRead ∷ a .bytesWritten ∷ signExtended (a .number) ∷ []
-
-abbrev pub StoresRun : Answer → ℕ → ℕ → List ℕ → List ℕ → ℕ → Type 0
-StoresRun a number position before after r = Stored (runSlotsOf position a) number before after r
-
-abbrev pub AnswersRun : Answer → List ℕ → List ℕ → ℕ → Type 0
-AnswersRun a before after r = Reported runSlots (λ position. runSlotsOf position a) (a .outcome) before after r

@@ -6,7 +6,7 @@ use native.Mathlib.Omega.{arith}
 use lib.ListN.{getD}
 use Rattle.formats.specs.Numbers.{numberAt}
 use Rattle.formats.specs.Records.{recordAt, recordBytes}
-use Rattle.formats.specs.Rows.{headerIn, sortIn, arityIn, countIn}
+use Rattle.formats.specs.Inner.Fields.{headerIn, sortIn, arityIn, countIn}
 
 -- ---- the header
 

@@ -13,9 +13,12 @@ use Rattle.formats.specs.Refusals.{spaceTooShort}
 use Rattle.formats.specs.Results.{Result, done, refusal, andThen, check}
 use Rattle.formats.specs.Records.{recordAt}
 use Rattle.formats.specs.Tokens.{Tree, firstTree, firstEnd}
-use Rattle.formats.specs.Programs.{Program, mostRecords}
-use Rattle.formats.specs.Rows.{headerIn, readProgram}
-use Rattle.formats.specs.Blocks.{mostBytes, flatIn, programIn}
+use Rattle.formats.specs.Programs.{Program}
+use Rattle.formats.specs.Inner.Limits.{mostRecords}
+use Rattle.formats.specs.Rows.{readProgram}
+use Rattle.formats.specs.Inner.Fields.{headerIn}
+use Rattle.formats.specs.Blocks.{flatIn, programIn}
+use Rattle.formats.specs.Inner.Blocks.{mostBytes}
 use Rattle.formats.proofs.Results.{then-done, then-refused, then-inv, check-inv, passed-is, refused-is}
 use Rattle.formats.proofs.Endings.{ended-by, stopped-by}
 use Rattle.formats.proofs.ProgramFiles.{program-files}

@@ -9,7 +9,7 @@ ghost use Prim.Native.Nat.{_+_};
 ghost use mathlib.Core.Path.{_≡_};
 ghost use lib.ListN.{length};
 ghost use Rattle.formats.specs.Results.{refusal};
-ghost use Rattle.formats.specs.Rows.{headerIn};
+ghost use Rattle.formats.specs.Inner.Fields.{headerIn};
 ghost use Rattle.refusal.specs.Inner.Numbers.{number};
 ghost use Rattle.meaning.specs.SourceRun.{sourceRun};
 ghost use Rattle.source.specs.Inner.SourceAnswers.{sourceAnswer, Named, Room, Evaluates, OfFile, Sourced};

@@ -5,12 +5,13 @@ use mathlib.Core.Path.{_≡_, refl}
 use Rattle.refusal.specs.declared.Refusal.{Refusal}
 use Rattle.refusal.specs.Inner.Numbers.{number}
 use Rattle.refusal.specs.declared.Verdict.the-variants.{Passed, Refused}
-use Rattle.answers.specs.Slots.{Stored}
+use Rattle.answers.specs.Inner.Stores.{Stored}
 use Rattle.answers.proofs.Slots.{reported-ended, reported-refused}
 use Rattle.source.specs.Inner.SourceAnswers.{sourceAnswer}
 use Rattle.source.specs.declared.SourceAnswer.{SourceAnswer}
 use Rattle.run_answers.specs.RunAnswer.{signExtended}
-use Rattle.source_answers.specs.SourceSlots.{sourceSlots, sourceSlotsOf, StoresSource, AnswersSource}
+use Rattle.source_answers.specs.SourceSlots.{sourceSlots, sourceSlotsOf}
+use Rattle.source_answers.specs.Inner.Stores.{StoresSource, AnswersSource}
 
 -- ---- `store`
 

@@ -1,3 +1,4 @@
 -- What a source run answers from C or Rust.
 pub mod SourceSlots
 pub mod SourceCall
+pub mod Inner

@@ -5,7 +5,8 @@ ghost use mathlib.Core.Path.{_≡_};
 ghost use lib.Dec.{leb};
 ghost use lib.ListN.{length};
 ghost use Rattle.source.specs.Inner.SourceAnswers.{sourceAnswer};
-ghost use Rattle.source_answers.specs.SourceSlots.{sourceSlots, StoresSource, AnswersSource};
+ghost use Rattle.source_answers.specs.SourceSlots.{sourceSlots};
+ghost use Rattle.source_answers.specs.Inner.Stores.{StoresSource, AnswersSource};
 
 // How many slots an answer takes.
 const SOURCE_SLOTS: usize = 4;

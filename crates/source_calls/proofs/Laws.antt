@@ -10,7 +10,8 @@ use Rattle.meaning.specs.SourceRun.{SourceRan}
 use Rattle.source.specs.Inner.SourceAnswers.{sourceAnswer, Sourced}
 use Rattle.source.specs.declared.SourceAnswer.{SourceAnswer}
 use Rattle.run_answers.proofs.RunCall.{too-few, enough, not-called, called}
-use Rattle.source_answers.specs.SourceSlots.{sourceSlots, AnswersSource}
+use Rattle.source_answers.specs.SourceSlots.{sourceSlots}
+use Rattle.source_answers.specs.Inner.Stores.{AnswersSource}
 use Rattle.source_answers.specs.SourceCall.{SourceCall}
 
 module _ (due : SourceRan) (output values returns before : List ℕ) (r : ℕ) (room : Bool) (test : room ≡ leb sourceSlots (length before)) where

@@ -9,7 +9,8 @@ use Rattle.formats.specs.Results.{done}
 use Rattle.formats.specs.Tokens.{tokens, tagOf, tagAt, labelAt, branchesAt, treeByTag, treeAt, firstTree}
 use Rattle.formats.specs.Records.{nth}
 use Rattle.formats.specs.Programs.{const, var, add, ifZero, letIn, call, noArgs, arg, prefix, prefixes, size}
-use Rattle.formats.specs.Programs.{numberValued, arityOf, total, signatureOf, Program, mostRecords, Every}
+use Rattle.formats.specs.Programs.{numberValued, arityOf, total, signatureOf, Program, Every}
+use Rattle.formats.specs.Inner.Limits.{mostRecords}
 use Rattle.formats.proofs.ProgramCases.{grow, grow-lawful}
 use Rattle.formats.proofs.Results.{then-inv}
 use Rattle.rules.specs.PassOne.{passOne}

@@ -7,7 +7,8 @@ use native.Mathlib.Omega.{arith}
 use lib.ListN.{length, getD}
 use Rattle.formats.specs.Numbers.{sum32, numberAt}
 use Rattle.formats.specs.Refusals.{tooManyCalls}
-use Rattle.formats.specs.Tokens.{leaf, leafTag, nodeTag, leafBytes, tokens}
+use Rattle.formats.specs.Tokens.{leaf, leafTag, nodeTag, tokens}
+use Rattle.formats.specs.Inner.Trees.{leafBytes}
 use Rattle.meaning.specs.OpenCalls.{Outcome, gives, stops, begins, followedBy}
 use Rattle.stepwise.specs.Inner.Rows.{whole, kept, added, tested, passed, labelled, followed, lastArgument}
 use Rattle.stepwise.specs.Inner.Steps.{State, Turn, begin, finished, opens, ended, recordLimit, mostWaiting}

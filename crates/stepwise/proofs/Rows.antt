@@ -10,7 +10,8 @@ use lib.ListN.{length, getD, take, length-append, List·getD-append}
 use lib.Seq.{getD-append-add}
 use Rattle.formats.specs.Records.{Kind, Add, IfZero, Let, Leaf, Node, Case, Call, nth}
 use Rattle.formats.specs.Programs.{Expr, const, var, add, ifZero, letIn, leafOf, nodeOf, caseOf, call, Args, noArgs, arg, prefix, prefixes, size}
-use Rattle.formats.specs.Programs.{arityOf, total, Function, signatureOf, Program, signatures, mostFunctions, mostNodes, mostRecords}
+use Rattle.formats.specs.Programs.{arityOf, total, Function, signatureOf, Program, signatures, mostFunctions, mostNodes}
+use Rattle.formats.specs.Inner.Limits.{mostRecords}
 use Rattle.formats.proofs.Written.{wrote}
 use Rattle.meaning.specs.OpenCalls.{firstRecord}
 use Rattle.walks.specs.Inner.Standing.{headOf}

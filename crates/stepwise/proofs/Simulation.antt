@@ -15,13 +15,15 @@ use borrow.Author.Tests.{eqb-true, eqb-false, eq-eqb, ne-eqb}
 use lib.Dec.{eqb}
 use lib.ListN.{length}
 use Rattle.formats.specs.Numbers.{sum32}
-use Rattle.formats.specs.Tokens.{Tree, leaf, node, nodeTag, leafBytes, tokens}
+use Rattle.formats.specs.Tokens.{Tree, leaf, node, nodeTag, tokens}
+use Rattle.formats.specs.Inner.Trees.{leafBytes}
 use Rattle.formats.specs.Records.{nth, Case, Call}
 use Rattle.formats.specs.Programs.{Expr, const, var, add, ifZero, letIn, leafOf, nodeOf, caseOf, call, Args, noArgs, arg, size, countArgs}
 use Rattle.formats.specs.Programs.{Sort, numberValued, treeValued, Signature, arityOf, Function, signatureOf, Program, signatures}
 use Rattle.formats.proofs.Records.{nth-mapped}
 use Rattle.formats.proofs.Tokens.{joined-tokens}
-use Rattle.rules.specs.PassOne.{mostFrameWords, wordsOf, wordsOfArgs}
+use Rattle.rules.specs.PassOne.{wordsOf, wordsOfArgs}
+use Rattle.rules.specs.Limits.{mostFrameWords}
 use Rattle.walks.specs.Inner.Standing.{headOf}
 use Rattle.rules.proofs.Words.{words-call, words-least, words-least-args}
 use Rattle.meaning.specs.Levels.{atLevel}

@@ -8,7 +8,8 @@ use borrow.Author.Tests.{eq-eqb, ne-eqb, le-leb, lt-leb, lt-ltb, le-ltb}
 use lib.Dec.{eqb}
 use lib.ListN.{length, getD}
 use Rattle.formats.specs.Numbers.{sum32, numberAt}
-use Rattle.formats.specs.Tokens.{leaf, leafTag, nodeTag, leafBytes, tokens}
+use Rattle.formats.specs.Tokens.{leaf, leafTag, nodeTag, tokens}
+use Rattle.formats.specs.Inner.Trees.{leafBytes}
 use Rattle.stepwise.specs.Inner.Rows.{givesConstant, givesNamed, tagsNode, looksAtTree, callsFunction}
 use Rattle.stepwise.specs.Inner.Rows.{whole, kept, added, tested, passed, labelled, followed, lastArgument}
 use Rattle.stepwise.specs.Inner.Steps.{State, begin, finished, opens, ended, deep, stuck, actionAt, operandAt, moreAt, roleAt, parentAt, slotAt, afterAt}

@@ -15,7 +15,8 @@ use Rattle.formats.specs.Numbers.{Bytes, bytesOf, numberOf, numberAt}
 use Rattle.formats.specs.Buffers.{one-more}
 use Rattle.formats.specs.Buffers.{Lies as BytesLie}
 use Rattle.formats.specs.Results.{done}
-use Rattle.formats.specs.Tokens.{Tree, leaf, node, Labelled, depth, leafTag, nodeTag, labelBytes, leafBytes, tokens, mostDepth, firstTree, firstEnd, endFrom}
+use Rattle.formats.specs.Tokens.{Tree, leaf, node, Labelled, depth, leafTag, nodeTag, labelBytes, tokens, mostDepth, firstTree, firstEnd, endFrom}
+use Rattle.formats.specs.Inner.Trees.{leafBytes}
 use Rattle.formats.proofs.Numbers.{length-bytesOf, number-bytesOf, numberAt-whole}
 use Rattle.formats.proofs.Buffers.{lies-part, lies-within}
 use Rattle.formats.proofs.Buffers.{lies-left as bytes-left, lies-right as bytes-right}

@@ -13,10 +13,12 @@ use Rattle.formats.specs.Numbers.{Bytes}
 use Rattle.formats.specs.Results.{done}
 use Rattle.formats.specs.Tokens.{Tree, firstTree}
 use Rattle.formats.specs.Records.{nth}
-use Rattle.formats.specs.Programs.{size, total, arityOf, Signature, Function, Program, signatures, mostRecords, LawfulFunctions}
+use Rattle.formats.specs.Programs.{size, total, arityOf, Signature, Function, Program, signatures, LawfulFunctions}
+use Rattle.formats.specs.Inner.Limits.{mostRecords}
 use Rattle.rules.specs.Types.{resultType}
 use Rattle.rules.specs.Scopes.{startOf, entered, enteredAll}
-use Rattle.rules.specs.PassOne.{mostFrameWords, wordsOf, passOver, passOne}
+use Rattle.rules.specs.PassOne.{wordsOf, passOver, passOne}
+use Rattle.rules.specs.Limits.{mostFrameWords}
 use Rattle.rules.proofs.PassOne.{pass-left, pass-right}
 use Rattle.rules.proofs.Words.{few-parameters, few-words, words-least}
 use Rattle.meaning.specs.Running.{valueWords, returnWords, mostCalls}

@@ -6,7 +6,8 @@ use native.Mathlib.Omega.{arith}
 use lib.ListN.{length, take}
 use Rattle.formats.specs.Records.{recordBytes}
 use Rattle.formats.specs.Results.{done, verdict}
-use Rattle.formats.specs.Blocks.{mostBytes, flatIn, inRoom}
+use Rattle.formats.specs.Blocks.{flatIn, inRoom}
+use Rattle.formats.specs.Inner.Blocks.{mostBytes}
 use Rattle.formats.proofs.Results.{Value, passed-is, refused-is, then-done, then-refused}
 use Rattle.formats.proofs.Files.{within-room, within-short}
 use Rattle.refusal.specs.Inner.Numbers.{number}

@@ -9,7 +9,7 @@ use Rattle.formats.specs.Inner.CodeColumn.{templateOf}
 use Rattle.formats.specs.Results.{done, onValue}
 use Rattle.formats.specs.Records.{Case, Part, aNumber, aTree, asWhole, underNumber, underTrees, nth, partsOf, nthPart, partCount}
 use Rattle.formats.specs.Programs.{Expr, const, var, add, ifZero, letIn, leafOf, nodeOf, caseOf, call, size, Placed, placedAt, partsAt, Applied, Signature, arityOf}
-use Rattle.formats.specs.Rows.{arityIn, nodeIn}
+use Rattle.formats.specs.Inner.Fields.{arityIn, nodeIn}
 use Rattle.formats.proofs.Results.{done-injective, then-inv}
 use Rattle.formats.proofs.Programs.{some-record}
 use Rattle.records.specs.Inner.Read.{Shape as ShapeRead, listed, partOf, columnOf, described, shapeOf, shaped}

@@ -7,10 +7,10 @@ use native.Mathlib.Nat.{add-zero}
 use native.Mathlib.Omega.{arith}
 use lib.Dec.{eqb}
 use lib.ListN.{length}
-use Rattle.formats.specs.Buffers.{fromLast}
+use Rattle.formats.specs.Inner.Buffers.{fromLast}
 use Rattle.formats.specs.Records.{recordBytes, bytesOfRecord, fields}
 use Rattle.formats.specs.Programs.{Sort, numberValued, treeValued, sortNumber, Function, signatureOf}
-use Rattle.formats.specs.Rows.{arityIn, sortIn}
+use Rattle.formats.specs.Inner.Fields.{arityIn, sortIn}
 use Rattle.formats.specs.Written.{written}
 use Rattle.formats.proofs.Rows.{FieldsRead, function-read}
 use Rattle.meaning.specs.Instructions.{Return, instructionOf}

@@ -13,8 +13,9 @@ use lib.Seq.{getD-set-same, getD-set-other, take-all, drop-drop}
 use Rattle.formats.specs.Numbers.{Bytes}
 use Rattle.formats.specs.Results.{done, verdict}
 use Rattle.formats.specs.Records.{recordBytes, recordAt, flat}
-use Rattle.formats.specs.Programs.{size, Function, Program, mostFunctions, mostRecords}
-use Rattle.formats.specs.Rows.{headerIn}
+use Rattle.formats.specs.Programs.{size, Function, Program, mostFunctions}
+use Rattle.formats.specs.Inner.Limits.{mostRecords}
+use Rattle.formats.specs.Inner.Fields.{headerIn}
 use Rattle.formats.proofs.Results.{Value, passed-is}
 use Rattle.formats.proofs.Rows.{flattens}
 use Rattle.formats.proofs.Written.{written-fits}

@@ -15,7 +15,7 @@ use Rattle.formats.specs.Results.{onValue}
 use Rattle.formats.specs.Records.{recordBytes, Parts as PartsOfKind, partsOf, nthPart, partCount}
 use Rattle.formats.specs.Programs.{Expr, size, Placed, partsAt}
 use Rattle.formats.specs.Programs.{placedAt as placed}
-use Rattle.formats.specs.Rows.{arityIn, nodeIn}
+use Rattle.formats.specs.Inner.Fields.{arityIn, nodeIn}
 use Rattle.formats.proofs.Results.{done-not}
 use Rattle.formats.proofs.Programs.{some-record}
 use Rattle.refusal.specs.declared.Refusal.{Refusal}

@@ -11,7 +11,8 @@ use Rattle.formats.specs.Results.{done}
 use Rattle.formats.specs.Records.{nth}
 use Rattle.formats.specs.Programs.{size, Signature, Function, Program, signatures}
 use Rattle.formats.proofs.Results.{then-inv}
-use Rattle.rules.specs.PassOne.{mostFrameWords, wordsOf, passOne}
+use Rattle.rules.specs.PassOne.{wordsOf, passOne}
+use Rattle.rules.specs.Limits.{mostFrameWords}
 use Rattle.rules.specs.PassTwo.{walk, bothPasses}
 use Rattle.rules.specs.OrderChecker.{firstNode, AdmittedFunction, AdmittedFrom}
 use Rattle.rules.proofs.PassTwo.{walks}

@@ -14,7 +14,8 @@ use Rattle.formats.proofs.Results.{done-not}
 use Rattle.meaning.specs.Instructions.{heldBy}
 use Rattle.meaning.specs.Performing.{Setting, State, start}
 use Rattle.meaning.specs.Running.{Stop, ended, refused, Run, run, unitsOf, outcomeOf, Ran, ranTo, mostCalls, ofCode, streamRun}
-use Rattle.meaning.specs.StreamRun.{writtenBy, Calls}
+use Rattle.meaning.specs.StreamRun.{Calls}
+use Rattle.meaning.specs.Running.{writtenBy}
 use Rattle.meaning.proofs.Calls.{written-ran}
 use Rattle.meaning.proofs.Proper.{proper}
 use Rattle.meaning.proofs.Runs.{runs}

@@ -20,11 +20,14 @@ use Rattle.formats.specs.Programs.{Function, Program}
 use Rattle.meaning.specs.Instructions.{heldBy}
 use Rattle.meaning.specs.Performing.{Setting, State, start, Step, goes}
 use Rattle.meaning.specs.Running.{Stop, ended, Run, outcomeOf, numberReported, Ran, mostCalls, ofCode}
-use Rattle.meaning.specs.StreamRun.{Stops, used-up, returned, stuck, lookedAt, restsOn, writtenBy}
+use Rattle.meaning.specs.StreamRun.{Stops, used-up, returned, stuck, lookedAt, restsOn}
+use Rattle.meaning.specs.Running.{writtenBy}
 use Rattle.meaning.specs.Evaluation.{Value, inCall, Takes, Ends, resultBytes, resultNumber, unitsIn}
 use Rattle.meaning.proofs.Meaning.{meaning}
 use Rattle.meaning.proofs.Runs.{runs}
-use Rattle.translation.specs.Demand3.{Given, runOn, readBy, Whole, Demand3, Demand3Holds}
+use Rattle.translation.specs.Demand3.{Given, runOn, Demand3, Demand3Holds}
+use Rattle.translation.specs.EndedRuns.{Whole}
+use Rattle.meaning.specs.Running.{readBy}
 use Rattle.translation.specs.EveryRun.{WholeAfter, evaluationUnits}
 use Rattle.translation.proofs.AnyInput.{carries-opening}
 use Rattle.translation.proofs.CodeCalls.{StopsFor, it-ended, no-fuel, no-space, no-call, at-fault}

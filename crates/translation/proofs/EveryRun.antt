@@ -22,7 +22,8 @@ use Rattle.meaning.specs.Evaluation.{Value, number, tree, Ends, resultBytes}
 use Rattle.meaning.specs.Meaning.{OfSort}
 use Rattle.meaning.proofs.Meaning.{meaning}
 use Rattle.translation.specs.Demand3.{Given, runOn}
-use Rattle.translation.specs.EveryRun.{RefusedAfter, evaluationUnits, Refused18, Meant, OneForOne, EveryRun, EveryRunHolds}
+use Rattle.translation.specs.EveryRun.{RefusedAfter, evaluationUnits, Refused18, EveryRun, EveryRunHolds}
+use Rattle.translation.specs.EndedRuns.{Meant, OneForOne}
 use Rattle.translation.proofs.AnyInput.{with-tree, with-fault, begins}
 use Rattle.translation.proofs.Bodies.{passes-one}
 use Rattle.translation.proofs.Courses.{Final, refused-there, Course, whole-way, out-of-fuel, out-of-space, whole}

@@ -9,7 +9,7 @@ use Rattle.formats.specs.Refusals.{outOfOrder, tooManyPending}
 use Rattle.formats.specs.Results.{Result, done}
 use Rattle.formats.specs.Programs.{Expr, const, var, add, ifZero, letIn, leafOf, nodeOf, caseOf, call, Args, noArgs, arg, size}
 use Rattle.formats.proofs.Results.{done-injective, done-not, then-inv, check-inv}
-use Rattle.rules.specs.Leftover.{mostPending}
+use Rattle.rules.specs.Limits.{mostPending}
 use Rattle.rules.specs.PassOne.{holdsAt}
 use Rattle.rules.specs.PassTwo.{takeHead, sameNames, equalBranches, walk, walkArgs}
 use Rattle.rules.proofs.PassTwo.{same-names}

@@ -21,7 +21,8 @@ use Rattle.formats.specs.Programs.{Sort, numberValued, treeValued, Signature, F
 use Rattle.formats.proofs.Records.{nth-mapped}
 use Rattle.formats.proofs.Results.{done-injective, then-inv}
 use Rattle.formats.proofs.Tokens.{joined-tokens}
-use Rattle.rules.specs.PassOne.{mostFrameWords, wordsOf, wordsOfArgs, wordsWithValue}
+use Rattle.rules.specs.PassOne.{wordsOf, wordsOfArgs, wordsWithValue}
+use Rattle.rules.specs.Limits.{mostFrameWords}
 use Rattle.rules.specs.PassTwo.{walk, walkArgs}
 use Rattle.rules.proofs.Words.{words-call, words-least, words-least-args}
 use Rattle.meaning.specs.Instructions.{Operation, Jump, Call}

@@ -25,7 +25,8 @@ use Rattle.formats.proofs.Programs.{every-left, every-right}
 use Rattle.formats.proofs.Results.{done-not}
 use Rattle.rules.specs.Types.{Ty, Int, Tree⁺}
 use Rattle.rules.specs.Scopes.{scope, inside, startOf, Entry, entry, entered, enteredArgs, enteredAll}
-use Rattle.rules.specs.PassOne.{mostFrameWords, bareNumber, wordsTested, roomy, passOver, passOne, wordsWithValue, wordsOf, wordsOfArgs}
+use Rattle.rules.specs.PassOne.{bareNumber, wordsTested, roomy, passOver, passOne, wordsWithValue, wordsOf, wordsOfArgs}
+use Rattle.rules.specs.Limits.{mostFrameWords}
 use Rattle.rules.specs.PassOne.{FirstFails, here, later, name-not-bound, wrong-type, too-many-words}
 use Rattle.rules.specs.OrderChecker.{firstNode}
 use Rattle.rules.proofs.PassOne.{Passes, PassesArgs, pass-one, pass-nothing, pass-more, pass-left, pass-right, pass-both}

@@ -15,7 +15,8 @@ use native.Mathlib.Omega.{arith}
 use Rattle.formats.specs.Records.{nth}
 use Rattle.formats.specs.Programs.{Expr, call as callOf, Args, countArgs, Sort, numberValued, treeValued, Function, signatureOf, Program, signatures}
 use Rattle.formats.proofs.Records.{nth-mapped}
-use Rattle.rules.specs.PassOne.{mostFrameWords, wordsWithValue, wordsOf, wordsOfArgs}
+use Rattle.rules.specs.PassOne.{wordsWithValue, wordsOf, wordsOfArgs}
+use Rattle.rules.specs.Limits.{mostFrameWords}
 use Rattle.rules.proofs.Words.{words-call}
 use Rattle.meaning.specs.Instructions.{Operation, Push, Get, Add, Ifnot, Jump, Slide, Drop, LeafTag, NodeTag}
 use Rattle.meaning.specs.Instructions.{WriteNumber, ReadTag, ReadNumber, Call, Return}

@@ -11,7 +11,8 @@ use Rattle.formats.specs.Results.{refusal}
 use Rattle.formats.specs.Records.{Ranged, nth}
 use Rattle.formats.specs.Programs.{Every, Function, Program, signatures, Signature, Lawful}
 use Rattle.rules.specs.Scopes.{Entry, entry, enteredAll}
-use Rattle.rules.specs.PassOne.{mostFrameWords, named, typed, passOne}
+use Rattle.rules.specs.PassOne.{named, typed, passOne}
+use Rattle.rules.specs.Limits.{mostFrameWords}
 use Rattle.rules.specs.OrderChecker.{firstNode}
 use Rattle.meaning.specs.Instructions.{Operation, Push, Get, Add, Ifnot, Jump, Slide, Drop, LeafTag, NodeTag, WriteNumber, ReadTag, ReadNumber, Call, instructionOf, mostInstructions}
 use Rattle.meaning.specs.Performing.{Setting, State, goes, operate}

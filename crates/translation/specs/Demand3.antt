@@ -15,16 +15,18 @@ use Prim.Native.Nat.{ℕ, _+_, _*_, _≤_}
 use mathlib.Core.List.{List, _++_}
 use mathlib.Core.Logic.{_≢_}
 use mathlib.Core.Path.{_≡_}
-use lib.ListN.{length, take, drop}
+use lib.ListN.{length}
 use Rattle.formats.specs.Buffers.{Opens}
 use Rattle.formats.specs.Results.{done}
 use Rattle.formats.specs.Tokens.{Tree, Labelled, tokens}
 use Rattle.formats.specs.Programs.{Program, Lawful}
 use Rattle.rules.specs.PassTwo.{bothPasses}
 use Rattle.meaning.specs.Running.{Ran, valueWords, returnWords, mostCalls, streamRun}
-use Rattle.meaning.specs.StreamRun.{writtenBy, untouchedBy}
-use Rattle.meaning.specs.Evaluation.{Value, Ends, resultBytes, resultNumber}
+use Rattle.meaning.specs.Running.{writtenBy, untouchedBy}
+use Rattle.meaning.specs.Evaluation.{Value, Ends, resultBytes}
 use Rattle.translation.specs.Templates.{codeOf}
+use Rattle.meaning.specs.Running.{readBy}
+use Rattle.translation.specs.EndedRuns.{Whole}
 
 -- "any checked program": one within the limits of "Program file" that both passes accept.
 pub record Checked (program : Program) : Type 0 where
@@ -45,23 +47,6 @@ pub record Given : Type 0 where
 -- The stream run of its code.
 abbrev pub runOn : Given → (input output : List ℕ) (fuel : ℕ) → Ran
 runOn given input output fuel = streamRun (codeOf (given .program) ++ given .after-code) input output fuel (given .values) (given .returns)
-
--- The bytes that a run has read of its input.
-abbrev pub readBy : Ran → List ℕ → List ℕ
-readBy ran input = take (ran .answer .bytesRead) input
-
--- What a run gives where the fuel suffices: of a tree t, a value v and the output at the start.
-pub record Whole (t : Tree) (v : Value) (output : List ℕ) (ran : Ran) : Type 0 where
-  -- "the run ends unrefused,"
-  pub unrefused : ran .answer .outcome ≡ done tt
-  -- "the whole tree has been read, nothing past it,"
-  pub whole-read : ran .answer .bytesRead ≡ length (tokens t)
-  -- "and the whole result written,"
-  pub whole-written : ran .answer .bytesWritten ≡ length (resultBytes v)
-  pub result : writtenBy ran ≡ resultBytes v
-  pub untouched : drop (length (resultBytes v)) (ran .output) ≡ drop (length (resultBytes v)) output
-  -- "or the same number given and nothing written." (A number's `resultBytes` are none; a tree's `resultNumber` is 0.)
-  pub same-number : ran .answer .number ≡ resultNumber v
 
 -- "When any checked program is run over the stream on any tree's tokens, with anything after them, any fuel and any output length:" `run` is the run of
 -- the program's code on an input, with an output and a fuel.

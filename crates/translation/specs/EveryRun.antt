@@ -6,16 +6,16 @@ use mathlib.Core.Option.{some}
 use mathlib.Core.Path.{_≡_}
 use lib.ListN.{length}
 use Rattle.formats.specs.Numbers.{Bytes}
-use Rattle.formats.specs.Buffers.{Opens}
 use Rattle.formats.specs.Records.{nth}
 use Rattle.formats.specs.Refusals.{fuelUsedUp, outputFull, tooManyCalls, cannotPerform}
 use Rattle.formats.specs.Results.{done, refusal}
 use Rattle.formats.specs.Tokens.{Tree, Labelled, tokens}
 use Rattle.formats.specs.Programs.{treeValued, Function, Program}
 use Rattle.meaning.specs.Running.{Ran, mostCalls}
-use Rattle.meaning.specs.StreamRun.{writtenBy}
 use Rattle.meaning.specs.Evaluation.{Value, Ends, resultBytes, unitsIn}
-use Rattle.translation.specs.Demand3.{Given, runOn, readBy, Whole}
+use Rattle.translation.specs.Demand3.{Given, runOn}
+use Rattle.translation.specs.EndedRuns.{Whole}
+use Rattle.translation.specs.EndedRuns.{Meant, OneForOne}
 
 -- A run that is refused for this reason, at the bytes read, after so many units.
 pub record RefusedAfter (units why : ℕ) (ran : Ran) : Type 0 where
@@ -47,25 +47,6 @@ pub record Refused18 (t : Tree) (run : (input output : List ℕ) (fuel : ℕ) �
       → fuel ≤ units
       → space ≤ length output
       → RefusedAfter fuel fuelUsedUp (run (tokens t ++ rest) output fuel)
-
--- An ended run was one on a tree, whose evaluation ends, and gave what that means.
-pub record Meant (program : Program) (input output : List ℕ) (ran : Ran) : Type 0 where
-  pub on-tree : Tree
-  pub labelled : Labelled on-tree
-  pub opens : Opens (tokens on-tree) input
-  pub expressions : ℕ
-  pub value : Value
-  pub ends : Ends program on-tree mostCalls expressions value
-  pub whole : Whole on-tree value output ran
-
--- The bytes read are the tokens of one tree, and the bytes written are the tokens of one tree.
-pub record OneForOne (input : List ℕ) (ran : Ran) : Type 0 where
-  pub tree-read : Tree
-  pub read-labelled : Labelled tree-read
-  pub read-is : readBy ran input ≡ tokens tree-read
-  pub tree-written : Tree
-  pub written-labelled : Labelled tree-written
-  pub written-is : writtenBy ran ≡ tokens tree-written
 
 -- The runs of a checked program's code, each with its input, output and fuel.
 pub record EveryRun (program : Program) (run : (input output : List ℕ) (fuel : ℕ) → Ran) : Type 0 where

@@ -7,3 +7,4 @@ pub mod Calls
 pub mod Listing
 pub mod ListingText
 pub mod ThisCall
+pub mod EndedRuns

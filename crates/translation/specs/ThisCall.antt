@@ -18,8 +18,9 @@ use Rattle.formats.specs.Programs.{treeValued, Function, Program}
 use Rattle.meaning.specs.Instructions.{instructionBytes, mostInstructions}
 use Rattle.meaning.specs.Running.{Answer, Ran, valueWords, returnWords, mostCalls}
 use Rattle.meaning.specs.Evaluation.{Value, Ends, resultBytes}
-use Rattle.translation.specs.Demand3.{Checked, Whole}
-use Rattle.translation.specs.EveryRun.{Meant, OneForOne}
+use Rattle.translation.specs.Demand3.{Checked}
+use Rattle.translation.specs.EndedRuns.{Whole}
+use Rattle.translation.specs.EndedRuns.{Meant, OneForOne}
 use Rattle.translation.specs.Calls.{ProgramRan, runFile, Ready}
 
 -- Answer and output at exit, as what a run gives.

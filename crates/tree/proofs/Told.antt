@@ -9,7 +9,8 @@ use native.Mathlib.Omega.{arith}
 use borrow.Author.Tests.{le-leb, lt-leb}
 use lib.ListN.{length, getD}
 use Rattle.formats.specs.Refusals.{inputEnded, notATag, tooDeep}
-use Rattle.formats.specs.Tokens.{leafTag, nodeTag, leafBytes, Tag, noByte, aLeaf, aNode, other, tagAt, endAt}
+use Rattle.formats.specs.Tokens.{leafTag, nodeTag, Tag, noByte, aLeaf, aNode, other, tagAt}
+use Rattle.formats.specs.Inner.Trees.{leafBytes, endAt}
 use Rattle.formats.specs.Results.{Result, done, refusal}
 use Rattle.formats.proofs.Tokens.{Look, past, at-leaf, at-node, at-other, tag-is}
 use Rattle.formats.proofs.Endings.{end-past, end-cut, end-leaf, end-other, end-deep, end-left, end-right, end-after}

@@ -2,7 +2,8 @@
 // its position.
 use refusal::Refusal;
 ghost use mathlib.Core.Path.{_≡_};
-ghost use Rattle.formats.specs.Tokens.{endAt, firstEnd, firstTree, ownBytes};
+ghost use Rattle.formats.specs.Tokens.{firstEnd, firstTree, ownBytes};
+ghost use Rattle.formats.specs.Inner.Trees.{endAt};
 ghost use Rattle.tree.specs.Inner.TreeResults.{treeResult};
 ghost use Rattle.tree.specs.Inner.EndNumbers.{InBuffer, refusalAt, endReported};
 

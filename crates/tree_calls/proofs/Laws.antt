@@ -8,7 +8,8 @@ use Rattle.refusal.specs.Inner.Numbers.{number}
 use Rattle.tree.specs.Inner.TreeResults.{treeResult}
 use Rattle.tree.specs.declared.TreeAnswer.{TreeAnswer}
 use Rattle.tree.specs.declared.TreeAnswer.the-variants.{Tree, Refused}
-use Rattle.answers.specs.Answer.{Stores, Answers}
+use Rattle.answers.specs.Answer.{Answers}
+use Rattle.answers.specs.Inner.Stores.{Stores}
 use Rattle.answers.proofs.Laws.{all-done, a-refusal}
 
 module _ (due : Result ℕ) (found : TreeAnswer) (reported : treeResult found ≡ due) (before after : List ℕ) (r : ℕ) where

@@ -10,7 +10,8 @@ use Rattle.formats.specs.Numbers.{Bytes}
 use Rattle.formats.specs.Results.{Result, done}
 use Rattle.formats.specs.Records.{recordAt}
 use Rattle.formats.specs.Programs.{size, total, Function, signatureOf, Program, signatures}
-use Rattle.formats.specs.Rows.{headerIn, functionIn, readProgram}
+use Rattle.formats.specs.Rows.{readProgram}
+use Rattle.formats.specs.Inner.Fields.{headerIn, functionIn}
 use Rattle.rules.specs.OrderChecker.{firstNode}
 use Rattle.walks.specs.Inner.Limits.{parametersOfAny}
 use Rattle.walks.specs.Inner.Standing.{Known, Holds, Bodies, no-more, one-more}

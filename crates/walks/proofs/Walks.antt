@@ -12,7 +12,8 @@ use Rattle.formats.specs.Results.{Result, done, refusal, andThen, each}
 use Rattle.formats.specs.Records.{Kind, Add, IfZero, Let, Leaf, Node, Case, Call, recordAt, fieldsOf, nth, partsOf, partCount}
 use Rattle.formats.specs.Programs.{Expr, const, var, add, ifZero, letIn, leafOf, nodeOf, caseOf, call, Args, noArgs, arg, prefix, prefixes, size, Placed, placedAt, argsAt, partsAt}
 use Rattle.formats.specs.Programs.{countArgs, Applied, AppliedArgs, Signature, arityOf, total, Function, signatureOf, Program, signatures, nodes, mostNodes, mostParameters, InRange, Every, LawfulFunctions}
-use Rattle.formats.specs.Rows.{headerIn, functionIn, arityIn, nodeIn, nodeAt, headerRow, functionRow, nodeRow, prefixRow, readProgram}
+use Rattle.formats.specs.Rows.{nodeAt, headerRow, functionRow, nodeRow, prefixRow, readProgram}
+use Rattle.formats.specs.Inner.Fields.{headerIn, functionIn, arityIn, nodeIn}
 use Rattle.formats.specs.ProgramFiles.{Stands, one-more}
 use Rattle.formats.proofs.Results.{done-injective, then-inv, each-inv, each-nth, each-length}
 use Rattle.formats.proofs.Records.{node-done}

@@ -5,7 +5,7 @@ use mathlib.Core.List.{_∷_}
 use mathlib.Core.Path.{_≡_}
 use lib.Dec.{eqb}
 use lib.ListN.{length, set}
-use Rattle.formats.specs.Buffers.{fromLast}
+use Rattle.formats.specs.Inner.Buffers.{fromLast}
 use Rattle.formats.specs.Records.{Part, aNumber, aTree, asWhole, underNumber, underTrees}
 use Rattle.formats.specs.Programs.{Sort, numberValued, treeValued}
 use Rattle.translation.specs.Templates.{Words}

@@ -6,7 +6,7 @@ use lib.Dec.{leb}
 use lib.ListN.{length}
 use Rattle.formats.specs.Refusals.{spaceTooShort}
 use Rattle.formats.specs.Results.{Result, done, refusal, andThen, verdict, check}
-use Rattle.formats.specs.Programs.{mostRecords}
+use Rattle.formats.specs.Inner.Limits.{mostRecords}
 use Rattle.formats.specs.Rows.{readProgram}
 use Rattle.refusal.specs.Inner.Verdicts.{verdictResult}
 use Rattle.refusal.specs.declared.Verdict.{Verdict}

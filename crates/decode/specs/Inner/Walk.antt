@@ -6,8 +6,10 @@ use mathlib.Core.Path.{_≡_}
 use lib.ListN.{length, getD, take}
 use Rattle.formats.specs.Results.{done, verdict}
 use Rattle.formats.specs.Records.{Kind, Part, aNumber, aTree, asWhole, underNumber, underTrees, partsOf, partCount}
-use Rattle.formats.specs.Programs.{Expr, size, Placed, Function, Program, mostRecords}
-use Rattle.formats.specs.Rows.{headerIn, arityIn, readProgram}
+use Rattle.formats.specs.Programs.{Expr, size, Placed, Function, Program}
+use Rattle.formats.specs.Inner.Limits.{mostRecords}
+use Rattle.formats.specs.Rows.{readProgram}
+use Rattle.formats.specs.Inner.Fields.{headerIn, arityIn}
 use Rattle.formats.specs.Written.{written}
 use Rattle.records.specs.Inner.Read.{meant, listed}
 use Rattle.records.specs.declared.Record.{Record}

@@ -4,7 +4,7 @@ use mathlib.Core.Bool.{Bool, true, false}
 use mathlib.Core.List.{List, [], _∷_, map}
 use Rattle.formats.specs.Inner.CodeColumn.{Item, pushNumber, getName, addTwo, ifnotLast, jumpAfter, endName, writeLeafTag, writeNodeTag, writeNumber, readTagLast, readNumber, callFunction}
 use Rattle.formats.specs.Records.{Record, fields, recordBytes, bytesOfRecord}
-use Rattle.formats.specs.Rows.{arityIn}
+use Rattle.formats.specs.Inner.Fields.{arityIn}
 use Rattle.formats.specs.Written.{written}
 use Rattle.meaning.specs.Instructions.{Operation, Push, Get, Add, Ifnot, Jump, LeafTag, NodeTag, WriteNumber, ReadTag, ReadNumber, Call, instructionOf}
 use Rattle.translation.specs.Templates.{wordOf, endOf}

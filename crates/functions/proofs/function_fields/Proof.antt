@@ -2,7 +2,7 @@
 use Prim.Native.Nat.{_-_}
 use Rattle.formats.specs.Results.{verdict, each}
 use Rattle.formats.proofs.Results.{Passing}
-use Rattle.formats.specs.Rows.{functionIn}
+use Rattle.formats.specs.Inner.Fields.{functionIn}
 use Rattle.functions.proofs.Functions.{fields-checked}
 use borrow.Author.Needs.{needs}
 use Rattle.functions.proofs.function_fields.Statement.{statement}

@@ -1,7 +1,7 @@
 -- The node counts of function records, as the row "functions" sums them.
 use Prim.Native.Nat.{ℕ, zero, suc, _+_}
 use mathlib.Core.List.{List}
-use Rattle.formats.specs.Rows.{countIn}
+use Rattle.formats.specs.Inner.Fields.{countIn}
 
 -- The sum of so many counts, from function j on.
 unfoldable pub countsFrom : ℕ → List ℕ → ℕ → ℕ

@@ -1,7 +1,8 @@
 -- `nodes::node_row` meets its contract: the nodes below record k have passed, so those from k on say what all do. What is left of them falls.
 use Prim.Native.Nat.{_-_}
 use Rattle.formats.specs.Results.{verdict}
-use Rattle.formats.specs.Rows.{headerIn, nodeIn, nodeRow}
+use Rattle.formats.specs.Rows.{nodeRow}
+use Rattle.formats.specs.Inner.Fields.{headerIn, nodeIn}
 use Rattle.formats.proofs.Results.{Passing}
 use Rattle.nodes.proofs.Nodes.{nodes-checked}
 use borrow.Author.Needs.{needs}

@@ -6,7 +6,8 @@ use mathlib.Core.Path.{_≡_}
 use Rattle.formats.specs.Results.{Result, done, refusal, onValue}
 use Rattle.formats.specs.Records.{Kind, below}
 use Rattle.formats.specs.Programs.{Expr, size, Placed, Signature, Program}
-use Rattle.formats.specs.Rows.{headerIn, functionIn, readProgram}
+use Rattle.formats.specs.Rows.{readProgram}
+use Rattle.formats.specs.Inner.Fields.{headerIn, functionIn}
 use Rattle.refusal.specs.Inner.Numbers.{number}
 use Rattle.refusal.specs.Inner.Verdicts.{verdictResult}
 use Rattle.refusal.specs.declared.Verdict.{Verdict}

@@ -5,10 +5,10 @@ use mathlib.Core.List.{List, [], _∷_}
 use mathlib.Core.Path.{_≡_}
 use lib.Dec.{leb, eqb}
 use lib.ListN.{length, replicate, set}
-use Rattle.formats.specs.Buffers.{fromLast}
+use Rattle.formats.specs.Inner.Buffers.{fromLast}
 use Rattle.formats.specs.Refusals.{outOfOrder}
 use Rattle.formats.specs.Results.{check}
-use Rattle.rules.specs.Leftover.{mostPending}
+use Rattle.rules.specs.Limits.{mostPending}
 use Rattle.rules.specs.PassTwo.{takeHead}
 use Rattle.pending.specs.declared.Pending.{Pending}
 use Rattle.pending.specs.declared.Taken.{Taken}

@@ -7,7 +7,8 @@ use Rattle.formats.specs.Refusals.{prefixForm}
 use Rattle.formats.specs.Results.{Result, done, verdict, check, each}
 use Rattle.formats.specs.Records.{Kind}
 use Rattle.formats.specs.Programs.{Signature}
-use Rattle.formats.specs.Rows.{headerIn, arityIn, functionRow, nodeIn, nodeRow, exprsOf, exactlyOne, prefixRow}
+use Rattle.formats.specs.Rows.{functionRow, nodeRow, exprsOf, exactlyOne, prefixRow}
+use Rattle.formats.specs.Inner.Fields.{headerIn, arityIn, nodeIn}
 
 -- The number parameters of each function are those that its record says.
 abbrev pub Arities : List ℕ → (ℕ → ℕ) → Type 0

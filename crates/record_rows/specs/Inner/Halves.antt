@@ -3,7 +3,7 @@ use Prim.Native.Nat.{ℕ, _+_, _%_}
 use mathlib.Core.List.{List}
 use lib.ListN.{take}
 use Rattle.formats.specs.Records.{Kind, Const, Var, Add, IfZero, Let, Leaf, Node, Case, Call}
-use Rattle.formats.specs.Rows.{headerIn, arityIn}
+use Rattle.formats.specs.Inner.Fields.{headerIn, arityIn}
 use Rattle.functions.specs.Inner.Counts.{countsFrom}
 use Rattle.stepwise.specs.Inner.Rows.{actionOf, codeOf, moreOf}
 use Rattle.record_rows.specs.declared.Own.{Own}

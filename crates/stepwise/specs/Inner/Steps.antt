@@ -11,7 +11,8 @@ use lib.Dec.{eqb, leb, ltb}
 use lib.ListN.{length, getD, set, drop}
 use Rattle.formats.specs.Numbers.{sum32, numberAt}
 use Rattle.formats.specs.Results.{done}
-use Rattle.formats.specs.Tokens.{leaf, leafTag, nodeTag, leafBytes, tokens, firstEnd}
+use Rattle.formats.specs.Tokens.{leaf, leafTag, nodeTag, tokens, firstEnd}
+use Rattle.formats.specs.Inner.Trees.{leafBytes}
 use Rattle.stepwise.specs.Inner.Rows.{givesConstant, givesNamed, tagsNode, looksAtTree, callsFunction}
 use Rattle.stepwise.specs.Inner.Rows.{rowWords, whole, kept, added, tested, passed, labelled, followed}
 

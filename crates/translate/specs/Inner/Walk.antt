@@ -8,7 +8,7 @@ use Rattle.formats.specs.Inner.CodeColumn.{Template}
 use Rattle.formats.specs.Records.{Kind, recordBytes, partsOf, nthPart}
 use Rattle.formats.specs.Results.{done, verdict}
 use Rattle.formats.specs.Programs.{Expr, size, Placed, Function, signatureOf, Program}
-use Rattle.formats.specs.Rows.{arityIn, functionIn}
+use Rattle.formats.specs.Inner.Fields.{arityIn, functionIn}
 use Rattle.records.specs.Inner.Read.{listed, columnOf}
 use Rattle.rules.specs.Types.{resultType}
 use Rattle.rules.specs.Scopes.{scope, entered}

@@ -1,7 +1,8 @@
 -- How large the counts of a walk may get. Nothing is refused at these bounds: they follow from the
 -- number of records, and say that no sum leaves its width.
 use Prim.Native.Nat.{ℕ, _+_, _*_}
-use Rattle.formats.specs.Programs.{mostFunctions, mostRecords}
+use Rattle.formats.specs.Programs.{mostFunctions}
+use Rattle.formats.specs.Inner.Limits.{mostRecords}
 
 -- The most number parameters of any function: function 0 has none, the others have these at most
 -- (formats/specs/Programs: `mostParameters`).

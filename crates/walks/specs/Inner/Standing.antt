@@ -5,7 +5,7 @@ use mathlib.Core.Path.{_≡_}
 use Rattle.formats.specs.Results.{Result, done, andThen, each}
 use Rattle.formats.specs.Records.{Kind, Const, Var, Add, IfZero, Let, Leaf, Node, Case, Call}
 use Rattle.formats.specs.Programs.{Expr, const, var, add, ifZero, letIn, leafOf, nodeOf, caseOf, call, prefix, size, Placed, placedAt, Applied, Every, InRange, Signature, signatureOf, Function, arityOf}
-use Rattle.formats.specs.Rows.{headerIn, functionIn}
+use Rattle.formats.specs.Inner.Fields.{headerIn, functionIn}
 use Rattle.formats.specs.ProgramFiles.{Stands}
 use Rattle.rules.specs.Scopes.{Scope, inside, entered}
 use Rattle.rules.specs.PassOne.{passOver}

@@ -5,8 +5,9 @@ use mathlib.Core.Path.{_≡_}
 use lib.ListN.{length}
 use Rattle.formats.specs.Results.{done}
 use Rattle.formats.specs.Records.{Kind, Parts, partsOf, partCount}
-use Rattle.formats.specs.Programs.{Expr, size, Placed, Signature, Function, signatureOf, mostRecords}
-use Rattle.formats.specs.Rows.{arityIn, functionIn}
+use Rattle.formats.specs.Programs.{Expr, size, Placed, Signature, Function, signatureOf}
+use Rattle.formats.specs.Inner.Limits.{mostRecords}
+use Rattle.formats.specs.Inner.Fields.{arityIn, functionIn}
 use Rattle.walks.specs.Inner.Limits.{parametersOfAny}
 use Rattle.walks.specs.Inner.Standing.{Known, Holds, Row}
 

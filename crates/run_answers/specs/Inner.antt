@@ -1,0 +1,2 @@
+-- What the functions of this crate promise each other and their callers in Rattle. Nobody need believe it.
+pub mod Stores

@@ -1,0 +1,14 @@
+-- What the functions that store a source run's answer promise.
+use Prim.Native.Nat.{ℕ}
+use mathlib.Core.List.{List}
+use Rattle.meaning.specs.SourceRun.{SourceAnswer}
+use Rattle.answers.specs.Slots.{Reported}
+use Rattle.answers.specs.Inner.Stores.{Stored}
+use Rattle.source_answers.specs.SourceSlots.{sourceSlotsOf, sourceSlots}
+
+-- What is stored, and what is reported: as of a stream run, with these slots.
+abbrev pub StoresSource : SourceAnswer → ℕ → ℕ → List ℕ → List ℕ → ℕ → Type 0
+StoresSource a number position before after r = Stored (sourceSlotsOf position a) number before after r
+
+abbrev pub AnswersSource : SourceAnswer → List ℕ → List ℕ → ℕ → Type 0
+AnswersSource a before after r = Reported sourceSlots (λ position. sourceSlotsOf position a) (a .outcome) before after r

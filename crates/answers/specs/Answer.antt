@@ -1,4 +1,5 @@
--- What a call answers with so many bytes, or a refusal: a number, and two slots of a lent answer array.
+-- What a call answers with so many bytes, or a refusal: a number, and two slots of a lent answer
+-- array.
 use Prim.Native.Nat.{ℕ}
 use mathlib.Core.List.{List, [], _∷_}
 use Rattle.formats.specs.Results.{Result, done, refusal, verdict}

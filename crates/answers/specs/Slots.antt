@@ -1,4 +1,5 @@
--- What every call answers: a number, and a row of numbers in the first slots of a lent answer array.
+-- What every call answers: a number, and a row of numbers in the first slots of a lent answer
+-- array.
 use Prim.Native.Nat.{ℕ}
 use mathlib.Core.Bool.{true, false}
 use mathlib.Core.List.{List}
@@ -18,7 +19,8 @@ unfoldable pub positionOf : Result (Unit {0}) → ℕ
 positionOf (done u) = 0
 positionOf (refusal number position) = position
 
--- An answer of so many slots, with the row that it has for a refusal's position, and what the slots then hold.
+-- An answer of so many slots, with the row that it has for a refusal's position, and what the slots
+-- then hold.
 pub record Reported (count : ℕ) (row : ℕ → List ℕ) (outcome : Result (Unit {0})) (before after : List ℕ) (r : ℕ) : Type 0 where
   pub number : r ≡ elim (ltb (length before) count) [ true ↦ spaceTooShort | false ↦ refusalOf outcome ]
   pub slots : after ≡ written before 0 (row (positionOf outcome))

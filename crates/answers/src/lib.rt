@@ -1,4 +1,5 @@
-// The answer of a call from C or Rust: a number, and the first slots of an array that the caller lends.
+// The answer of a call from C or Rust: a number, and the first slots of an array that the caller
+// lends.
 use refusal::Filled;
 use refusal::Refusal;
 use refusal::Verdict;
@@ -22,10 +23,11 @@ pub fn has_room(answer: &[u64]) -> bool
     ANSWER_SLOTS <= answer.len()
 }
 
-// Stores a row of numbers in the answer's first slots, and gives `number`. With fewer slots: 13, and the
-// answer is untouched.
+// Stores a row of numbers in the answer's first slots, and gives `number`. With fewer slots: 13,
+// and the answer is untouched.
 pub fn store_row(answer: &mut [u64], row: &[u64], number: u32) -> u32
-    ensures { λ r. ⌜ Stored (now (row .entry)) number (now (answer .entry)) (now (answer .exit)) r ⌝ }
+    ensures { λ r. ⌜ Stored (now (row .entry)) number (now (answer .entry)) (now (answer .exit))
+        r ⌝ }
 {
     let n = row.len();
     if answer.len() < n {
@@ -59,7 +61,8 @@ pub fn report(filled: Filled, answer: &mut [u64]) -> u32
 
 // The answer of a check: it has no bytes to report of.
 pub fn report_verdict(verdict: Verdict, answer: &mut [u64]) -> u32
-    ensures { λ r. ⌜ Answers (onValue (λ u. 0) (verdictResult verdict)) (now (answer .entry)) (now (answer .exit)) r ⌝ }
+    ensures { λ r. ⌜ Answers (onValue (λ u. 0) (verdictResult verdict)) (now (answer .entry))
+        (now (answer .exit)) r ⌝ }
 {
     match verdict {
         Verdict::Passed => store(answer, 0, 0, 0),

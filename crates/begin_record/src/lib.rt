@@ -28,14 +28,17 @@ const LEAF_BYTES: usize = 5;
 
 // The number of a Const.
 fn constant(table: &[u16], r: u16) -> u32
-    ensures { λ x. ⌜ x ≡ operandAt (now (table .entry)) r + 65536 * moreAt (now (table .entry)) r ⌝ }
+    ensures { λ x. ⌜ x ≡ operandAt (now (table .entry)) r + 65536 * moreAt (now (table .entry))
+        r ⌝ }
 {
     (frames::field(table, r, OPERAND) as u32) + 65536 * (frames::field(table, r, MORE) as u32)
 }
 
 // Puts the label that begins at an offset on the word that the stage's Case names it by.
 fn put_label(table: &[u16], input: &[u8], at: usize, values: &mut [u32], s: Stage)
-    ensures { λ _. ⌜ now (values .exit) ≡ set (now (values .entry)) (frameWords * s .calls + operandAt (now (table .entry)) (s .node)) (numberAt 4 (now (input .entry)) at) ⌝ }
+    ensures { λ _. ⌜ now (values .exit) ≡ set (now (values .entry))
+        (frameWords * s .calls + operandAt (now (table .entry)) (s .node))
+        (numberAt 4 (now (input .entry)) at) ⌝ }
 {
     let label = words32::read32(input, at);
     frames::put_frame(
@@ -46,10 +49,12 @@ fn put_label(table: &[u16], input: &[u8], at: usize, values: &mut [u32], s: Stag
     )
 }
 
-// A Case looks at its tree: a label is put on its word, and the leaf part begins; or the node part does.
+// A Case looks at its tree: a label is put on its word, and the leaf part begins; or the node part
+// does.
 fn look(table: &[u16], input: &[u8], values: &mut [u32], s: Stage) -> Stage
     requires { ⌜ s .node < recordLimit ⌝ }
-    ensures { λ r. ⌜ Looks (now (table .entry)) (now (input .entry)) (now (values .entry)) (now (values .exit)) s r ⌝ }
+    ensures { λ r. ⌜ Looks (now (table .entry)) (now (input .entry)) (now (values .entry))
+        (now (values .exit)) s r ⌝ }
 {
     let r = s.node;
     let p = named_trees::named_offset(table, input, s);
@@ -74,15 +79,17 @@ fn look(table: &[u16], input: &[u8], values: &mut [u32], s: Stage) -> Stage
 
 // The number that a Var names.
 fn named_number(table: &[u16], values: &[u32], s: Stage) -> u32
-    ensures { λ r. ⌜ r ≡ getD (now (values .entry)) (frameWords * s .calls + operandAt (now (table .entry)) (s .node)) 0 ⌝ }
+    ensures { λ r. ⌜ r ≡ getD (now (values .entry))
+        (frameWords * s .calls + operandAt (now (table .entry)) (s .node)) 0 ⌝ }
 {
     frames::frame_word(values, s.calls, frames::field(table, s.node, OPERAND))
 }
 
-// The next stage after a record begins, by its action: a number is given; a tree is looked at; a call without arguments opens; else the first part
-// begins.
+// The next stage after a record begins, by its action: a number is given; a tree is looked at; a
+// call without arguments opens; else the first part begins.
 pub fn begin(table: &[u16], input: &[u8], values: &mut [u32], s: Stage) -> Stage
-    ensures { λ r. ⌜ Begins (now (table .entry)) (now (input .entry)) (now (values .entry)) (now (values .exit)) s r ⌝ }
+    ensures { λ r. ⌜ Begins (now (table .entry)) (now (input .entry)) (now (values .entry))
+        (now (values .exit)) s r ⌝ }
 {
     let r = s.node;
     if RECORD_LIMIT <= r {

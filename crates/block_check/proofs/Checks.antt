@@ -1,4 +1,5 @@
--- A law for each way out of the functions that check one block, in the form of their tests, and for each step of their loops.
+-- A law for each way out of the functions that check one block, in the form of their tests, and for
+-- each step of their loops.
 use Prim.Native.Nat.{ℕ, zero, suc, _+_, _*_, _/_, _%_, _≤_, _<_}
 use mathlib.Core.Bool.{Bool, true, false, not}
 use mathlib.Core.List.{List, [], _∷_}

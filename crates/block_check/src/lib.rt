@@ -84,7 +84,8 @@ fn fields_fit(block: &[u8], blocks: u16, j: u16) -> bool
     zero_between(block, RECORD_BYTES * (used as usize), PART_BYTES)
 }
 
-// The row "each block" for the block with number j of so many: the check, then the other fields and the unused records.
+// The row "each block" for the block with number j of so many: the check, then the other fields and
+// the unused records.
 pub fn block_row(block: &[u8], blocks: u16, j: u16) -> Verdict
     ensures { λ r. ⌜ verdictResult r ≡ verdict (usedOf blocks j (now (block .entry))) ⌝ }
 {

@@ -1,5 +1,5 @@
--- Laws of the taking out. Blocks that have all passed give their parts, and every part but the last is full: so the part of block j goes to
--- place 504 * j, right after those before it.
+-- Laws of the taking out. Blocks that have all passed give their parts, and every part but the last
+-- is full: so the part of block j goes to place 504 * j, right after those before it.
 use Prim.Native.Nat.{ℕ, zero, suc, _+_, _*_, _-_, _/_, _≤_, _<_}
 use mathlib.Core.Bool.{true}
 use mathlib.Core.List.{List, [], _∷_, _++_, append-assoc, append-nil}

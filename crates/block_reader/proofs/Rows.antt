@@ -1,4 +1,5 @@
--- A law for each way out of the functions of the rows "blocks" and "each block", in the form of their tests, and for each step of the loop.
+-- A law for each way out of the functions of the rows "blocks" and "each block", in the form of
+-- their tests, and for each step of the loop.
 use Prim.Native.Nat.{ℕ, _+_, _*_, _/_, _≤_, _<_}
 use mathlib.Core.List.{List}
 use mathlib.Core.Logic.{_≢_}

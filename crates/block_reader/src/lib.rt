@@ -1,4 +1,5 @@
-// Blocks of a program file read: the rows "blocks" and "each block", and the flat records taken out of the blocks.
+// Blocks of a program file read: the rows "blocks" and "each block", and the flat records taken out
+// of the blocks.
 use refusal::Filled;
 use refusal::Refusal;
 use refusal::Verdict;
@@ -28,7 +29,8 @@ pub const MOST_BYTES: usize = 8568;
 // Block j of a file.
 fn block_at(file: &[u8], j: usize) -> &[u8]
     requires { ⌜ blockBytes * j + blockBytes ≤ length (now file) ⌝ }
-    ensures { λ r. ⌜ (now r ≡ take blockBytes (drop (blockBytes * j) (now (file .entry)))) × (length (now r) ≡ blockBytes) ⌝ }
+    ensures { λ r. ⌜ (now r ≡ take blockBytes (drop (blockBytes * j) (now (file .entry)))) ×
+        (length (now r) ≡ blockBytes) ⌝ }
 {
     let start = BLOCK_BYTES * j;
     &file[start..start + BLOCK_BYTES]
@@ -77,7 +79,8 @@ fn flat_bytes(file: &[u8]) -> usize
     PART_BYTES * full + RECORD_BYTES * used
 }
 
-// Writes the flat records of a file to the start of a lent buffer that has room for those of every file.
+// Writes the flat records of a file to the start of a lent buffer that has room for those of every
+// file.
 fn gather(file: &[u8], flat: &mut [u8])
     requires { ⌜ (verdict (flatIn (now file)) ≡ done tt) × (length (now flat) ≡ mostBytes) ⌝ }
     ensures { λ _. ⌜ now (flat .exit) ≡ lent (now (flat .entry)) (flatIn (now (file .entry))) ⌝ }
@@ -92,10 +95,11 @@ fn gather(file: &[u8], flat: &mut [u8])
     }
 }
 
-// The flat records of a file's blocks, written to the start of a lent buffer, which has room for those of every file: only the block rows
-// refuse.
+// The flat records of a file's blocks, written to the start of a lent buffer, which has room for
+// those of every file: only the block rows refuse.
 pub fn from_blocks(file: &[u8], flat: &mut [u8; MOST_BYTES]) -> Filled
-    ensures { λ r. ⌜ FilledBuffer (flatIn (now (file .entry))) (now (flat .entry)) (now (flat .exit)) r ⌝ }
+    ensures { λ r. ⌜ FilledBuffer (flatIn (now (file .entry))) (now (flat .entry))
+        (now (flat .exit)) r ⌝ }
 {
     let rows = block_rows(file);
     if let Verdict::Refused(why, position) = rows {

@@ -1,5 +1,5 @@
--- Laws of the laying out. Each write goes right after the one before it, so that all of them are one write: of a block's body, of a block, of
--- the file.
+-- Laws of the laying out. Each write goes right after the one before it, so that all of them are
+-- one write: of a block's body, of a block, of the file.
 use Prim.Native.Nat.{ℕ, zero, suc, _+_, _*_, _-_, _/_, _%_, _≤_, _<_}
 use mathlib.Core.List.{List, [], _∷_, _++_, append-assoc, append-nil}
 use mathlib.Core.Path.{_≡_, refl, sym, ap, ap₂, _∙_}

@@ -33,7 +33,8 @@ const CHECK_SUM: u16 = 65535;
 // Writes the records of a block at a position, and zeros for those that it does not use.
 fn write_records(file: &mut [u8], start: usize, part: &[u8])
     requires { ⌜ (start + blockBytes ≤ length (now file)) × (length (now part) ≤ partBytes) ⌝ }
-    ensures { λ _. ⌜ now (file .exit) ≡ written (now (file .entry)) start (now (part .entry) ++ replicate (partBytes - length (now (part .entry))) 0) ⌝ }
+    ensures { λ _. ⌜ now (file .exit) ≡ written (now (file .entry)) start
+        (now (part .entry) ++ replicate (partBytes - length (now (part .entry))) 0) ⌝ }
 {
     let zeros = [0u8; PART_BYTES];
     let bytes = part.len();
@@ -44,7 +45,8 @@ fn write_records(file: &mut [u8], start: usize, part: &[u8])
 // Writes a block but for its check at a position: its records, and its fields after them.
 fn write_body(file: &mut [u8], start: usize, part: &[u8], blocks: usize, j: usize)
     requires { ⌜ (start + blockBytes ≤ length (now file)) × (length (now part) ≤ partBytes) ⌝ }
-    ensures { λ _. ⌜ now (file .exit) ≡ written (now (file .entry)) start (blockBody (now (part .entry)) j blocks) ⌝ }
+    ensures { λ _. ⌜ now (file .exit) ≡ written (now (file .entry)) start
+        (blockBody (now (part .entry)) j blocks) ⌝ }
 {
     let used = part.len() / RECORD_BYTES;
     write_records(file, start, part);
@@ -56,7 +58,8 @@ fn write_body(file: &mut [u8], start: usize, part: &[u8], blocks: usize, j: usiz
 // Writes one block at a position, with the check word that makes its words sum to 65,535.
 fn write_block(file: &mut [u8], start: usize, part: &[u8], blocks: usize, j: usize)
     requires { ⌜ (start + blockBytes ≤ length (now file)) × (length (now part) ≤ partBytes) ⌝ }
-    ensures { λ _. ⌜ now (file .exit) ≡ written (now (file .entry)) start (blockOf (now (part .entry)) j blocks) ⌝ }
+    ensures { λ _. ⌜ now (file .exit) ≡ written (now (file .entry)) start
+        (blockOf (now (part .entry)) j blocks) ⌝ }
 {
     write_body(file, start, part, blocks, j);
     let sum = block_check::word_sum(&file[start..start + CHECK_POSITION]);
@@ -75,10 +78,13 @@ fn part_of(flat: &[u8], j: usize) -> &[u8]
     &flat[start..start + PART_BYTES]
 }
 
-// Writes the file of flat records, so many blocks, to the start of a lent buffer that has room for it.
+// Writes the file of flat records, so many blocks, to the start of a lent buffer that has room for
+// it.
 fn write_blocks(flat: &[u8], blocks: usize, file: &mut [u8])
-    requires { ⌜ (blocks ≡ blocksFor (length (now flat))) × (blockBytes * blocks ≤ length (now file)) ⌝ }
-    ensures { λ _. ⌜ now (file .exit) ≡ written (now (file .entry)) 0 (fileOf (now (flat .entry))) ⌝ }
+    requires { ⌜ (blocks ≡ blocksFor (length (now flat))) ×
+        (blockBytes * blocks ≤ length (now file)) ⌝ }
+    ensures { λ _. ⌜ now (file .exit) ≡ written (now (file .entry)) 0
+        (fileOf (now (flat .entry))) ⌝ }
 {
     let mut j = 0;
     while j < blocks {
@@ -89,7 +95,8 @@ fn write_blocks(flat: &[u8], blocks: usize, file: &mut [u8])
 
 // The file of flat records, written to the start of a lent buffer; 13 where it is too short.
 pub fn to_blocks(flat: &[u8], file: &mut [u8]) -> Filled
-    ensures { λ r. ⌜ FilledBuffer (inRoom (length (now (file .entry))) (fileOf (now (flat .entry)))) (now (file .entry)) (now (file .exit)) r ⌝ }
+    ensures { λ r. ⌜ FilledBuffer (inRoom (length (now (file .entry))) (fileOf (now (flat .entry))))
+        (now (file .entry)) (now (file .exit)) r ⌝ }
 {
     let blocks = (flat.len() + (PART_BYTES - 1)) / PART_BYTES;
     if file.len() / BLOCK_BYTES < blocks {

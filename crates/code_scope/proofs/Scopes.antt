@@ -1,4 +1,5 @@
--- Scopes: the words of names, and a law for each way out of the functions that say what is known on entering a part.
+-- Scopes: the words of names, and a law for each way out of the functions that say what is known on
+-- entering a part.
 use Prim.Native.Nat.{ℕ, zero, suc, _+_, _%_, _^_, _≤_, _<_, min}
 use mathlib.Core.Bool.{true, false}
 use mathlib.Core.List.{List, _∷_}

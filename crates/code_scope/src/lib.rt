@@ -12,8 +12,9 @@ const MOST_NAMES: usize = 16;
 // What is given as the word of a name that is not bound.
 const NO_WORD: u16 = 0;
 
-// What is known where an expression is emitted: the words that the number names stand on, how many names there are, how many words stand above the
-// base, and whether a tree is expected. More names than 16 count as 16: no program that passes pass one has more.
+// What is known where an expression is emitted: the words that the number names stand on, how many
+// names there are, how many words stand above the base, and whether a tree is expected. More names
+// than 16 count as 16: no program that passes pass one has more.
 pub struct Scope {
     pub words: [u16; MOST_NAMES],
     pub names: usize,
@@ -61,7 +62,8 @@ fn under_number(scope: Scope) -> Scope
     }
 }
 
-// What is known on entering part i of a record, by what the part is. Trees that are named need no word.
+// What is known on entering part i of a record, by what the part is. Trees that are named need no
+// word.
 pub fn inside(part: Part, i: usize, scope: Scope) -> Scope
     ensures { λ r. ⌜ r ≡ insideScope (partOf part) i scope ⌝ }
 {

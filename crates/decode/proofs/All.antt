@@ -1,4 +1,5 @@
--- A program's functions one after the other: what is left of them at function j, whose body is at record k.
+-- A program's functions one after the other: what is left of them at function j, whose body is at
+-- record k.
 use Prim.Native.Nat.{ℕ, zero, suc, _+_, _*_, _≤_, _<_}
 use mathlib.Core.List.{List, [], _∷_, _++_, map}
 use mathlib.Core.Path.{_≡_, refl, sym, ap, ap₂, subst, _∙_}

@@ -154,7 +154,8 @@ module _ (part : RecordPart) (node : Record) (r i count k end : ℕ) (p q : Loca
         depth = omega (arith, n .depth, small .depth);
       }
 
--- it is the place wanted, on the stack as it is noted: what a part names by its kind is what it names by itself
+-- it is the place wanted, on the stack as it is noted: what a part names by its kind is what it
+-- names by itself
 pub place-inside : (entry arity : ℕ → ℕ) (kind : Kind) (r i count : ℕ) (p : Location) (cases : List ℕ) → Counted arity kind count → i < count → r ≤ mostRecords → p .depth < length cases
     → locationWith (insideLocation (nthPart (partsOf kind) i) kind r i count p) (noted (nthPart (partsOf kind) i) r (p .depth) cases) ≡ partLocation entry arity (locationWith p cases) kind r i
 unfolding insideLocation namesUnder noted roleOf slotOf namesIn keepsIn casesIn deeper partsOf partCount nthPart nth

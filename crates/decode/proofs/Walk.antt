@@ -1,4 +1,5 @@
--- The functions that fill the rows of an expression and of its parts: a law for each way out of them, and what their calls ask.
+-- The functions that fill the rows of an expression and of its parts: a law for each way out of
+-- them, and what their calls ask.
 use Prim.Native.Nat.{ℕ, suc, _+_, _-_, _*_, _%_, _≤_, _<_}
 use mathlib.Core.Bool.{true}
 use mathlib.Core.List.{List, [], _∷_, _++_}

@@ -1,4 +1,5 @@
-// The rows of a program's records, for the source run: a table of 8 words for each record, filled from flat records, 8 bytes each.
+// The rows of a program's records, for the source run: a table of 8 words for each record, filled
+// from flat records, 8 bytes each.
 use part_locations::Location;
 use record_rows::Own;
 use records::Parts;
@@ -27,7 +28,8 @@ const WHOLE: usize = 0;
 
 // Writes the row of record k, or nothing where the table has no row there.
 fn write_row(table: &mut [u16], k: usize, own: Own, location: Location, after: usize)
-    ensures { λ _. ⌜ now (table .exit) ≡ written (now (table .entry)) (rowWords * k) (rowIn own location after) ⌝ }
+    ensures { λ _. ⌜ now (table .exit) ≡ written (now (table .entry)) (rowWords * k)
+        (rowIn own location after) ⌝ }
 {
     if table.len() / ROW_WORDS <= k {
         return;
@@ -43,8 +45,8 @@ fn write_row(table: &mut [u16], k: usize, own: Own, location: Location, after: u
     table[p + 7] = (after % 65536) as u16;
 }
 
-// Fills the rows of the expression at record k, and says which record is after it. A record's row is written once its parts are finished: then that is
-// known.
+// Fills the rows of the expression at record k, and says which record is after it. A record's row
+// is written once its parts are finished: then that is known.
 fn decode_at(
     flat: &[u8],
     table: &mut [u16],
@@ -54,7 +56,8 @@ fn decode_at(
     location: Location,
 ) -> usize
     requires { ⌜ Small k end location ⌝ }
-    ensures { λ r. ⌜ Fills (now (flat .entry)) (now (table .entry)) (now (table .exit)) (now (cases .entry)) (now (cases .exit)) k end location r ⌝ }
+    ensures { λ r. ⌜ Fills (now (flat .entry)) (now (table .entry)) (now (table .exit))
+        (now (cases .entry)) (now (cases .exit)) k end location r ⌝ }
 {
     if end <= k {
         return k;
@@ -99,7 +102,8 @@ fn decode_parts(
     location: Location,
 ) -> usize
     requires { ⌜ SmallParts r i k end location ⌝ }
-    ensures { λ n. ⌜ FillsParts (now (flat .entry)) (now (table .entry)) (now (table .exit)) (now (cases .entry)) (now (cases .exit)) node parts r i count k end location n ⌝ }
+    ensures { λ n. ⌜ FillsParts (now (flat .entry)) (now (table .entry)) (now (table .exit))
+        (now (cases .entry)) (now (cases .exit)) node parts r i count k end location n ⌝ }
 {
     if count <= i {
         return k;
@@ -157,8 +161,9 @@ fn decode_all(flat: &[u8], table: &mut [u16], cases: &mut [u16])
     }
 }
 
-// The rows of a program that passes pass one, written to their records' places in a lent table; or the first refusal of the rows header to prefix form and
-// pass one, and last 13 where the table is too short. A refusal leaves the table untouched.
+// The rows of a program that passes pass one, written to their records' places in a lent table; or
+// the first refusal of the rows header to prefix form and pass one, and last 13 where the table is
+// too short. A refusal leaves the table untouched.
 pub fn decode(flat: &[u8], table: &mut [u16]) -> Verdict
     ensures { λ r. ⌜ Decodes (now (flat .entry)) (now (table .entry)) (now (table .exit)) r ⌝ }
 {

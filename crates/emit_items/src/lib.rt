@@ -59,7 +59,8 @@ fn end_opcode(tree: bool) -> u8
 
 // An instruction with these fields.
 fn fields(opcode: u8, byte1: u8, operand: usize, number: u32) -> Instruction
-    ensures { λ r. ⌜ r ≡ record { opcode = opcode; byte1 = byte1; operand = operand; number = number } ⌝ }
+    ensures { λ r. ⌜ r ≡ record
+        { opcode = opcode; byte1 = byte1; operand = operand; number = number } ⌝ }
 {
     Instruction {
         opcode: opcode,
@@ -77,7 +78,8 @@ fn instruction_of(
     scope: Scope,
     labels: Labels,
 ) -> Instruction
-    ensures { λ r. ⌜ fieldsIn r ≡ instructionFor (now (flat .entry)) (now (entries .entry)) scope (labels .last) (labels .beyond) (itemOf item) ⌝ }
+    ensures { λ r. ⌜ fieldsIn r ≡ instructionFor (now (flat .entry)) (now (entries .entry)) scope
+        (labels .last) (labels .beyond) (itemOf item) ⌝ }
 {
     match item {
         Item::Push(i) => fields(PUSH, 0, 0, i),
@@ -108,7 +110,9 @@ fn emit_item(
     scope: Scope,
     labels: Labels,
 )
-    ensures { λ _. ⌜ now (code .exit) ≡ putAll (now (code .entry)) address (operationsFor (now (flat .entry)) (now (entries .entry)) scope (labels .last) (labels .beyond) (itemOf item ∷ [])) ⌝ }
+    ensures { λ _. ⌜ now (code .exit) ≡ putAll (now (code .entry)) address (operationsFor
+        (now (flat .entry)) (now (entries .entry)) scope (labels .last) (labels .beyond)
+        (itemOf item ∷ [])) ⌝ }
 {
     let x = instruction_of(flat, entries, item, scope, labels);
     instruction::write_instruction(code, address, x.opcode, x.byte1, x.operand, x.number);
@@ -124,7 +128,9 @@ pub fn emit_items(
     scope: Scope,
     labels: Labels,
 )
-    ensures { λ _. ⌜ now (code .exit) ≡ putAll (now (code .entry)) address (operationsFor (now (flat .entry)) (now (entries .entry)) scope (labels .last) (labels .beyond) (row items)) ⌝ }
+    ensures { λ _. ⌜ now (code .exit) ≡ putAll (now (code .entry)) address (operationsFor
+        (now (flat .entry)) (now (entries .entry)) scope (labels .last) (labels .beyond)
+        (row items)) ⌝ }
 {
     if code.len() <= address {
         return;

@@ -1,5 +1,5 @@
--- A law for each way out of the file reader and writer. The reader's own space holds every file's flat records, so that the rows of the blocks
--- refuse for no lack of it.
+-- A law for each way out of the file reader and writer. The reader's own space holds every file's
+-- flat records, so that the rows of the blocks refuse for no lack of it.
 use Prim.Native.Nat.{ℕ, _≤_, _<_}
 use mathlib.Core.List.{List}
 use mathlib.Core.Path.{_≡_, refl, sym, ap, _∙_}

@@ -35,7 +35,8 @@ fn return_at(returns: &[u64], i: usize) -> u64
     0
 }
 
-// Whether the Call at record r is on the right tree of a node that is its frame's own tree, at offset `own`.
+// Whether the Call at record r is on the right tree of a node that is its frame's own tree, at
+// offset `own`.
 fn on_right(table: &[u16], input: &[u8], r: u16, own: usize) -> bool
     ensures { λ b. ⌜ b ≡ onRight (now (table .entry)) (now (input .entry)) r own ⌝ }
 {
@@ -55,8 +56,8 @@ fn on_right(table: &[u16], input: &[u8], r: u16, own: usize) -> bool
     input[own] == NODE_TAG
 }
 
-// The place of the tree whose end is known once the call closes that the Call at record r opened, in a frame whose own tree is at `own`: with the end of
-// a node's right tree the node's is known.
+// The place of the tree whose end is known once the call closes that the Call at record r opened,
+// in a frame whose own tree is at `own`: with the end of a node's right tree the node's is known.
 fn known_after(table: &[u16], input: &[u8], r: u16, own: usize, s: Stage) -> usize
     ensures { λ k. ⌜ Knows (now (table .entry)) (now (input .entry)) r own s k ⌝ }
 {
@@ -94,7 +95,8 @@ fn close(table: &[u16], input: &[u8], returns: &[u64], s: Stage) -> Stage
 
 // The number of a record that is finished, put on its word.
 fn keep(table: &[u16], values: &mut [u32], s: Stage)
-    ensures { λ _. ⌜ now (values .exit) ≡ set (now (values .entry)) (frameWords * s .calls + slotAt (now (table .entry)) (s .node)) (s .number) ⌝ }
+    ensures { λ _. ⌜ now (values .exit) ≡ set (now (values .entry))
+        (frameWords * s .calls + slotAt (now (table .entry)) (s .node)) (s .number) ⌝ }
 {
     frames::put_frame(
         values,
@@ -106,13 +108,15 @@ fn keep(table: &[u16], values: &mut [u32], s: Stage)
 
 // The number of a record that is finished, added to the one kept.
 fn sum_kept(table: &[u16], values: &[u32], s: Stage) -> u32
-    ensures { λ r. ⌜ r ≡ sum32 (getD (now (values .entry)) (frameWords * s .calls + slotAt (now (table .entry)) (s .node)) 0) (s .number) ⌝ }
+    ensures { λ r. ⌜ r ≡ sum32 (getD (now (values .entry))
+        (frameWords * s .calls + slotAt (now (table .entry)) (s .node)) 0) (s .number) ⌝ }
 {
     let left = frames::frame_word(values, s.calls, frames::field(table, s.node, SLOT));
     numbers::add32(left, s.number)
 }
 
-// The record of the part that IfZero takes: the zero part is after the test, the other part after that.
+// The record of the part that IfZero takes: the zero part is after the test, the other part after
+// that.
 fn picked(table: &[u16], s: Stage) -> u16
     ensures { λ r. ⌜ Picks (now (table .entry)) s r ⌝ }
 {
@@ -123,8 +127,8 @@ fn picked(table: &[u16], s: Stage) -> u16
     frames::field(table, zero_part, AFTER)
 }
 
-// The next stage after a part whose value is the whole's, a leaf's label, or Node's left tree, after which the next part begins; the last argument else, after which
-// the call opens.
+// The next stage after a part whose value is the whole's, a leaf's label, or Node's left tree,
+// after which the next part begins; the last argument else, after which the call opens.
 fn follow(table: &[u16], values: &mut [u32], s: Stage) -> Stage
     ensures { λ r. ⌜ Follows (now (table .entry)) (now (values .entry)) (now (values .exit)) s r ⌝ }
 {
@@ -140,10 +144,12 @@ fn follow(table: &[u16], values: &mut [u32], s: Stage) -> Stage
     }
 }
 
-// The next stage after a record that is finished, by what it is to its parent: a function's body, a number that is put on a word before the next part begins, Add's
-// second part, IfZero's test, or one of those that `follow` has.
+// The next stage after a record that is finished, by what it is to its parent: a function's body, a
+// number that is put on a word before the next part begins, Add's second part, IfZero's test, or
+// one of those that `follow` has.
 pub fn rise(table: &[u16], input: &[u8], values: &mut [u32], returns: &[u64], s: Stage) -> Stage
-    ensures { λ r. ⌜ Rises (now (table .entry)) (now (input .entry)) (now (values .entry)) (now (values .exit)) (now (returns .entry)) s r ⌝ }
+    ensures { λ r. ⌜ Rises (now (table .entry)) (now (input .entry)) (now (values .entry))
+        (now (values .exit)) (now (returns .entry)) s r ⌝ }
 {
     match frames::field(table, s.node, ROLE) {
         WHOLE => close(table, input, returns, s),

@@ -1,4 +1,5 @@
--- Laws of one block. A block that is written for a part is read as that part, and a block that is read is the one that is written for what it gave.
+-- Laws of one block. A block that is written for a part is read as that part, and a block that is
+-- read is the one that is written for what it gave.
 use Prim.Native.Nat.{ℕ, zero, suc, _+_, _*_, _-_, _/_, _%_, _≤_, _<_}
 use mathlib.Core.Bool.{Bool, true, false, _&&_, and-eq-true-iff}
 use mathlib.Core.List.{List, [], _∷_, _++_, append-assoc}

@@ -57,8 +57,8 @@ cut-ends : map firstEnd ((t-bytes ++ (9 ∷ [])) ∷ cuts 12)
 unfolding firstEnd endFrom firstTree treeAt treeByTag branchesAt tagAt tagOf labelAt numberAt numberOf tokens bytesOf cuts t-bytes
 cut-ends = refl
 
--- a byte that is no tag, first and later; a label byte 2 that is no node; and 1,025 node tags in a row, of which the last is refused before
--- the byte after it is looked at
+-- a byte that is no tag, first and later; a label byte 2 that is no node; and 1,025 node tags in a
+-- row, of which the last is refused before the byte after it is looked at
 deep : List ℕ
 deep = replicate 1025 nodeTag ++ (7 ∷ [])
 

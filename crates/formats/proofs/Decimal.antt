@@ -1,4 +1,5 @@
--- A number's decimal digits: the last one stands after those of a tenth, and a number below 10^k has at most k.
+-- A number's decimal digits: the last one stands after those of a tenth, and a number below 10^k
+-- has at most k.
 use Prim.Native.Nat.{ℕ, zero, suc, _+_, _/_, _%_, _^_, _≤_, _<_}
 use mathlib.Core.List.{[], _∷_, _++_}
 use mathlib.Core.Path.{_≡_, sym, ap, _∙_}

@@ -1,5 +1,6 @@
--- Laws of where a tree ends, one for each way in which a reader can find it. Their premises are the tests that a reader makes. An ending reports
--- the reading: `ended-by` and `stopped-by` turn it back.
+-- Laws of where a tree ends, one for each way in which a reader can find it. Their premises are the
+-- tests that a reader makes. An ending reports the reading: `ended-by` and `stopped-by` turn it
+-- back.
 use Prim.Native.Nat.{ℕ, zero, suc, _+_, _-_, _≤_, _<_}
 use mathlib.Core.List.{List, [], _++_}
 use mathlib.Core.Logic.{_≢_}

@@ -1,5 +1,5 @@
--- Laws of files: a file that is read is the file written for its flat records, and the file written for flat records is read as these. Both go by
--- recursion on the blocks that are left.
+-- Laws of files: a file that is read is the file written for its flat records, and the file written
+-- for flat records is read as these. Both go by recursion on the blocks that are left.
 use Prim.Native.Nat.{ℕ, zero, suc, _+_, _*_, _-_, _/_, _≤_, _<_, min}
 use mathlib.Core.Bool.{true, _&&_}
 use mathlib.Core.List.{List, [], _∷_, _++_, append-nil}

@@ -1,5 +1,5 @@
--- Bytes of a number and back, both ways, over every width. Each goes by recursion on the width or the bytes: a number is its low byte and 256
--- times the rest.
+-- Bytes of a number and back, both ways, over every width. Each goes by recursion on the width or
+-- the bytes: a number is its low byte and 256 times the rest.
 use Prim.Native.Nat.{ℕ, zero, suc, _+_, _-_, _*_, _/_, _%_, _^_, _≤_, _<_}
 use mathlib.Core.List.{List, [], _∷_, _++_}
 use mathlib.Core.Path.{_≡_, refl, sym, ap, ap₂, _∙_}

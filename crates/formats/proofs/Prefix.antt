@@ -1,5 +1,6 @@
--- Laws of prefix form. A record in front of expressions is built with its parts where there are enough of them (`Built` says all that is then
--- known), and else there is none. So a walk from the last record to the first needs only to count the expressions that stand.
+-- Laws of prefix form. A record in front of expressions is built with its parts where there are
+-- enough of them (`Built` says all that is then known), and else there is none. So a walk from the
+-- last record to the first needs only to count the expressions that stand.
 use Prim.Native.Nat.{ℕ, zero, suc, _+_, _-_, _≤_, _<_}
 use mathlib.Core.List.{List, [], _∷_, _++_, append-assoc}
 use mathlib.Core.Logic.{_≢_}
@@ -256,7 +257,8 @@ mutual
   exprs-prefixes (arg x xs) arity ks es a h =
       rw append-assoc (exprs-prefix x arity (prefixes xs ++ ks) (inFront xs es) (a .0) (exprs-prefixes xs arity ks es (a .1) h))
 
--- what is known of the expressions that records are: the records are theirs, and each Call in them has its arguments
+-- what is known of the expressions that records are: the records are theirs, and each Call in them
+-- has its arguments
 pub record Parsed (arity : ℕ → ℕ) (ks : List Kind) (es : List Expr) : Type 0 where
   pub joined : recordsOfAll es ≡ ks
   pub applied : Every (Applied arity) es

@@ -88,7 +88,8 @@ two = fields 1 2 4 0 ∷ fields 0 0 2 0 ∷ fields 1 1 2 0 ∷ fields 8 0 1 0 �
 said : List Record → Result (Unit {0})
 said rs = verdict (readProgram (flat rs))
 
--- 4: edition, functions 0 and 33, nodes 0 and 1,025, the rest, the record count, a record too many, none at all
+-- 4: edition, functions 0 and 33, nodes 0 and 1,025, the rest, the record count, a record too many,
+-- none at all
 header-cases : map said
     (two ∷ set two 0 (fields 2 2 4 0) ∷ set two 0 (fields 1 0 4 0) ∷ set two 0 (fields 1 33 4 0) ∷ set two 0 (fields 1 2 0 0) ∷ set two 0 (fields 1 2 1025 0)
     ∷ set two 0 (fields 1 2 4 1) ∷ set two 0 (fields 1 2 5 0) ∷ (two ++ (fields 0 0 0 0 ∷ [])) ∷ [] ∷ [])
@@ -96,7 +97,8 @@ header-cases : map said
 unfolding readProgram headerRow headerFrom functionRow functionAt functionFrom sorts mostParameters nodeRow nodeAt nodeRecord kindOf kinds nth same below fieldsOf each prefixRow bodies exactlyOne exprsOf build popArgs arityOf total recordAt flat bytesOfRecord bytesOf numberAt numberOf said two
 header-cases = refl
 
--- 5: sort 2, parameters of function 0, count 0, the rest; 5 parameters; a sum that is wrong, and one that is right only modulo 65,536
+-- 5: sort 2, parameters of function 0, count 0, the rest; 5 parameters; a sum that is wrong, and
+-- one that is right only modulo 65,536
 function-cases : map said
     (set two 1 (fields 2 0 2 0) ∷ set two 1 (fields 0 1 2 0) ∷ set two 1 (fields 0 0 0 0) ∷ set two 1 (fields 0 0 2 1) ∷ set two 2 (fields 1 5 2 0)
     ∷ set two 2 (fields 1 1 3 0) ∷ set (set two 1 (fields 0 0 65535 0)) 2 (fields 1 1 5 0) ∷ [])
@@ -110,8 +112,8 @@ node-cases : map said (set two 6 (fields 9 0 0 0) ∷ set two 3 (fields 8 0 2 0)
 unfolding readProgram headerRow headerFrom functionRow functionAt functionFrom sorts mostParameters nodeRow nodeAt nodeRecord kindOf kinds nth same below fieldsOf each prefixRow bodies exactlyOne exprsOf build popArgs arityOf total recordAt flat bytesOfRecord bytesOf numberAt numberOf said two
 node-cases = refl
 
--- 7: an expression that runs on into the next function, one that ends too soon, parts missing in the second function, an argument too few; and
--- 6 in the last record before 7 in the first function
+-- 7: an expression that runs on into the next function, one that ends too soon, parts missing in
+-- the second function, an argument too few; and 6 in the last record before 7 in the first function
 prefix-cases : map said
     (set (set two 1 (fields 0 0 1 0)) 2 (fields 1 1 3 0) ∷ set (set two 1 (fields 0 0 3 0)) 2 (fields 1 1 1 0) ∷ set two 5 (fields 2 0 0 0)
     ∷ set two 2 (fields 1 2 2 0) ∷ set (set two 6 (fields 9 0 0 0)) 2 (fields 1 2 2 0) ∷ [])
@@ -121,7 +123,8 @@ prefix-cases = refl
 
 -- ---- blocks
 
--- a block with these used records, number, count of used records and number of blocks, and the check that fits
+-- a block with these used records, number, count of used records and number of blocks, and the
+-- check that fits
 block : List ℕ → ℕ → ℕ → ℕ → List ℕ
 block part j used blocks =
     let body = part ++ (replicate (504 - length part) 0 ++ (bytesOf 2 j ++ (bytesOf 2 used ++ bytesOf 2 blocks))) in
@@ -151,8 +154,8 @@ length-cases : map read ([] ∷ take 511 (block grow-flat 0 10 1) ∷ (block gro
 unfolding readFile programRecords flatIn lengthRow blockRow blockAt usedOf fieldsFit usedFits zeros concatenated fileOf blocksFor blocksFrom blockOf blockBody checkWord wordSum readProgram headerRow headerFrom functionRow functionAt functionFrom sorts mostParameters nodeRow nodeAt nodeRecord kindOf kinds nth same below fieldsOf each prefixRow bodies exactlyOne exprsOf build popArgs arityOf total recordAt flat bytesOfRecord bytesOf numberAt numberOf read block grow-flat grow-records
 length-cases = refl
 
--- 2: a byte changed; 3, with a check that fits: block number, records used 0, 64, one too few, number of blocks, an unused record; 4: records used
--- one too many
+-- 2: a byte changed; 3, with a check that fits: block number, records used 0, 64, one too few,
+-- number of blocks, an unused record; 4: records used one too many
 block-cases : map read
     (block grow-flat 0 10 1 ∷ set (block grow-flat 0 10 1) 16 1 ∷ block grow-flat 1 10 1 ∷ block grow-flat 0 0 1 ∷ block grow-flat 0 64 1 ∷ block grow-flat 0 9 1
     ∷ block grow-flat 0 10 2 ∷ block (grow-flat ++ (replicate 423 0 ++ (1 ∷ []))) 0 10 1 ∷ block grow-flat 0 11 1 ∷ [])
@@ -160,7 +163,8 @@ block-cases : map read
 unfolding readFile programRecords flatIn lengthRow blockRow blockAt usedOf fieldsFit usedFits zeros concatenated fileOf blocksFor blocksFrom blockOf blockBody checkWord wordSum readProgram headerRow headerFrom functionRow functionAt functionFrom sorts mostParameters nodeRow nodeAt nodeRecord kindOf kinds nth same below fieldsOf each prefixRow bodies exactlyOne exprsOf build popArgs arityOf total recordAt flat bytesOfRecord bytesOf numberAt numberOf read block grow-flat grow-records
 block-cases = refl
 
--- two blocks: both right; 2 in the second; 3 in the first before 2 in the second; 62 used in the first; a third block that is not needed
+-- two blocks: both right; 2 in the second; 3 in the first before 2 in the second; 62 used in the
+-- first; a third block that is not needed
 two-block-cases : map read
     ((block (take 504 long) 0 63 2 ++ block (drop 504 long) 1 1 2) ∷ (block (take 504 long) 0 63 2 ++ set (block (drop 504 long) 1 1 2) 0 9)
     ∷ (block (take 504 long) 1 63 2 ++ set (block (drop 504 long) 1 1 2) 0 9) ∷ (block (take 496 long) 0 62 2 ++ block (drop 496 long) 1 2 2)

@@ -1,5 +1,5 @@
--- Laws of programs: where the records of an expression's parts stand, how many records there are, and that those of a lawful program fit their
--- fields.
+-- Laws of programs: where the records of an expression's parts stand, how many records there are,
+-- and that those of a lawful program fit their fields.
 use Prim.Native.Nat.{ℕ, zero, suc, _+_, _^_, _≤_, _<_, zero-le, suc-le-suc}
 use mathlib.Core.List.{List, [], _∷_, _++_, map}
 use mathlib.Core.Path.{_≡_, refl, sym, ap, subst, _∙_}

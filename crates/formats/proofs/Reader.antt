@@ -1,6 +1,7 @@
--- The tree reader's answers mean what specs/Reader.antt states. What is read stands there and what stands there is read (proofs/Tokens.antt).
--- A refusal inside a part is the refusal of the whole, so the walk from a position that is due to the first fault, and back from a fault to the
--- whole buffer, goes by recursion on the room and on the way to the position.
+-- The tree reader's answers mean what specs/Reader.antt states. What is read stands there and what
+-- stands there is read (proofs/Tokens.antt). A refusal inside a part is the refusal of the whole,
+-- so the walk from a position that is due to the first fault, and back from a fault to the whole
+-- buffer, goes by recursion on the room and on the way to the position.
 use Prim.Native.Nat.{ℕ, zero, suc, _+_, _-_, _≤_, _<_, zero-le}
 use mathlib.Core.Bool.{Bool, true, false}
 use mathlib.Core.List.{List, [], _∷_, _++_, append-nil, append-assoc}
@@ -138,7 +139,8 @@ back (under-too-many d (one-more there is more)) = whole-refused d 0 refl (read-
 
 -- ---- what each number means
 
--- a tree, a part of which stands where a tag is due: the bytes before that position are its opening bytes
+-- a tree, a part of which stands where a tag is due: the bytes before that position are its opening
+-- bytes
 record Filled (s : List ℕ) (p : ℕ) (u : Tree) : Type 0 where
   whole : Tree
   labelled : Labelled whole

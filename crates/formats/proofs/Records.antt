@@ -1,4 +1,5 @@
--- Laws of records: flat records and the records read from them determine one another, and so do kinds and the node records that are read.
+-- Laws of records: flat records and the records read from them determine one another, and so do
+-- kinds and the node records that are read.
 use Prim.Native.Nat.{ℕ, zero, suc, _+_, _*_, _^_, _≤_, _<_}
 use mathlib.Core.Bool.{true, _&&_}
 use mathlib.Core.List.{List, [], _∷_, _++_, append-assoc, map}

@@ -1,4 +1,5 @@
--- Laws of readings: what each of several gives when all are done, and where the first refusal stands.
+-- Laws of readings: what each of several gives when all are done, and where the first refusal
+-- stands.
 use Prim.Native.Nat.{ℕ, zero, suc, _+_, _-_, _≤_, _<_}
 use mathlib.Core.Bool.{Bool, true, false, _&&_, false≢true}
 use mathlib.Core.List.{List, [], _∷_}
@@ -172,7 +173,8 @@ module _ {A : Type 0} (f : ℕ → Result A) where
       ∙ each-part n m c (suc k) (i .tail) (i .later) (omega arith)
       ∙ ap (λ l. done (take c (drop (suc m) l))) (sym (i .both))
 
-  -- a check of several: those that pass go on to the next, and the first refusal is the whole check's
+  -- a check of several: those that pass go on to the next, and the first refusal is the whole
+  -- check's
   pub check-none : (k : ℕ) → done tt ≡ verdict (each f 0 k)
   unfolding each
   check-none k = refl

@@ -1,5 +1,6 @@
--- Laws of the rows over flat records: programs and the flat records that pass the rows determine one another. For each row, `..Read` says what is
--- known where it is done: the records that stand are the value's own, and the value is within the limits.
+-- Laws of the rows over flat records: programs and the flat records that pass the rows determine
+-- one another. For each row, `..Read` says what is known where it is done: the records that stand
+-- are the value's own, and the value is within the limits.
 use Prim.Native.Nat.{ℕ, zero, suc, _+_, _*_, _≤_, _<_, _^_}
 use mathlib.Core.Bool.{_&&_}
 use mathlib.Core.List.{List, [], _∷_, _++_, map, append-nil}

@@ -1,5 +1,6 @@
--- Laws of trees, tokens and the reading of a tree. A reading is reported by its tag: `look` says what is known where each tag was found, and a law
--- for each tag says what the reading then is. With these, a tree that stands at a position is read there (`reads-at`), and a tree that is read
+-- Laws of trees, tokens and the reading of a tree. A reading is reported by its tag: `look` says
+-- what is known where each tag was found, and a law for each tag says what the reading then is.
+-- With these, a tree that stands at a position is read there (`reads-at`), and a tree that is read
 -- stands there (`stands`), each by recursion on the room.
 use Prim.Native.Nat.{ℕ, zero, suc, _+_, _*_, _-_, _≤_, _<_, max, _^_}
 use mathlib.Core.Bool.{Bool, true, false}

@@ -1,4 +1,5 @@
--- Laws of the sum of 16-bit words: it goes word by word, and the check word is the one word that makes a block's sum right.
+-- Laws of the sum of 16-bit words: it goes word by word, and the check word is the one word that
+-- makes a block's sum right.
 use Prim.Native.Nat.{ℕ, zero, suc, _+_, _*_, _%_, _≤_, _<_}
 use mathlib.Core.List.{List, [], _∷_, _++_}
 use mathlib.Core.Path.{_≡_, refl, sym, ap, ap₂, _∙_}

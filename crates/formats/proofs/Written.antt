@@ -1,6 +1,7 @@
--- Laws of a write into a lent buffer. Where vs fits, the buffer is a front, what stood before the position and vs, and after it what stood after
--- vs. So the length is kept, and each byte is read from the part that holds it. Two writes, one right after the other, only make the front
--- longer: so a write is made of its bytes, set one after the other.
+-- Laws of a write into a lent buffer. Where vs fits, the buffer is a front, what stood before the
+-- position and vs, and after it what stood after vs. So the length is kept, and each byte is read
+-- from the part that holds it. Two writes, one right after the other, only make the front longer:
+-- so a write is made of its bytes, set one after the other.
 use Prim.Native.Nat.{ℕ, suc, _+_, _-_, _≤_, _<_}
 use mathlib.Core.List.{List, [], _∷_, _++_, append-assoc}
 use mathlib.Core.Logic.{_⊎_, ⊎-elim}

@@ -61,15 +61,18 @@ pub record ProgramFiles : Type 0 where
   pub same-file : (s t r : List ℕ) → Bytes s → Bytes t → readFile s ≡ done r → readFile t ≡ done r → s ≡ t
   -- .. and each program has exactly one file.
   pub one-file : (program : Program) → Lawful program → OneFile program
-  -- Programs and records that pass the rows header to prefix form determine one another: parsing undoes flattening ..
+  -- Programs and records that pass the rows header to prefix form determine one another: parsing
+  -- undoes flattening ..
   pub parses : (program : Program) → Lawful program → readProgram (flatOf program) ≡ done program
   -- .. and flattening undoes parsing.
   pub flattens : (r : List ℕ) (program : Program) → Bytes r → readProgram r ≡ done program → Flattened r program
-  -- The nodes stand after the header and the function records, and the parts of an expression at their own records.
+  -- The nodes stand after the header and the function records, and the parts of an expression at
+  -- their own records.
   pub nodes-stand : (r : List ℕ) (program : Program) → Bytes r → readProgram r ≡ done program
       → Stands r (suc (length (program .functions))) (nodes (program .functions))
   pub parts-stand : (r : List ℕ) (k : ℕ) (e : Expr) → Stands r k (prefix e) → Every (StandsPlaced r) (partsAt k e)
-  -- The sum of so many node counts, right or wrong, stays below 2^16 times their number: it is exact in 32 bits, and never wraps.
+  -- The sum of so many node counts, right or wrong, stays below 2^16 times their number: it is
+  -- exact in 32 bits, and never wraps.
   pub sums-fit : (edition : ℕ) (s : List ℕ) (n : ℕ) (gs : List Signature) → Bytes s → each (functionAt edition s) n 0 ≡ done gs → total gs ≤ 65535 * n
   -- The limits, and the fewest blocks that hold the records.
   pub measured : (r s : List ℕ) (program : Program) → Bytes r → readProgram r ≡ done program → writeFile r ≡ done s → Measured s r program

@@ -58,7 +58,8 @@ unfoldable pub argsAt : ℕ → Args → List Placed
 argsAt r noArgs = []
 argsAt r (arg x xs) = placedAt r x ∷ argsAt (r + size x) xs
 
--- The parts of the expression at record r, each with its own record: the first right after r, each other after the one before it.
+-- The parts of the expression at record r, each with its own record: the first right after r, each
+-- other after the one before it.
 unfoldable pub partsAt : ℕ → Expr → List Placed
 partsAt r (const i) = []
 partsAt r (var a) = []

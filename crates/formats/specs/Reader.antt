@@ -20,8 +20,9 @@ pub record Gave (s : List ℕ) (t : Tree) : Type 0 where
   -- no other tree's tokens begin the buffer
   pub only : (u : Tree) → Labelled u → Opens (tokens u) s → u ≡ t
 
--- The tag of a part of the first tree is due at offset p of s, under so many nodes: what stands before p is in order, and p is the next place
--- to look at. A left tree begins after its node's tag, a right tree after the left one.
+-- The tag of a part of the first tree is due at offset p of s, under so many nodes: what stands
+-- before p is in order, and p is the next place to look at. A left tree begins after its node's
+-- tag, a right tree after the left one.
 pub data Due (s : List ℕ) : ℕ → ℕ → Type 0 where
   first : Due s 0 0
   left : {p above : ℕ} → Due s p above → above < mostDepth → Lies s p (nodeTag ∷ []) → Due s (suc p) (suc above)
@@ -33,7 +34,8 @@ pub data Due (s : List ℕ) : ℕ → ℕ → Type 0 where
       → Lies s p (nodeTag ∷ tokens l)
       → Due s (suc p + length (tokens l)) (suc above)
 
--- The refusals of the row "tree reader", a rule for each condition: the number and the position, where all before the position is in order.
+-- The refusals of the row "tree reader", a rule for each condition: the number and the position,
+-- where all before the position is in order.
 pub data Refuses (s : List ℕ) : ℕ → ℕ → Type 0 where
   -- 15 at the start of a tag that is not there
   no-tag : {p above : ℕ} → Due s p above → p ≡ length s → Refuses s inputEnded p
@@ -70,7 +72,8 @@ pub record TooDeep (s : List ℕ) (p : ℕ) : Type 0 where
 pub record TreeReader : Type 0 where
   -- "A tree of n leaves takes 6n − 1 bytes."
   pub length-of-tokens : (t : Tree) → length (tokens t) ≡ 6 * tips t - 1
-  -- "The tree reader takes the first tree of a buffer": each tree at most 1,024 deep, whatever stands after it ..
+  -- "The tree reader takes the first tree of a buffer": each tree at most 1,024 deep, whatever
+  -- stands after it ..
   pub takes : (t : Tree) (rest : List ℕ) → Labelled t → depth t ≤ mostDepth → firstTree (tokens t ++ rest) ≡ done t
   -- .. and nothing else.
   pub gives : (s : List ℕ) (t : Tree) → Bytes s → firstTree s ≡ done t → Gave s t

@@ -64,7 +64,8 @@ fieldsOf Node = fields 6 0 0 0
 fieldsOf (Case a) = fields 7 a 0 0
 fieldsOf (Call a b) = fields 8 a b 0
 
--- The kinds of an edition, by their number, with the operands that the fields give. (Later editions may have more.)
+-- The kinds of an edition, by their number, with the operands that the fields give. (Later editions
+-- may have more.)
 unfoldable pub kinds : ℕ → ℕ → ℕ → ℕ → List Kind
 kinds edition a b i = Const i ∷ Var a ∷ Add ∷ IfZero ∷ Let ∷ Leaf ∷ Node ∷ Case a ∷ Call a b ∷ []
 

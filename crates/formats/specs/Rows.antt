@@ -80,7 +80,8 @@ build arity Node es = pop es (λ p es′. pop es′ (λ q rest. some (nodeOf p q
 build arity (Case a) es = pop es (λ p es′. pop es′ (λ q rest. some (caseOf a p q ∷ rest)))
 build arity (Call a b) es = popArgs (arity b) es (λ xs rest. some (call a b xs ∷ rest))
 
--- The expressions that records are, one after the other, found from the last record on; none where parts are missing.
+-- The expressions that records are, one after the other, found from the last record on; none where
+-- parts are missing.
 unfoldable pub exprsOf : (ℕ → ℕ) → List Kind → Option (List Expr)
 exprsOf arity [] = some []
 exprsOf arity (k ∷ ks) = elim (exprsOf arity ks) [ none ↦ none | some es ↦ build arity k es ]
@@ -93,7 +94,8 @@ exactlyOne r (some []) = refusal prefixForm r
 exactlyOne r (some (e ∷ [])) = done e
 exactlyOne r (some (e ∷ (d ∷ es))) = refusal prefixForm r
 
--- The bodies of functions with these signatures, whose nodes are these kinds from record r on: each function's count of them.
+-- The bodies of functions with these signatures, whose nodes are these kinds from record r on: each
+-- function's count of them.
 unfoldable pub bodies : (ℕ → ℕ) → List Signature → List Kind → ℕ → Result (List Function)
 bodies arity [] ks r = done []
 bodies arity (g ∷ gs) ks r =

@@ -63,7 +63,8 @@ tagAt s p = elim (ltb p (length s)) [ true ↦ tagOf (getD s p 0) | false ↦ no
 unfoldable pub labelAt : List ℕ → ℕ → Result Tree
 labelAt s p = elim (leb (p + labelBytes) (length s)) [ true ↦ done (leaf (numberAt labelBytes s p)) | false ↦ refusal inputEnded p ]
 
--- The node whose left tree begins at p: the left tree, then the right one after it, each read by `read`.
+-- The node whose left tree begins at p: the left tree, then the right one after it, each read by
+-- `read`.
 unfoldable pub branchesAt : (ℕ → Result Tree) → ℕ → Result Tree
 branchesAt read p = andThen (read p) (λ l. andThen (read (p + length (tokens l))) (λ r. done (node l r)))
 

@@ -84,7 +84,8 @@ pub fn frame_word(values: &[u32], calls: u16, slot: u16) -> u32
 
 // Puts a number on a frame's word, if there is one.
 pub fn put_frame(values: &mut [u32], calls: u16, slot: u16, x: u32)
-    ensures { λ _. ⌜ now (values .exit) ≡ set (now (values .entry)) (frameWords * calls + slot) x ⌝ }
+    ensures { λ _. ⌜ now (values .exit) ≡ set (now (values .entry)) (frameWords * calls + slot)
+        x ⌝ }
 {
     let i = word_offset(calls, slot);
     if i < values.len() {

@@ -30,7 +30,8 @@ fn most_parameters(j: u16) -> u8
 
 // Whether the fields of function j's record are right.
 fn function_fits(flat: &[u8], j: u16) -> bool
-    ensures { λ r. ⌜ check r functionField (suc j) tt ≡ verdict (functionIn (now (flat .entry)) j) ⌝ }
+    ensures { λ r. ⌜ check r functionField (suc j) tt ≡ verdict
+        (functionIn (now (flat .entry)) j) ⌝ }
 {
     if MOST_SORT < signatures::sort_number(flat, j) {
         return false;
@@ -46,7 +47,8 @@ fn function_fits(flat: &[u8], j: u16) -> bool
 
 // The fields of the function records, so many.
 fn function_fields(flat: &[u8], functions: u16) -> Verdict
-    ensures { λ r. ⌜ verdictResult r ≡ verdict (each (functionIn (now (flat .entry))) functions 0) ⌝ }
+    ensures { λ r. ⌜ verdictResult r ≡ verdict
+        (each (functionIn (now (flat .entry))) functions 0) ⌝ }
 {
     let mut j: u16 = 0;
     while j < functions {
@@ -73,7 +75,8 @@ fn count_sum(flat: &[u8], functions: u16) -> usize
 
 // The row "functions": the fields of each record, then the sum of the counts.
 pub fn function_row(flat: &[u8]) -> Verdict
-    ensures { λ r. ⌜ verdictResult r ≡ verdict (functionRow (headerIn (now (flat .entry))) (now (flat .entry))) ⌝ }
+    ensures { λ r. ⌜ verdictResult r ≡ verdict
+        (functionRow (headerIn (now (flat .entry))) (now (flat .entry))) ⌝ }
 {
     let functions = signatures::functions_in(flat) as u16;
     let nodes = signatures::nodes_in(flat) as usize;

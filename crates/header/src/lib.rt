@@ -18,7 +18,8 @@ const MOST_NODES: usize = 1024;
 
 // Whether the header's fields and the record count are right.
 fn header_fits(edition: u8, functions: usize, nodes: usize, rest: u32, bytes: usize) -> bool
-    ensures { λ r. ⌜ check r headerField 0 tt ≡ verdict (headerFrom bytes (fields edition functions nodes rest)) ⌝ }
+    ensures { λ r. ⌜ check r headerField 0 tt ≡ verdict
+        (headerFrom bytes (fields edition functions nodes rest)) ⌝ }
 {
     if edition != FIRST_EDITION {
         return false;

@@ -1,4 +1,5 @@
-// What C and Rust programs link: each function is its proved call, forwarded. A slice passes as a pointer and a length.
+// What C and Rust programs link: each function is its proved call, forwarded. A slice passes as a
+// pointer and a length.
 ghost use mathlib.Core.Path.{_≡_};
 ghost use lib.ListN.{length};
 ghost use Rattle.formats.specs.Blocks.{readInto, writeInto};
@@ -25,7 +26,8 @@ pub extern "C" fn hogvax_tree_bytes(input: &[u8]) -> usize
 // Why no tree begins the input, or its length.
 #[no_mangle]
 pub extern "C" fn hogvax_tree(input: &[u8], answer: &mut [u64]) -> u32
-    ensures { λ r. ⌜ Answers (firstEnd (now (input .entry))) (now (answer .entry)) (now (answer .exit)) r ⌝ }
+    ensures { λ r. ⌜ Answers (firstEnd (now (input .entry))) (now (answer .entry))
+        (now (answer .exit)) r ⌝ }
 {
     tree_calls::tree(input, answer)
 }
@@ -33,7 +35,8 @@ pub extern "C" fn hogvax_tree(input: &[u8], answer: &mut [u64]) -> u32
 // Flat records to their program file.
 #[no_mangle]
 pub extern "C" fn hogvax_pack(flat: &[u8], file: &mut [u8], answer: &mut [u64]) -> u32
-    ensures { λ r. ⌜ Fills (writeInto (length (now (file .entry))) (now (flat .entry))) (now (file .entry)) (now (file .exit)) (now (answer .entry)) (now (answer .exit)) r ⌝ }
+    ensures { λ r. ⌜ Fills (writeInto (length (now (file .entry))) (now (flat .entry)))
+        (now (file .entry)) (now (file .exit)) (now (answer .entry)) (now (answer .exit)) r ⌝ }
 {
     file_calls::pack(flat, file, answer)
 }
@@ -41,7 +44,8 @@ pub extern "C" fn hogvax_pack(flat: &[u8], file: &mut [u8], answer: &mut [u64]) 
 // A program file to its flat records.
 #[no_mangle]
 pub extern "C" fn hogvax_unpack(file: &[u8], flat: &mut [u8], answer: &mut [u64]) -> u32
-    ensures { λ r. ⌜ Fills (readInto (length (now (flat .entry))) (now (file .entry))) (now (flat .entry)) (now (flat .exit)) (now (answer .entry)) (now (answer .exit)) r ⌝ }
+    ensures { λ r. ⌜ Fills (readInto (length (now (flat .entry))) (now (file .entry)))
+        (now (flat .entry)) (now (flat .exit)) (now (answer .entry)) (now (answer .exit)) r ⌝ }
 {
     file_calls::unpack(file, flat, answer)
 }
@@ -49,7 +53,8 @@ pub extern "C" fn hogvax_unpack(file: &[u8], flat: &mut [u8], answer: &mut [u64]
 // Whether the program of a file passes both passes.
 #[no_mangle]
 pub extern "C" fn hogvax_check(file: &[u8], answer: &mut [u64]) -> u32
-    ensures { λ r. ⌜ Answers (onValue (λ u. 0) (checkFile (now (file .entry)))) (now (answer .entry)) (now (answer .exit)) r ⌝ }
+    ensures { λ r. ⌜ Answers (onValue (λ u. 0) (checkFile (now (file .entry))))
+        (now (answer .entry)) (now (answer .exit)) r ⌝ }
 {
     check_calls::check(file, answer)
 }
@@ -57,7 +62,8 @@ pub extern "C" fn hogvax_check(file: &[u8], answer: &mut [u64]) -> u32
 // Whether flat records are a program that passes both passes.
 #[no_mangle]
 pub extern "C" fn hogvax_check_records(flat: &[u8], answer: &mut [u64]) -> u32
-    ensures { λ r. ⌜ Answers (onValue (λ u. 0) (checkRecords (now (flat .entry)))) (now (answer .entry)) (now (answer .exit)) r ⌝ }
+    ensures { λ r. ⌜ Answers (onValue (λ u. 0) (checkRecords (now (flat .entry))))
+        (now (answer .entry)) (now (answer .exit)) r ⌝ }
 {
     check_calls::check_records(flat, answer)
 }
@@ -73,7 +79,11 @@ pub extern "C" fn hogvax_perform(
     returns: &mut [u64],
     answer: &mut [u64],
 ) -> u32
-    ensures { λ r. ⌜ StreamCall (streamRun (now (code .entry)) (now (input .entry)) (now (output .entry)) fuel (length (now (values .entry))) (length (now (returns .entry)))) (now (output .entry)) (now (output .exit)) (now (values .entry)) (now (values .exit)) (now (returns .entry)) (now (returns .exit)) (now (answer .entry)) (now (answer .exit)) r ⌝ }
+    ensures { λ r. ⌜ StreamCall (streamRun (now (code .entry)) (now (input .entry))
+        (now (output .entry)) fuel (length (now (values .entry))) (length (now (returns .entry))))
+        (now (output .entry)) (now (output .exit)) (now (values .entry)) (now (values .exit))
+        (now (returns .entry)) (now (returns .exit)) (now (answer .entry)) (now (answer .exit))
+        r ⌝ }
 {
     perform_calls::perform(code, input, fuel, output, values, returns, answer)
 }
@@ -81,7 +91,8 @@ pub extern "C" fn hogvax_perform(
 // The code of a program file.
 #[no_mangle]
 pub extern "C" fn hogvax_translate(file: &[u8], code: &mut [u8], answer: &mut [u64]) -> u32
-    ensures { λ r. ⌜ Fills (translateFile (length (now (code .entry))) (now (file .entry))) (now (code .entry)) (now (code .exit)) (now (answer .entry)) (now (answer .exit)) r ⌝ }
+    ensures { λ r. ⌜ Fills (translateFile (length (now (code .entry))) (now (file .entry)))
+        (now (code .entry)) (now (code .exit)) (now (answer .entry)) (now (answer .exit)) r ⌝ }
 {
     translate_calls::translate(file, code, answer)
 }
@@ -98,7 +109,10 @@ pub extern "C" fn hogvax_run(
     returns: &mut [u64],
     answer: &mut [u64],
 ) -> u32
-    ensures { λ r. ⌜ ProgramCall (now (file .entry)) (now (input .entry)) (now (output .entry)) (now (output .exit)) (now (code .entry)) (now (code .exit)) (now (values .entry)) (now (values .exit)) (now (returns .entry)) (now (returns .exit)) (now (answer .entry)) (now (answer .exit)) fuel r ⌝ }
+    ensures { λ r. ⌜ ProgramCall (now (file .entry)) (now (input .entry)) (now (output .entry))
+        (now (output .exit)) (now (code .entry)) (now (code .exit)) (now (values .entry))
+        (now (values .exit)) (now (returns .entry)) (now (returns .exit)) (now (answer .entry))
+        (now (answer .exit)) fuel r ⌝ }
 {
     run_calls::run(file, input, fuel, output, code, values, returns, answer)
 }
@@ -114,7 +128,11 @@ pub extern "C" fn hogvax_source(
     returns: &mut [u64],
     answer: &mut [u64],
 ) -> u32
-    ensures { λ r. ⌜ SourceCall (sourceRun (now (file .entry)) (now (input .entry)) (now (output .entry)) fuel (length (now (values .entry))) (length (now (returns .entry)))) (now (output .entry)) (now (output .exit)) (now (values .entry)) (now (values .exit)) (now (returns .entry)) (now (returns .exit)) (now (answer .entry)) (now (answer .exit)) r ⌝ }
+    ensures { λ r. ⌜ SourceCall (sourceRun (now (file .entry)) (now (input .entry))
+        (now (output .entry)) fuel (length (now (values .entry))) (length (now (returns .entry))))
+        (now (output .entry)) (now (output .exit)) (now (values .entry)) (now (values .exit))
+        (now (returns .entry)) (now (returns .exit)) (now (answer .entry)) (now (answer .exit))
+        r ⌝ }
 {
     source_calls::source(file, input, fuel, output, values, returns, answer)
 }

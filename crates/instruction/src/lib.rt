@@ -1,4 +1,5 @@
-// An instruction written into a code buffer, 8 bytes: opcode; byte 1; operand in 2–3; number in 4–7.
+// An instruction written into a code buffer, 8 bytes: opcode; byte 1; operand in 2–3; number in
+// 4–7.
 ghost use Prim.Native.Nat.{_*_};
 ghost use mathlib.Core.Path.{_≡_};
 ghost use Rattle.formats.specs.Records.{recordBytes, fields, bytesOfRecord};
@@ -6,7 +7,8 @@ ghost use Rattle.formats.specs.Written.{written};
 
 const INSTRUCTION_BYTES: usize = 8;
 
-// Writes an instruction at an address, or nothing where the buffer has no 8 bytes there. Of the operand the low 16 bits are written.
+// Writes an instruction at an address, or nothing where the buffer has no 8 bytes there. Of the
+// operand the low 16 bits are written.
 pub fn write_instruction(
     code: &mut [u8],
     address: usize,
@@ -15,7 +17,8 @@ pub fn write_instruction(
     operand: usize,
     number: u32,
 )
-    ensures { λ _. ⌜ now (code .exit) ≡ written (now (code .entry)) (recordBytes * address) (bytesOfRecord (fields opcode byte1 operand number)) ⌝ }
+    ensures { λ _. ⌜ now (code .exit) ≡ written (now (code .entry)) (recordBytes * address)
+        (bytesOfRecord (fields opcode byte1 operand number)) ⌝ }
 {
     if code.len() / INSTRUCTION_BYTES <= address {
         return;

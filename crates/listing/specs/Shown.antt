@@ -6,7 +6,8 @@ use lib.ListN.{length}
 use Rattle.formats.specs.Written.{written}
 use Rattle.meaning.specs.Instructions.{mostInstructions}
 
--- The longest line: an address of 4 digits, two bytes of 3, an operand of 5, a sign and 10 digits, and a character after each.
+-- The longest line: an address of 4 digits, two bytes of 3, an operand of 5, a sign and 10 digits,
+-- and a character after each.
 abbrev pub longestLine : ℕ
 longestLine = 31
 
@@ -14,8 +15,8 @@ longestLine = 31
 abbrev pub mostText : ℕ
 mostText = 10 + longestLine * mostInstructions
 
--- These bytes are put into a buffer from place p on, the rest is untouched, and the offset after them is answered, which is
--- within the buffer.
+-- These bytes are put into a buffer from place p on, the rest is untouched, and the offset after
+-- them is answered, which is within the buffer.
 pub record Puts (before after : List ℕ) (p : ℕ) (bytes : List ℕ) (r : ℕ) : Type 0 where
   pub buffer : after ≡ written before p bytes
   pub after : r ≡ p + length bytes

@@ -1,4 +1,5 @@
-// Reads a program file from standard input and prints its code listing, or the refusal. The text is one proved function of the bytes that it is lent: `put_listing`.
+// Reads a program file from standard input and prints its code listing, or the refusal. The text is
+// one proved function of the bytes that it is lent: `put_listing`.
 use libc::STDIN_FILENO;
 use libc::STDOUT_FILENO;
 use refusal::Filled;
@@ -121,8 +122,10 @@ fn put_line(out: &mut [u8], at: usize, l: Line) -> usize
 
 // Puts the lines of a code.
 fn put_lines(out: &mut [u8], at: usize, code: &[u8]) -> usize
-    requires { ⌜ (length (now code) ≤ mostCode) × (at + longestLine * instructionsIn (now code) ≤ length (now out)) ⌝ }
-    ensures { λ r. ⌜ Puts (now (out .entry)) (now (out .exit)) at (linesText (linesFrom (now (code .entry)) (instructionsIn (now (code .entry))) 0)) r ⌝ }
+    requires { ⌜ (length (now code) ≤ mostCode) ×
+        (at + longestLine * instructionsIn (now code) ≤ length (now out)) ⌝ }
+    ensures { λ r. ⌜ Puts (now (out .entry)) (now (out .exit)) at
+        (linesText (linesFrom (now (code .entry)) (instructionsIn (now (code .entry))) 0)) r ⌝ }
 {
     let count = code.len() / INSTRUCTION_BYTES;
     let mut last = at;
@@ -137,7 +140,8 @@ fn put_lines(out: &mut [u8], at: usize, code: &[u8]) -> usize
 // Puts the one line of a refusal.
 fn put_refusal(out: &mut [u8], number: usize, offset: usize) -> usize
     requires { ⌜ mostText ≤ length (now out) ⌝ }
-    ensures { λ r. ⌜ Puts (now (out .entry)) (now (out .exit)) 0 (text (refusedListing number offset)) r ⌝ }
+    ensures { λ r. ⌜ Puts (now (out .entry)) (now (out .exit)) 0
+        (text (refusedListing number offset)) r ⌝ }
 {
     writing::write_bytes(out, 0, b"refused ");
     let last = put_field(out, 8, number, b' ');
@@ -147,7 +151,8 @@ fn put_refusal(out: &mut [u8], number: usize, offset: usize) -> usize
 // Puts the listing of a code: the heading, and the lines.
 fn put_code(out: &mut [u8], code: &[u8]) -> usize
     requires { ⌜ (mostText ≤ length (now out)) × (length (now code) ≤ mostCode) ⌝ }
-    ensures { λ r. ⌜ Puts (now (out .entry)) (now (out .exit)) 0 (text (listingOf (done (now (code .entry))))) r ⌝ }
+    ensures { λ r. ⌜ Puts (now (out .entry)) (now (out .exit)) 0
+        (text (listingOf (done (now (code .entry))))) r ⌝ }
 {
     writing::write_bytes(out, 0, b"code ");
     let last = put_field(out, 5, code.len() / INSTRUCTION_BYTES, b'\n');
@@ -157,7 +162,8 @@ fn put_code(out: &mut [u8], code: &[u8]) -> usize
 // Puts the listing of a program file.
 fn put_listing(out: &mut [u8], file: &[u8]) -> usize
     requires { ⌜ mostText ≤ length (now out) ⌝ }
-    ensures { λ r. ⌜ Puts (now (out .entry)) (now (out .exit)) 0 (text (listing (now (file .entry)))) r ⌝ }
+    ensures { λ r. ⌜ Puts (now (out .entry)) (now (out .exit)) 0
+        (text (listing (now (file .entry)))) r ⌝ }
 {
     let mut code = [0u8; CODE_BYTES];
     let filled = translate::translate_file(file, &mut code);

@@ -146,7 +146,8 @@ pub ruleset called-so = (call-few, call-deep, call-made)
 
 -- ---- `give_back`
 
--- The frame cut down to the words kept, up to a new top: they stand on the words below its base, and no frame below is changed.
+-- The frame cut down to the words kept, up to a new top: they stand on the words below its base,
+-- and no frame below is changed.
 record Cut (values values′ : List ℕ) (base top : ℕ) (words : List ℕ) : Type 0 where
   same-length : length values′ ≡ length values
   based : base ≤ top

@@ -1,4 +1,5 @@
--- What all operations have in common: a refusal changes nothing, and what goes on stands for the next state.
+-- What all operations have in common: a refusal changes nothing, and what goes on stands for the
+-- next state.
 use Prim.Native.Nat.{ℕ, _+_, _≤_, _<_}
 use mathlib.Core.List.{List}
 use mathlib.Core.Path.{_≡_, refl, sym, _∙_}
@@ -11,7 +12,8 @@ use Rattle.machine.specs.declared.Machine.{Machine}
 use Rattle.machine.specs.Inner.States.{stateOf, stepOf, Chained, Held, goesOn, hasEnded, stoppedBy}
 use Rattle.machine.specs.Inner.Effects.{Does}
 
--- other numbers and buffers stand for a state too, where the buffers keep their lengths and the numbers their limits
+-- other numbers and buffers stand for a state too, where the buffers keep their lengths and the
+-- numbers their limits
 pub held-as :
     (m : Setting) (values returns output values′ returns′ output′ : List ℕ) (s r : Machine)
     → Held m values returns output s

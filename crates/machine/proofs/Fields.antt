@@ -1,4 +1,5 @@
--- The fields of an instruction, read from its own bytes: they are those of the record that the code holds at the address.
+-- The fields of an instruction, read from its own bytes: they are those of the record that the code
+-- holds at the address.
 use Prim.Native.Nat.{ℕ, zero, suc, _+_, _-_, _*_, _≤_, _<_}
 use mathlib.Core.List.{List, [], _∷_}
 use mathlib.Core.Path.{_≡_, refl, sym, ap, ap₂, _∙_}

@@ -1,4 +1,5 @@
--- What the lent words stand for: the frame's words, and the frames that wait. A word set at or above a base leaves the frames below it.
+-- What the lent words stand for: the frame's words, and the frames that wait. A word set at or
+-- above a base leaves the frames below it.
 use Prim.Native.Nat.{ℕ, zero, suc, _+_, _-_, _*_, _≤_, _<_}
 use mathlib.Core.Bool.{Bool, true, false}
 use mathlib.Core.List.{List, _∷_}

@@ -1,5 +1,6 @@
--- The run: a law for each way out of its functions. In front of each turn as many steps as units lead from the start to the state that the machine
--- stands for (`Running`), and steps determine the run: so the turn that stops is the whole run's last.
+-- The run: a law for each way out of its functions. In front of each turn as many steps as units
+-- lead from the start to the state that the machine stands for (`Running`), and steps determine the
+-- run: so the turn that stops is the whole run's last.
 use Prim.Native.Nat.{ℕ, _+_, _-_, _^_, _≤_, _<_}
 use mathlib.Core.Bool.{false}
 use mathlib.Core.List.{List, [], _∷_, _++_}
@@ -181,7 +182,8 @@ drop-more few many l k h e =
 
 -- ---- `run`
 
--- In front of a turn: the machine goes on, so many steps have led to its state, and after what is written the output is as it was.
+-- In front of a turn: the machine goes on, so many steps have led to its state, and after what is
+-- written the output is as it was.
 pub record Running (code input : List ℕ) (fuel : ℕ) (output₀ values₀ returns₀ output values returns : List ℕ) (s : Machine) (units : ℕ) : Type 0 where
   pub going : s .stop ≡ goesOn
   pub held : Held (ofCode code input (length output₀)) values returns output s

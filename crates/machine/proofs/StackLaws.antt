@@ -1,4 +1,5 @@
--- The operations on the value words: push, get, add, ifnot, slide and drop. A law for each way out of their functions.
+-- The operations on the value words: push, get, add, ifnot, slide and drop. A law for each way out
+-- of their functions.
 use Prim.Native.Nat.{ℕ, suc, _+_, _-_, _%_, _^_, _≤_, _<_}
 use mathlib.Core.List.{List, _∷_}
 use mathlib.Core.Logic.{_≢_}

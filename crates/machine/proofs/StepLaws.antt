@@ -1,5 +1,6 @@
--- A law for each way out of `step` and `turn`. An opcode names its operation, and what was done on some of the buffers leaves the others; an
--- address below the limit holds its record, and any other holds none.
+-- A law for each way out of `step` and `turn`. An opcode names its operation, and what was done on
+-- some of the buffers leaves the others; an address below the limit holds its record, and any other
+-- holds none.
 use Prim.Native.Nat.{ℕ, _+_, _*_, _≤_, _<_}
 use mathlib.Core.Bool.{Bool, true, false}
 use mathlib.Core.List.{List}

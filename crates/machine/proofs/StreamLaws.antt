@@ -1,4 +1,5 @@
--- What the operations on the output and the input do: a law for each way out of `write_tag`, `write_number`, `read_tag` and `read_number`.
+-- What the operations on the output and the input do: a law for each way out of `write_tag`,
+-- `write_number`, `read_tag` and `read_number`.
 use Prim.Native.Nat.{ℕ, suc, _+_, _-_, _≤_, _<_}
 use mathlib.Core.List.{List, [], _∷_}
 use mathlib.Core.Logic.{_≢_}

@@ -14,7 +14,8 @@ ghost use Rattle.machine.specs.Inner.States.{frameOf, Sound, Going, Lent
 ghost use Rattle.machine.specs.Inner.Effects.{OnNumbers, OnValues, WritesTag, OnOutput, FromInput, OnInput, OnReturns, FromReturns, Performs, Steps};
 ghost use Rattle.machine.specs.Inner.Answers.{runAnswer, refusalNumber, Reports, Performed};
 
-// Words that the value stack may hold, and those of the return places; one place is never used, since the first frame has none.
+// Words that the value stack may hold, and those of the return places; one place is never used,
+// since the first frame has none.
 const VALUE_WORDS: usize = 16384;
 
 const RETURN_WORDS: usize = 2048;
@@ -47,8 +48,8 @@ const NODE_TAG: u8 = 2;
 
 const LABEL_BYTES: usize = 4;
 
-// The numbers of the machine: why it stops, the address, the ends of the frame's words, the words of the return places in use, the bytes read and
-// written. Flat, so that it stays in registers.
+// The numbers of the machine: why it stops, the address, the ends of the frame's words, the words
+// of the return places in use, the bytes read and written. Flat, so that it stays in registers.
 struct Machine {
     stop: u32,
     address: usize,
@@ -71,7 +72,8 @@ pub struct Answer {
 // The bytes of the instruction at an address that holds one.
 fn fetch(code: &[u8], address: usize) -> &[u8]
     requires { ⌜ instructionBytes * address + instructionBytes ≤ length (now code) ⌝ }
-    ensures { λ r. ⌜ (recordAt (now r) 0 ≡ recordAt (now (code .entry)) address) × (length (now r) ≡ instructionBytes) ⌝ }
+    ensures { λ r. ⌜ (recordAt (now r) 0 ≡ recordAt (now (code .entry)) address) ×
+        (length (now r) ≡ instructionBytes) ⌝ }
 {
     let p = INSTRUCTION_BYTES * address;
     &code[p..p + INSTRUCTION_BYTES]
@@ -229,7 +231,8 @@ fn write_number(s: Machine, values: &[u32], output: &mut [u8]) -> Machine
     requires { ⌜ Sound s ⌝ }
     requires { ⌜ valueWords ≤ length (now values) ⌝ }
     requires { ⌜ s .written ≤ length (now output) ⌝ }
-    ensures { λ r. ⌜ OnOutput WriteNumber (now (values .entry)) (now (output .entry)) (now (output .exit)) s r ⌝ }
+    ensures { λ r. ⌜ OnOutput WriteNumber (now (values .entry)) (now (output .entry))
+        (now (output .exit)) s r ⌝ }
 {
     let top = s.top;
     let written = s.written;
@@ -271,7 +274,8 @@ fn read_number(s: Machine, values: &mut [u32], input: &[u8]) -> Machine
     requires { ⌜ Sound s ⌝ }
     requires { ⌜ valueWords ≤ length (now values) ⌝ }
     requires { ⌜ s .read ≤ length (now input) ⌝ }
-    ensures { λ r. ⌜ FromInput ReadNumber (now (input .entry)) (now (values .entry)) (now (values .exit)) s r ⌝ }
+    ensures { λ r. ⌜ FromInput ReadNumber (now (input .entry)) (now (values .entry))
+        (now (values .exit)) s r ⌝ }
 {
     let top = s.top;
     let read = s.read;
@@ -296,7 +300,8 @@ fn read_number(s: Machine, values: &mut [u32], input: &[u8]) -> Machine
 fn call(s: Machine, entry: u16, arguments: u8, returns: &mut [u64]) -> Machine
     requires { ⌜ Sound s ⌝ }
     requires { ⌜ returnWords ≤ length (now returns) ⌝ }
-    ensures { λ r. ⌜ OnReturns (Call entry arguments) (now (returns .entry)) (now (returns .exit)) s r ⌝ }
+    ensures { λ r. ⌜ OnReturns (Call entry arguments) (now (returns .entry)) (now (returns .exit)) s
+        r ⌝ }
 {
     let arguments = arguments as usize;
     let saved = s.saved;
@@ -337,7 +342,8 @@ fn give_back(s: Machine, kept: u8, values: &mut [u32], returns: &[u64]) -> Machi
     requires { ⌜ Sound s ⌝ }
     requires { ⌜ valueWords ≤ length (now values) ⌝ }
     requires { ⌜ s .saved ≤ length (now returns) ⌝ }
-    ensures { λ r. ⌜ FromReturns (Return kept) (now (returns .entry)) (now (values .entry)) (now (values .exit)) s r ⌝ }
+    ensures { λ r. ⌜ FromReturns (Return kept) (now (returns .entry)) (now (values .entry))
+        (now (values .exit)) s r ⌝ }
 {
     let base = s.base;
     let top = s.top;
@@ -366,7 +372,9 @@ fn step(
     requires { ⌜ Sound s ⌝ }
     requires { ⌜ instructionBytes ≤ length (now i) ⌝ }
     requires { ⌜ Lent s (now input) (now output) (now values) (now returns) ⌝ }
-    ensures { λ r. ⌜ Performs (recordAt (now (i .entry)) 0) (now (input .entry)) (now (values .entry)) (now (returns .entry)) (now (output .entry)) (now (values .exit)) (now (returns .exit)) (now (output .exit)) s r ⌝ }
+    ensures { λ r. ⌜ Performs (recordAt (now (i .entry)) 0) (now (input .entry))
+        (now (values .entry)) (now (returns .entry)) (now (output .entry)) (now (values .exit))
+        (now (returns .exit)) (now (output .exit)) s r ⌝ }
 {
     let opcode = i[0];
     match opcode {
@@ -412,7 +420,9 @@ fn turn(
     requires { ⌜ Going s ⌝ }
     requires { ⌜ limit ≡ limitOf (length (now code)) ⌝ }
     requires { ⌜ Lent s (now input) (now output) (now values) (now returns) ⌝ }
-    ensures { λ r. ⌜ Steps (now (code .entry)) (now (input .entry)) (now (values .entry)) (now (returns .entry)) (now (output .entry)) (now (values .exit)) (now (returns .exit)) (now (output .exit)) s r ⌝ }
+    ensures { λ r. ⌜ Steps (now (code .entry)) (now (input .entry)) (now (values .entry))
+        (now (returns .entry)) (now (output .entry)) (now (values .exit)) (now (returns .exit))
+        (now (output .exit)) s r ⌝ }
 {
     let address = s.address;
     if limit <= address {
@@ -495,7 +505,10 @@ fn run(
 ) -> Answer
     requires { ⌜ valueWords ≤ length (now values) ⌝ }
     requires { ⌜ returnWords ≤ length (now returns) ⌝ }
-    ensures { λ r. ⌜ Performed (streamRun (now (code .entry)) (now (input .entry)) (now (output .entry)) fuel (length (now (values .entry))) (length (now (returns .entry)))) (now (output .exit)) (now (values .entry)) (now (values .exit)) (now (returns .entry)) (now (returns .exit)) r ⌝ }
+    ensures { λ r. ⌜ Performed (streamRun (now (code .entry)) (now (input .entry))
+        (now (output .entry)) fuel (length (now (values .entry))) (length (now (returns .entry))))
+        (now (output .exit)) (now (values .entry)) (now (values .exit)) (now (returns .entry))
+        (now (returns .exit)) r ⌝ }
 {
     let limit = limit(code.len());
     let mut s = Machine {
@@ -522,8 +535,8 @@ fn run(
     }
 }
 
-// The stream run of any code: 13 first, where work words are missing, then the run. In this order of parameters the loop is fast for any number of callers
-// (docs/BENCHMARKS.md).
+// The stream run of any code: 13 first, where work words are missing, then the run. In this order
+// of parameters the loop is fast for any number of callers (docs/BENCHMARKS.md).
 pub fn perform(
     fuel: u64,
     output: &mut [u8],
@@ -532,7 +545,10 @@ pub fn perform(
     code: &[u8],
     input: &[u8],
 ) -> Answer
-    ensures { λ r. ⌜ Performed (streamRun (now (code .entry)) (now (input .entry)) (now (output .entry)) fuel (length (now (values .entry))) (length (now (returns .entry)))) (now (output .exit)) (now (values .entry)) (now (values .exit)) (now (returns .entry)) (now (returns .exit)) r ⌝ }
+    ensures { λ r. ⌜ Performed (streamRun (now (code .entry)) (now (input .entry))
+        (now (output .entry)) fuel (length (now (values .entry))) (length (now (returns .entry))))
+        (now (output .exit)) (now (values .entry)) (now (values .exit)) (now (returns .entry))
+        (now (returns .exit)) r ⌝ }
 {
     if values.len() < VALUE_WORDS {
         return too_short();

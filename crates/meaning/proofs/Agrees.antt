@@ -1,8 +1,10 @@
 -- The reductions and the evaluation agree (Agrees).
 --
--- The simulation ties the reductions to the evaluation held to any number of open calls. A term reduces to at most one other, and a value to none: so
--- of two ways on from one term, one goes on where the other ends. For a term that k reductions lead to, the evaluation held to k open calls gives a
--- value that they lead to as well, or there are more than k reductions; so the term is that value's, or reduces.
+-- The simulation ties the reductions to the evaluation held to any number of open calls. A term
+-- reduces to at most one other, and a value to none: so of two ways on from one term, one goes on
+-- where the other ends. For a term that k reductions lead to, the evaluation held to k open calls
+-- gives a value that they lead to as well, or there are more than k reductions; so the term is that
+-- value's, or reduces.
 use Prim.Native.Nat.{ℕ, suc}
 use mathlib.Core.Logic.{_⊎_, inl, inr}
 use mathlib.Core.Option.{some}

@@ -1,5 +1,6 @@
--- What holds of every call of the stream run, from what holds of every run. A call is a run from the start, whose bytes are written from the output's
--- first place on, or it is refused before. So each statement is one of runs, with what such a write leaves; what a run writes fits.
+-- What holds of every call of the stream run, from what holds of every run. A call is a run from
+-- the start, whose bytes are written from the output's first place on, or it is refused before. So
+-- each statement is one of runs, with what such a write leaves; what a run writes fits.
 use Prim.Native.Nat.{ℕ, _≤_, zero-le}
 use mathlib.Core.Bool.{Bool, true, false, _&&_}
 use mathlib.Core.List.{List, []}

@@ -1,5 +1,6 @@
--- An instruction is refused with 19 exactly where it can't be performed, and closed cases in which another refusal applies as well. The walk over the
--- opcodes also finds the rule by which an instruction is refused with another number, or ends the run (Stopping.antt).
+-- An instruction is refused with 19 exactly where it can't be performed, and closed cases in which
+-- another refusal applies as well. The walk over the opcodes also finds the rule by which an
+-- instruction is refused with another number, or ends the run (Stopping.antt).
 use Prim.Native.Nat.{ℕ, zero, suc, _+_, _≤_, _<_}
 use mathlib.Core.Bool.{Bool, true, false}
 use mathlib.Core.List.{List, [], _∷_}
@@ -351,8 +352,9 @@ standing-at words calls = record { address = 0; frame = zero-words words; caller
 refusal-of : Operation → ℕ → ℕ → ℕ
 refusal-of op words calls = numberIn (step (alone op) (standing-at words calls))
 
--- The input has ended: 19 where 16,384 words stand already, else 15. The output is full: 19 where the number is missing, else 17. 1,024 calls are open:
--- 19 where an argument is missing, else 18. (A read tag, which alone is refused with 16, neither needs a word nor adds one.)
+-- The input has ended: 19 where 16,384 words stand already, else 15. The output is full: 19 where
+-- the number is missing, else 17. 1,024 calls are open: 19 where an argument is missing, else 18.
+-- (A read tag, which alone is refused with 16, neither needs a word nor adds one.)
 both-apply :
     refusal-of ReadNumber 16384 0 ∷ refusal-of ReadNumber 16383 0 ∷ refusal-of WriteNumber 0 0 ∷ refusal-of WriteNumber 1 0 ∷ refusal-of (Call 0 1) 0 1023
     ∷ refusal-of (Call 0 1) 1 1023 ∷ []

@@ -1,4 +1,5 @@
--- Closed cases of the stream run, proved by computation. Each row of a table is a call and what it gives.
+-- Closed cases of the stream run, proved by computation. Each row of a table is a call and what it
+-- gives.
 use Prim.Native.Nat.{ℕ, zero, suc}
 use mathlib.Core.List.{List, [], _∷_, _++_, map}
 use mathlib.Core.Path.{_≡_, refl}
@@ -95,8 +96,9 @@ ends-with units number = ended-with units 0 number [] (blank 6)
 stuck : (why units : ℕ) → Ran
 stuck why units = refused-with why units 0 [] (blank 6)
 
--- What each instruction does. Words are named from the base up, so the arguments of a call are its frame's first words, and a word below the base is
--- out of reach. Where a return keeps a word, those under it go.
+-- What each instruction does. Words are named from the base up, so the arguments of a call are its
+-- frame's first words, and a word below the base is out of reach. Where a return keeps a word,
+-- those under it go.
 performed-well : List Row
 performed-well =
     bare (codeOf (Push 5 ∷ Return 1 ∷ [])) (ends-with 2 5)
@@ -114,7 +116,8 @@ performed-well =
     ∷ bare (codeOf (Push 1 ∷ Return 0 ∷ [])) (ends-with 2 0)
     ∷ []
 
--- What can't be performed. An address is tested when its instruction is fetched: the jump to it is performed.
+-- What can't be performed. An address is tested when its instruction is fetched: the jump to it is
+-- performed.
 not-performed : List Row
 not-performed =
     bare [] (stuck 19 0)
@@ -168,7 +171,8 @@ small ops input = record { holds = heldBy (codeOf ops); input = input; space = 4
 stops : List Operation → Result ℕ
 stops ops = let r : Run = run (small ops []) 20 start in onValue (λ u. unitsOf r) (outcomeOf (r .stop) (unitsOf r))
 
--- So many words may stand, in all frames together, and so many calls may be open, the first frame among them. 19 comes before 15, 17 and 18.
+-- So many words may stand, in all frames together, and so many calls may be open, the first frame
+-- among them. 19 comes before 15, 17 and 18.
 limits : List (Result ℕ)
 limits = map stops
     ((Push 1 ∷ Push 2 ∷ Return 1 ∷ [])
@@ -205,7 +209,8 @@ full-stack = refl
 
 -- ---- the limit of 4,128 instructions
 
--- 4,129 instructions: a jump to the last but one, 4,126 pushes of 0, a leaf tag at 4,127 and a return at 4,128.
+-- 4,129 instructions: a jump to the last but one, 4,126 pushes of 0, a leaf tag at 4,127 and a
+-- return at 4,128.
 long : List ℕ
 long = codeOf (Jump 4127 ∷ []) ++ (replicate 33008 ++ codeOf (LeafTag ∷ Return 0 ∷ []))
 
@@ -217,7 +222,8 @@ long-buffer = refl
 
 -- ---- fields that an operation does not use
 
--- The instruction of an operation, with 7, 513 and 9 in the fields that it does not use: byte 1, operand, number.
+-- The instruction of an operation, with 7, 513 and 9 in the fields that it does not use: byte 1,
+-- operand, number.
 with-others : Operation → Instruction
 with-others (Push n) = fields 0 7 513 n
 with-others (Get k) = fields 1 7 k 9

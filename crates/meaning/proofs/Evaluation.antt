@@ -1,9 +1,12 @@
--- Derivations of the evaluation: the value, the number of expressions begun and the units are determined, the number is that of the rules, and a bound of
--- the calls open is one exactly where it is above the nesting of Call rules.
+-- Derivations of the evaluation: the value, the number of expressions begun and the units are
+-- determined, the number is that of the rules, and a bound of the calls open is one exactly where
+-- it is above the nesting of Call rules.
 --
--- Two derivations for one expression in one environment go by the same rules: they agree in number, units and value, and the second's bound is above the
--- first's nesting (`agree`: by induction over the first; rule by rule, only the second is taken apart). A derivation can be built anew under any bound
--- above its nesting, its rules counted (`rebuilt`); it agrees with the first, so that count is the number begun.
+-- Two derivations for one expression in one environment go by the same rules: they agree in number,
+-- units and value, and the second's bound is above the first's nesting (`agree`: by induction over
+-- the first; rule by rule, only the second is taken apart). A derivation can be built anew under
+-- any bound above its nesting, its rules counted (`rebuilt`); it agrees with the first, so that
+-- count is the number begun.
 use Prim.Native.Nat.{ℕ, zero, suc, _+_, _*_, _≤_, _<_, max}
 use mathlib.Core.List.{List, [], _∷_}
 use mathlib.Core.Logic.{_↔_}
@@ -47,7 +50,8 @@ nestingInArgs ds = countedArgs (λ units n. n) suc max ds
 
 -- ---- two derivations agree
 
--- The same number of expressions begun and of units, the same value, and the first's nesting below the second's bound.
+-- The same number of expressions begun and of units, the same value, and the first's nesting below
+-- the second's bound.
 record Agree {A : Type 0} (n n′ u u′ : ℕ) (x x′ : A) (nesting bound : ℕ) : Type 0 where
   begun : n ≡ n′
   units : u ≡ u′
@@ -73,7 +77,8 @@ made-agrees :
     → Agree (suc n) (suc n′) (c + u) (c′ + u′) y y′ k o
 made-agrees parts spends e = record { begun = ap suc (parts .begun); units = omega (arith, parts .units); value = e; below = parts .below }
 
--- an expression around its parts: one more begins, with its units, and the value is that of the last
+-- an expression around its parts: one more begins, with its units, and the value is that of the
+-- last
 whole-agrees : {A : Type 0} {n n′ u u′ c c′ k o : ℕ} {x x′ : A} → Agree n n′ u u′ x x′ k o → c ≡ c′ → Agree (suc n) (suc n′) (c + u) (c′ + u′) x x′ k o
 whole-agrees parts spends = made-agrees parts spends (parts .value)
 
@@ -90,7 +95,8 @@ same-entry : {A : Type 0} {o : Option A} {x y : A} → o ≡ some x → o ≡ so
 same-entry e f = cc
 
 module _ (program : Program) where
-  -- What is to be shown of a derivation with this number, these units, this value and nesting: every other agrees with it.
+  -- What is to be shown of a derivation with this number, these units, this value and nesting:
+  -- every other agrees with it.
   abbrev Agrees : Environment → Expr → (n u : ℕ) → Value → ℕ → Type 0
   Agrees E e n u v nesting = (o′ n′ : ℕ) (v′ : Value) (d′ : Takes program E e o′ n′ v′) → Agree n n′ u (unitsIn d′) v v′ nesting o′
 

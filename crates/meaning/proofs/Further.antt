@@ -1,7 +1,9 @@
--- Where more calls may be open, the same expressions begin, and the evaluation goes on where it stopped at a call too many.
+-- Where more calls may be open, the same expressions begin, and the evaluation goes on where it
+-- stopped at a call too many.
 --
--- By recursion on the calls that may still be opened. Where none may be, the call stops there, and any outcome goes further. Else the two calls
--- evaluate the same body and differ only in what the calls in it come to, so each expression of it goes further: by recursion on the expression.
+-- By recursion on the calls that may still be opened. Where none may be, the call stops there, and
+-- any outcome goes further. Else the two calls evaluate the same body and differ only in what the
+-- calls in it come to, so each expression of it goes further: by recursion on the expression.
 use Prim.Native.Nat.{ℕ, zero, suc, _≤_}
 use mathlib.Core.List.{List, []}
 use mathlib.Core.Option.{Option, none, some}

@@ -1,5 +1,7 @@
--- A run rests on the bytes of its input that it has read or looked at, and on no others. Only two instructions look at the input, one at a tag, one
--- at a number; inputs that agree on the bytes that these rest on say the same there. Bytes read only grow, so a run rests on what its last step does.
+-- A run rests on the bytes of its input that it has read or looked at, and on no others. Only two
+-- instructions look at the input, one at a tag, one at a number; inputs that agree on the bytes
+-- that these rest on say the same there. Bytes read only grow, so a run rests on what its last step
+-- does.
 use Prim.Native.Nat.{ℕ, zero, suc, _+_, _≤_, zero-le, min}
 use mathlib.Core.Bool.{Bool, true, false}
 use mathlib.Core.List.{List, [], _∷_}
@@ -96,7 +98,8 @@ number-rests m s = either (leb (s .read + labelBytes) (length (m .input))) (numb
     either false x = le-refl _
 
 module _ (m : Setting) (input : List ℕ) (s : State) where
-  -- If the other input agrees with the setting's on the bytes that this step rests on, that step is the same.
+  -- If the other input agrees with the setting's on the bytes that this step rests on, that step is
+  -- the same.
   abbrev pub Same : Step → Step → Type 0
   Same this that = take (rests s this) input ≡ take (rests s this) (m .input) → that ≡ this
 
@@ -161,7 +164,8 @@ onward m fuel s this =
     ]
 
 module _ (runs : (m : Setting) (s : State) → Runs m s) (m : Setting) (input : List ℕ) where
-  -- If the other input agrees with the setting's on the bytes that this run rests on, that run is the same.
+  -- If the other input agrees with the setting's on the bytes that this run rests on, that run is
+  -- the same.
   abbrev pub SameRun : Run → Run → Type 0
   SameRun this that = take (restsOn (answerOf this)) input ≡ take (restsOn (answerOf this)) (m .input) → that ≡ this
 

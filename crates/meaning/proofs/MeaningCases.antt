@@ -1,4 +1,5 @@
--- Closed cases of what a program means, proved by computation. Each row of a table is a program, a tree, and the outcome of it.
+-- Closed cases of what a program means, proved by computation. Each row of a table is a program, a
+-- tree, and the outcome of it.
 use Prim.Native.Nat.{ℕ, suc}
 use mathlib.Core.List.{List, [], _∷_, _++_, map}
 use mathlib.Core.Option.{Option·some-injective}
@@ -60,8 +61,8 @@ row runs calls on reports = record { runs = runs; calls = calls; on = on; report
 evaluated : Row → Reported
 evaluated r = reported-from 0 (evaluation (r .runs) (r .calls) (r .on))
 
--- Grow on T begins 14 expressions and opens 2 calls at once. The swapped program gives labels 7 and 5. Sum gives −2147483648. Call 0 on 0 is stopped at
--- 1,024, at its only Call.
+-- Grow on T begins 14 expressions and opens 2 calls at once. The swapped program gives labels 7 and
+-- 5. Sum gives −2147483648. Call 0 on 0 is stopped at 1,024, at its only Call.
 worked : List Row
 worked =
     row grow mostCalls two-leaves (value 14 (tree (node (leaf 6) (leaf 8))))
@@ -82,8 +83,9 @@ of-number body n i = in-number body (value n (number i))
 of-tree : Expr → ℕ → Tree → Row
 of-tree body n t = row (programOf (treed body ∷ [])) 1 two-leaves (value n (tree t))
 
--- Each kind. Sums wrap; a name is the one that was bound there, whatever was bound after it; a Case's left tree comes before its right one; a Call's
--- arguments are named in order, and its tree is the function's tree 0.
+-- Each kind. Sums wrap; a name is the one that was bound there, whatever was bound after it; a
+-- Case's left tree comes before its right one; a Call's arguments are named in order, and its tree
+-- is the function's tree 0.
 each-kind : List Row
 each-kind =
     of-number (const 7) 1 7
@@ -100,8 +102,9 @@ each-kind =
     ∷ row (with-two (caseOf 0 (const 9) (on-two 2 (const 3) (const 4))) (caseOf 0 (var 2) (const 9))) 2 two-leaves (value 6 (number 7))
     ∷ []
 
--- Where it stops, and at which record: in each part of each kind, one open call being allowed. Add takes its left part first. A call's depth is tested
--- after its arguments. In function 1 two calls are open.
+-- Where it stops, and at which record: in each part of each kind, one open call being allowed. Add
+-- takes its left part first. A call's depth is tested after its arguments. In function 1 two calls
+-- are open.
 each-stop : List Row
 each-stop =
     in-number (add (on 0 0) (on 0 0)) (stop 2 18 3)
@@ -130,7 +133,8 @@ as-reported : map evaluated cases ≡ map (λ r. r .reports) cases
 unfolding evaluation called evaluate evaluateArgs followedBy resultNumber resultTree numberOr treeOr atLevel sum32 nth firstRecord total signatureOf size prefix prefixes numbered treed programOf on with-two on-two grow swap again sum two-leaves reported-from row evaluated worked in-number of-number of-tree each-kind each-stop cases
 as-reported = refl
 
--- Grow on T with fuel for 14 expressions, and for 13; Call 0 on 0 with fuel for 1,024, and for 1,023.
+-- Grow on T with fuel for 14 expressions, and for 13; Call 0 on 0 with fuel for 1,024, and for
+-- 1,023.
 fuelled :
     map (reported-from 0)
     (withFuel 14 (evaluation grow mostCalls two-leaves)
@@ -149,7 +153,8 @@ fuelled = refl
 named : Environment
 named = record { numbers = 6 ∷ []; trees = leaf 8 ∷ (leaf 7 ∷ []) }
 
--- One for each kind, in an environment where number 0 is 6, tree 0 a leaf 7 and tree 1 a leaf 8. A call opens one more.
+-- One for each kind, in an environment where number 0 is 6, tree 0 a leaf 7 and tree 1 a leaf 8. A
+-- call opens one more.
 const-derived : Takes sum named (const 7) 1 1 (number 7)
 const-derived = Const
 
@@ -191,7 +196,8 @@ call-derived : Takes sum named (on 0 1) 2 3 (number 8)
 unfolding atLevel nth named sum numbered programOf on branch inBranch
 call-derived = Call no-more refl refl (Case refl (Var refl))
 
--- With no call open not even a number's name is taken. So Sum's body on a leaf needs one call open, and a Call of Sum needs two.
+-- With no call open not even a number's name is taken. So Sum's body on a leaf needs one call open,
+-- and a Call of Sum needs two.
 var-needs-one : {program : Program} {E : Environment} {a n : ℕ} {v : Value} → Takes program E (var a) 0 n v → ⊥
 var-needs-one d = elim d [ ]
 

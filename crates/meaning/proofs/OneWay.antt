@@ -1,8 +1,9 @@
 -- Reductions go one way: a term reduces to at most one other, a value to none.
 --
--- The contexts fix the order in which a term's parts reduce. So a function finds the position where a term may reduce: in its first part, else in its
--- second, else the whole term; a value has none. By cases on the context, where a redex stands in its hole, that position is the hole. So a term is a
--- redex in a context in one way only, and a redex becomes one term only.
+-- The contexts fix the order in which a term's parts reduce. So a function finds the position where
+-- a term may reduce: in its first part, else in its second, else the whole term; a value has none.
+-- By cases on the context, where a redex stands in its hole, that position is the hole. So a term
+-- is a redex in a context in one way only, and a redex becomes one term only.
 use Prim.Native.Nat.{zero, suc}
 use mathlib.Core.List.{[], _∷_}
 use mathlib.Core.Option.{Option, none, some, Option·some-injective, Option·none-ne-some}

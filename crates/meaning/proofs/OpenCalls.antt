@@ -1,10 +1,13 @@
--- The evaluation held to a number of open calls gives what the rules of the source evaluation give; where they give nothing within the bound, it
--- stops at a call too many. The value is of function 0's sort, and its numbers fit 32 bits.
+-- The evaluation held to a number of open calls gives what the rules of the source evaluation give;
+-- where they give nothing within the bound, it stops at a call too many. The value is of function
+-- 0's sort, and its numbers fit 32 bits.
 --
--- From the rules to the function: by induction on the derivation. From the function to the rules: by recursion on the calls that may still be opened
--- and, inside a body, on what pass one says of it. Each part comes to a value of its sort, with a derivation, or stops at a call too many. What the
--- function gives an unbound name, or a value of the other sort, has no derivation: pass one rules both out. A value fits where all that names stand
--- for does: a Const's number is within the limits, and a sum fits by its modulus.
+-- From the rules to the function: by induction on the derivation. From the function to the rules:
+-- by recursion on the calls that may still be opened and, inside a body, on what pass one says of
+-- it. Each part comes to a value of its sort, with a derivation, or stops at a call too many. What
+-- the function gives an unbound name, or a value of the other sort, has no derivation: pass one
+-- rules both out. A value fits where all that names stand for does: a Const's number is within the
+-- limits, and a sum fits by its modulus.
 use Prim.Native.Nat.{ℕ, zero, suc, _+_, _≤_}
 use mathlib.Core.List.{List, [], _∷_}
 use mathlib.Core.Logic.{_⊎_, inl, inr}
@@ -34,14 +37,16 @@ use Rattle.meaning.proofs.Proper.{proper-call, proper-none, proper-arg,
 -- ---- from the rules to the function
 
 module _ (program : Program) where
-  -- What a derivation reports: where as many calls may be open as its bound says, or more, the function gives its value.
+  -- What a derivation reports: where as many calls may be open as its bound says, or more, the
+  -- function gives its value.
   abbrev Reported : (E : Environment) (e : Expr) (o n : ℕ) (v : Value) → Type 0
   Reported E e o n v = (k r : ℕ) → o ≤ suc k → evaluate (called program k) E r e ≡ afterBegun n (gives v)
 
   abbrev ReportedArgs : (E : Environment) (xs : Args) (o n : ℕ) (before numbers : List ℕ) → Type 0
   ReportedArgs E xs o n before numbers = (k r : ℕ) → o ≤ suc k → evaluateArgs (called program k) E r xs before ≡ afterBegun n (gives numbers)
 
-  -- a call gives what its function's body gives; the body's bound is not 0, since it is above the nesting of Call rules
+  -- a call gives what its function's body gives; the body's bound is not 0, since it is above the
+  -- nesting of Call rules
   reported-call :
       (b : ℕ) (f : Function) (numbers : List ℕ) (u : Tree) (o n : ℕ) (v : Value)
       → nth (program .functions) b ≡ some f
@@ -110,7 +115,8 @@ module _ (program : Program) (k : ℕ) where
       → nth (program .functions) b ≡ some f
       → Known (valueOf (f .sort)) (Derived (inCall (numbers .all) u) (f .sort) (f .body) k) (called program k r b (numbers .all) u)
 
-  -- What is to be shown of an expression in an environment, and under so many names of numbers and of trees.
+  -- What is to be shown of an expression in an environment, and under so many names of numbers and
+  -- of trees.
   abbrev KnownIn : (E : Environment) (s : Sort) (e : Expr) → Type 0
   KnownIn E s e = (r : ℕ) → Known (valueOf s) (Derived E s e (suc k)) (evaluate (called program k) E r e)
 
@@ -178,7 +184,8 @@ module _ (program : Program) (k : ℕ) where
         (known-xs E numbers trees _ (i ∷ before) all (omega arith))
   ]
 
--- calls are known so: where none may be opened, they stop; else the body is an expression that pass one takes
+-- calls are known so: where none may be opened, they stop; else the body is an expression that pass
+-- one takes
 known-calls : (program : Program) → ProperProgram program → (k : ℕ) → KnownCalls program k
 unfolding called afterBegun
 known-calls program proper zero b f numbers u r is-function = stopped 0 tooManyCalls r refl

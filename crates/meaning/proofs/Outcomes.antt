@@ -37,7 +37,8 @@ gives-not n m why r x e = let z : _≡_ {A = ℕ} 0 1 = cc (after-same n m (give
 
 -- ---- what an outcome comes to
 
--- So many expressions begin; then there is a value of this form, of which this holds, or a stop, of which that holds.
+-- So many expressions begin; then there is a value of this form, of which this holds, or a stop, of
+-- which that holds.
 pub data ComesTo {X A : Type 0} (form : X → A) (Holds : ℕ → A → Type 0) (Stopped : ℕ → Type 0) : Outcome A → Type 0 where
   given : (n : ℕ) (x : X) → Holds n (form x) → ComesTo form Holds Stopped (afterBegun n (gives (form x)))
   stopped : (n why r : ℕ) → Stopped why → ComesTo form Holds Stopped (afterBegun n (stops why r))

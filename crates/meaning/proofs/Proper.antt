@@ -1,9 +1,11 @@
--- What pass one says of a program, expression by expression: every name is bound, every part is of the sort that is wanted, and each Call has as many
--- arguments as its function has number parameters.
+-- What pass one says of a program, expression by expression: every name is bound, every part is of
+-- the sort that is wanted, and each Call has as many arguments as its function has number
+-- parameters.
 --
--- That a program which passes is proper goes by recursion on each body, with the laws of pass one for each kind of record. Pass one speaks of types and
--- of signatures: a sort is known by its values' type, and a signature is that of a function. Constants' ranges and counts of arguments are the limits
--- of "Program file".
+-- That a program which passes is proper goes by recursion on each body, with the laws of pass one
+-- for each kind of record. Pass one speaks of types and of signatures: a sort is known by its
+-- values' type, and a signature is that of a function. Constants' ranges and counts of arguments
+-- are the limits of "Program file".
 use Prim.Native.Nat.{ℕ, zero, suc, _+_, _^_, _≤_, _<_}
 use mathlib.Core.List.{List, [], _∷_, map}
 use mathlib.Core.Option.{some, Option·some-injective, Option·none-ne-some, map-eq-some-iff}
@@ -24,7 +26,8 @@ use Rattle.rules.proofs.PassOne.{Passes, PassesArgs, pass-left, pass-right}
 use Rattle.rules.proofs.PassOne.{pass-const, pass-var, pass-add, pass-ifZero, pass-let, pass-leaf, pass-node, pass-case, pass-call, pass-arg}
 use Rattle.meaning.specs.Meaning.{PassesOne}
 
--- `Proper fs g n s e`: among functions fs, with g number names and n tree names bound, e has a value of sort s.
+-- `Proper fs g n s e`: among functions fs, with g number names and n tree names bound, e has a
+-- value of sort s.
 mutual
   pub data Proper (fs : List Function) : ℕ → ℕ → Sort → Expr → Type 0 where
     proper-const : {g n i : ℕ} → i < 2 ^ 32 → Proper fs g n numberValued (const i)

@@ -1,5 +1,5 @@
--- Laws of runs. A run is its steps (`by-steps`), and a run goes through every row of steps (`goes-on`), so steps determine it (`only-one`). The
--- other laws are then read off the steps.
+-- Laws of runs. A run is its steps (`by-steps`), and a run goes through every row of steps
+-- (`goes-on`), so steps determine it (`only-one`). The other laws are then read off the steps.
 use Prim.Native.Nat.{ℕ, zero, suc, _+_, _-_, _≤_}
 use mathlib.Core.List.{List, [], _∷_, append-nil}
 use mathlib.Core.Logic.{_≢_}

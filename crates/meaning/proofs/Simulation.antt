@@ -1,9 +1,11 @@
--- The reductions do what the evaluation held to a number of open calls does: a term leads to the term of the value; where the evaluation stops at a
--- call too many, the term makes more reductions than calls may be opened.
+-- The reductions do what the evaluation held to a number of open calls does: a term leads to the
+-- term of the value; where the evaluation stops at a call too many, the term makes more reductions
+-- than calls may be opened.
 --
--- The term is an expression's, with what its names stand for put in. The proof is by recursion on the calls that may be opened and, inside a body, on
--- the expression: each part is reduced in its position, and to put a value in for a name is to have it in the environment. A call makes one reduction
--- more than its body.
+-- The term is an expression's, with what its names stand for put in. The proof is by recursion on
+-- the calls that may be opened and, inside a body, on the expression: each part is reduced in its
+-- position, and to put a value in for a name is to have it in the environment. A call makes one
+-- reduction more than its body.
 use Prim.Native.Nat.{ℕ, zero, suc, _+_}
 use mathlib.Core.List.{List, [], _∷_}
 use mathlib.Core.Option.{some}
@@ -41,7 +43,8 @@ unfolding treeTerm
 tree-value (aLeaf x) = leaf-value
 tree-value (aNode l r) = node-value (tree-value l) (tree-value r)
 
--- M leads to the term of what the outcome gives, which is of this form, or makes k reductions where the outcome is a stop.
+-- M leads to the term of what the outcome gives, which is of this form, or makes k reductions where
+-- the outcome is a stop.
 abbrev Does : {X A : Type 0} → Program → ℕ → (X → A) → (A → Term) → Term → Outcome A → Type 0
 Does program k form term M o = ComesTo form (λ n a. Reaches program M (term a)) (λ why. Makes program k M) o
 
@@ -145,7 +148,8 @@ module _ (program : Program) (proper : ProperProgram program) where
         → n ≡ length (E .trees)
         → Does program (suc d) (valueOf s) valueTerm (put E (termOf g n e)) (evaluate h E r e)
 
-    -- .. and of arguments, where H has taken the numbers before and takes j more: its body N is left, with all of them put in.
+    -- .. and of arguments, where H has taken the numbers before and takes j more: its body N is
+    -- left, with all of them put in.
     abbrev SimulatedArgs : ℕ → ℕ → ℕ → Args → Type 0
     SimulatedArgs g n j xs =
         (E : Environment) (r : ℕ) (H N : Term) (before : List ℕ) (count : ℕ)

@@ -54,7 +54,8 @@ number-fits {E} a fit named = level-every Fits (E .numbers) a (fit .numbers) nam
 pub tree-fits : {E : Environment} {t : Tree} (a : ℕ) → AllFit E → treeNamed E a ≡ some t → Labelled t
 tree-fits {E} a fit named = level-every Labelled (E .trees) a (fit .trees) named
 
--- all fits with one more number that does, with the two trees of a node that does, and in a call with numbers and a tree that do
+-- all fits with one more number that does, with the two trees of a node that does, and in a call
+-- with numbers and a tree that do
 pub fit-number : {E : Environment} {i : ℕ} → AllFit E → Fits i → AllFit (withNumber i E)
 fit-number fit fits = record { numbers = (fits, fit .numbers); trees = fit .trees }
 

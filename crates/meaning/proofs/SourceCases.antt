@@ -1,4 +1,5 @@
--- Closed cases of the source run, proved by computation. Each row of a table is a call and what it gives.
+-- Closed cases of the source run, proved by computation. Each row of a table is a call and what it
+-- gives.
 use Prim.Native.Nat.{ℕ}
 use mathlib.Core.List.{List, [], _∷_, _++_, map}
 use mathlib.Core.Path.{_≡_, refl}
@@ -77,8 +78,9 @@ bare : (file input : List ℕ) (fuel values returns : ℕ) → SourceRan → Row
 bare file input fuel values returns gives =
     record { file = file; input = input; fuel = fuel; space = 2; values = values; returns = returns; gives = gives }
 
--- The refusals in their order: each row has all the faults of those below it. A file too short by a byte; pass one; too few value words, too few return
--- words; a byte that is no tag; no fuel; and then too short an output.
+-- The refusals in their order: each row has all the faults of those below it. A file too short by a
+-- byte; pass one; too few value words, too few return words; a byte that is no tag; no fuel; and
+-- then too short an output.
 first-refusal : List Row
 first-refusal =
     bare (take 511 (fileOf (flatOf wrong))) (3 ∷ []) 0 16383 2047 (refused-with 1 0 0 (blank 2))

@@ -1,6 +1,8 @@
--- The source run's checks before the evaluation: the program file, pass one, the work space, the tree reader. The first refusal is the answer.
+-- The source run's checks before the evaluation: the program file, pass one, the work space, the
+-- tree reader. The first refusal is the answer.
 --
--- The tree reader takes the first tree whatever stands after it. It is the only check that looks at the input, so the checks together give the same.
+-- The tree reader takes the first tree whatever stands after it. It is the only check that looks at
+-- the input, so the checks together give the same.
 use Prim.Native.Nat.{ℕ, _≤_, _<_}
 use mathlib.Core.Bool.{_&&_, and-false}
 use mathlib.Core.List.{List, _++_, append-assoc}

@@ -1,8 +1,11 @@
--- What holds of every call of the source run, from what holds of the evaluation and of the reductions.
+-- What holds of every call of the source run, from what holds of the evaluation and of the
+-- reductions.
 --
--- What the checks before the evaluation refuse, the call refuses. Where they pass, it reports the evaluation's outcome, cut by the fuel. The evaluation
--- ends or stops at a call too many: n expressions begin, then there is a value or a stop. With fuel for n expressions the value or the stop is reported,
--- with less 14. So each call has ended with a value that the evaluation itself gives, or it is refused: what holds of every call is shown of both.
+-- What the checks before the evaluation refuse, the call refuses. Where they pass, it reports the
+-- evaluation's outcome, cut by the fuel. The evaluation ends or stops at a call too many: n
+-- expressions begin, then there is a value or a stop. With fuel for n expressions the value or the
+-- stop is reported, with less 14. So each call has ended with a value that the evaluation itself
+-- gives, or it is refused: what holds of every call is shown of both.
 use Prim.Native.Nat.{ℕ, zero, suc, _+_, _^_, _≤_, _<_, zero-le}
 use mathlib.Core.List.{List, _++_}
 use mathlib.Core.Logic.{inl, inr}

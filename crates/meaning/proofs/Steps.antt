@@ -1,5 +1,6 @@
--- Laws of one step. A state follows another if bytes read and written only grow and the limits are kept. Each change of the state is shown to
--- follow once, with what its test gives; each opcode's line is made of such changes, one after the other.
+-- Laws of one step. A state follows another if bytes read and written only grow and the limits are
+-- kept. Each change of the state is shown to follow once, with what its test gives; each opcode's
+-- line is made of such changes, one after the other.
 use Prim.Native.Nat.{ℕ, zero, suc, _+_, _≤_, _<_}
 use mathlib.Core.Bool.{Bool, true, false}
 use mathlib.Core.List.{List, [], _∷_, _++_, append-nil, append-assoc}

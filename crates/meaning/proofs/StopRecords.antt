@@ -1,8 +1,11 @@
--- Where an evaluation stops: at the record of a Call among the program's nodes, or at 0 where no call may be open at all.
+-- Where an evaluation stops: at the record of a Call among the program's nodes, or at 0 where no
+-- call may be open at all.
 --
--- Only `called` stops, at the record that it is given, and `evaluate` gives it that of a Call. This is shown for any property P of records that each
--- Call's has (`CallsAt`): what holds of the Calls among the program's nodes holds of those in a function's body and in each part of an expression, where
--- `evaluate` has them stand. So a body stops only at records with P, by recursion on the calls that may be open and, in a body, on the expression.
+-- Only `called` stops, at the record that it is given, and `evaluate` gives it that of a Call. This
+-- is shown for any property P of records that each Call's has (`CallsAt`): what holds of the Calls
+-- among the program's nodes holds of those in a function's body and in each part of an expression,
+-- where `evaluate` has them stand. So a body stops only at records with P, by recursion on the
+-- calls that may be open and, in a body, on the expression.
 use Prim.Native.Nat.{ℕ, zero, suc, _+_}
 use mathlib.Core.List.{List, [], _∷_, _++_, map}
 use mathlib.Core.Option.{Option, none, some, Option·some-injective, Option·none-ne-some}

@@ -1,5 +1,7 @@
--- An instruction is refused with a number, or the run ends with one, exactly where a rule of specs/Stopping says so. One way is found by the walk over
--- the opcodes (`exactly-step`). The other way is a computation for each rule: a test that gives 19 is passed, because the instruction can be performed.
+-- An instruction is refused with a number, or the run ends with one, exactly where a rule of
+-- specs/Stopping says so. One way is found by the walk over the opcodes (`exactly-step`). The other
+-- way is a computation for each rule: a test that gives 19 is passed, because the instruction can
+-- be performed.
 use Prim.Native.Nat.{ℕ, suc}
 use mathlib.Core.Bool.{Bool, true, false}
 use mathlib.Core.List.{List, [], _∷_}
@@ -98,7 +100,8 @@ module _ (m : Setting) (s : State) where
 alone-with : Operation → List ℕ → ℕ → Setting
 alone-with op input space = ofCode (bytesOfRecord (instructionOf op)) input space
 
--- What it is refused with, and 0 where it is not, with so many words in the frame, all 0, and so many frames that wait.
+-- What it is refused with, and 0 where it is not, with so many words in the frame, all 0, and so
+-- many frames that wait.
 refused-with : Operation → List ℕ → ℕ → ℕ → ℕ → ℕ
 refused-with op input space words calls = numberIn (step (alone-with op input space) (standing-at words calls))
 

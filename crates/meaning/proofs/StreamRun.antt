@@ -32,7 +32,8 @@ reads-back (Return k) = refl
 
 -- ---- unused fields
 
--- for each opcode, the instruction with its unused fields zero is the one written for the operation that the opcode names
+-- for each opcode, the instruction with its unused fields zero is the one written for the operation
+-- that the opcode names
 row-by-row : (byte1 operand number : ℕ) → usedFields byte1 operand number ≡ map instructionOf (operations byte1 operand number)
 unfolding usedFields operations instructionOf
 row-by-row byte1 operand number = refl

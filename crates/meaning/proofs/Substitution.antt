@@ -1,8 +1,9 @@
 -- Laws of substitution, and the substitution that an environment stands for.
 --
--- The terms of values have no free names, and a function's fixed point has none but functions' names, since pass one has found every name bound. So a
--- substitution that replaces no function's name leaves them as they are, and two substitutions, one after the other, do what one does. To put a
--- value in for the name that a binder binds is then to have it in the environment.
+-- The terms of values have no free names, and a function's fixed point has none but functions'
+-- names, since pass one has found every name bound. So a substitution that replaces no function's
+-- name leaves them as they are, and two substitutions, one after the other, do what one does. To
+-- put a value in for the name that a binder binds is then to have it in the environment.
 use Prim.Native.Nat.{ℕ, zero, suc, _+_, _<_}
 use mathlib.Core.Bool.{Bool, true, false}
 use mathlib.Core.List.{List, [], _∷_}
@@ -47,7 +48,8 @@ record Keeps (g n : ℕ) (τ : Substitution) : Type 0 where
   trees : (k : ℕ) → k < n → τ (treeName k) ≡ none
   functions : KeepsFunctions τ
 
--- under a binder of the next number, of the next tree, or of the next two trees, it replaces none of the names bound there
+-- under a binder of the next number, of the next tree, or of the next two trees, it replaces none
+-- of the names bound there
 keeps-number : {g n : ℕ} {τ : Substitution} → Keeps g n τ → Keeps (suc g) n (without (numberName g) τ)
 unfolding without sameName
 keeps-number {g} k = record {
@@ -128,7 +130,8 @@ fix-closed program proper b f known τ k =
 
 -- ---- one substitution after another
 
--- What a name is replaced by, where the first gives one thing and the second another: what the first gives stays, since it is closed.
+-- What a name is replaced by, where the first gives one thing and the second another: what the
+-- first gives stays, since it is closed.
 data Joined : Option Term → Option Term → Option Term → Type 0 where
   by-first : {W : Term} {o : Option Term} → Closed W → Joined (some W) o (some W)
   by-second : {o : Option Term} → Joined none o o

@@ -1,5 +1,5 @@
--- Witnesses: programs that pass pass one, in and out of order, whose evaluation ends, and one whose evaluation is endless. So what is proved of such
--- programs (Meaning) is not empty.
+-- Witnesses: programs that pass pass one, in and out of order, whose evaluation ends, and one whose
+-- evaluation is endless. So what is proved of such programs (Meaning) is not empty.
 use Prim.Native.Nat.{ℕ, zero, suc}
 use mathlib.Core.List.{[]}
 use mathlib.Core.Option.{some}

@@ -1,4 +1,5 @@
--- Laws of the work words: a call that touches none of them, and a call that comes to its run. And which refusals come before a run, number by number.
+-- Laws of the work words: a call that touches none of them, and a call that comes to its run. And
+-- which refusals come before a run, number by number.
 use Prim.Native.Nat.{ℕ}
 use mathlib.Core.Bool.{Bool, true, false, false≢true}
 use mathlib.Core.List.{List, [], _∷_, map}

@@ -3,7 +3,8 @@
 -- at the input, the output or how many calls are open, and none refers to how an instruction is
 -- performed.
 --
--- The theorem is StreamRun.antt, `OneStep.cannot-first`: an instruction is refused with 19 exactly where one of these rules holds.
+-- The theorem is StreamRun.antt, `OneStep.cannot-first`: an instruction is refused with 19 exactly
+-- where one of these rules holds.
 use Prim.Native.Nat.{ℕ, suc, _+_, _<_}
 use mathlib.Core.Option.{none, some}
 use mathlib.Core.Path.{_≡_}
@@ -33,7 +34,8 @@ wordsNeeded ReadNumber = 0
 wordsNeeded (Call entry n) = n
 wordsNeeded (Return k) = k
 
--- By how many words the value stack, all frames together, grows. (A call's arguments only change their frame.)
+-- By how many words the value stack, all frames together, grows. (A call's arguments only change
+-- their frame.)
 unfoldable pub wordsAdded : Operation → ℕ
 wordsAdded (Push x) = 1
 wordsAdded (Get k) = 1

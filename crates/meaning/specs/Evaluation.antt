@@ -98,7 +98,8 @@ mutual
         → treeNamed E a ≡ some t
         → Takes program (inBranch t E) (branch t p q) o n v
         → Takes program E (caseOf a p q) o (suc n) v
-    -- "Call takes its arguments, then opens a call: b's body, with these numbers and the named tree alone; its value closes it and is the Call's."
+    -- "Call takes its arguments, then opens a call: b's body, with these numbers and the named tree
+    -- alone; its value closes it and is the Call's."
     Call :
         {E : Environment} {a b : ℕ} {xs : Args} {o n m : ℕ} {numbers : List ℕ} {t : Tree} {f : Function} {v : Value}
         → TakesArgs program E xs (suc o) n [] numbers
@@ -107,7 +108,8 @@ mutual
         → Takes program (inCall numbers t) (f .body) o m v
         → Takes program E (call a b xs) (suc o) (suc (n + m)) v
 
-  -- The arguments of a Call, in order: each one's number is the next that the function's names stand for.
+  -- The arguments of a Call, in order: each one's number is the next that the function's names
+  -- stand for.
   pub data TakesArgs (program : Program) : Environment → Args → ℕ → ℕ → List ℕ → List ℕ → Type 0 where
     no-more : {E : Environment} {o : ℕ} {numbers : List ℕ} → TakesArgs program E noArgs o 0 numbers numbers
     one-more :
@@ -147,8 +149,8 @@ unfoldable pub caseUnits : Tree → ℕ
 caseUnits (leaf x) = 4
 caseUnits (node l r) = 1
 
--- `begin` is applied at each rule, to the units of its record and to what its premises count; `enter` at the body that a Call opens; `join` joins what
--- two premises count.
+-- `begin` is applied at each rule, to the units of its record and to what its premises count;
+-- `enter` at the body that a Call opens; `join` joins what two premises count.
 unfoldable pub counted :
     {program : Program} {E : Environment} {e : Expr} {o n : ℕ} {v : Value} (begin : ℕ → ℕ → ℕ) (enter : ℕ → ℕ) (join : ℕ → ℕ → ℕ)
     → Takes program E e o n v

@@ -60,7 +60,8 @@ pub record Evaluations (program : Program) : Type 0 where
   pub four-each : (E : Environment) (e : Expr) (o n : ℕ) (v : Value) (d : Takes program E e o n v) → unitsIn d ≤ 4 * n
   -- n is the number of rules, one for each expression
   pub rules-begun : (E : Environment) (e : Expr) (o n : ℕ) (v : Value) (d : Takes program E e o n v) → rulesIn d ≡ n
-  -- o′ bounds the calls open exactly where it is above the nesting of Call rules: the least bound is one more than that
+  -- o′ bounds the calls open exactly where it is above the nesting of Call rules: the least bound
+  -- is one more than that
   pub least-open :
       (E : Environment) (e : Expr) (o n : ℕ) (v : Value) (d : Takes program E e o n v) (o′ : ℕ)
       → Takes program E e o′ n v ↔ (nestingIn d < o′)
@@ -81,7 +82,8 @@ pub record EndsWithin (program : Program) (t : Tree) (o : ℕ) : Type 0 where
   pub value : Value
   pub ends : Ends program t o expressions value
 
--- The record at which a call is one too many, where o may be open: a Call's; where none may be open, no Call opens the first, and it is 0.
+-- The record at which a call is one too many, where o may be open: a Call's; where none may be
+-- open, no Call opens the first, and it is 0.
 pub data AtCall (program : Program) : ℕ → ℕ → Type 0 where
   none-open : AtCall program 0 0
   a-call :
@@ -207,7 +209,8 @@ pub record ByReductions (program : Program) (t : Tree) (output : List ℕ) (ran 
   pub is-first : nth (program .functions) 0 ≡ some first
   pub leads : Reaches program (programOn first t) (valueTerm value)
 
--- What a call that ended came from: all that comes before the evaluation passed, the evaluation ended, and fuel and output were enough.
+-- What a call that ended came from: all that comes before the evaluation passed, the evaluation
+-- ended, and fuel and output were enough.
 pub record EndedFrom (file input output : List ℕ) (values returns fuel : ℕ) (ran : SourceRan) : Type 0 where
   pub program : Program
   pub input-tree : Tree
@@ -225,7 +228,8 @@ pub record Refuses18 (output : List ℕ) (call : ℕ → SourceRan) : Type 0 whe
   pub enough : (fuel : ℕ) → expressions ≤ fuel → RefusedWith expressions tooManyCalls 0 output (call fuel)
   pub short : (fuel : ℕ) → fuel < expressions → RefusedWith fuel fuelUsedUp 0 output (call fuel)
 
--- Calls of the source run, each with its fuel, and with one file, one input, one output and one work space.
+-- Calls of the source run, each with its fuel, and with one file, one input, one output and one
+-- work space.
 pub record SourceRuns (file input output : List ℕ) (values returns : ℕ) (call : ℕ → SourceRan) : Type 0 where
   -- what comes before the evaluation, the first refusal first
   pub file-refused : (number position fuel : ℕ) → programIn file ≡ refusal number position → RefusedWith 0 number position output (call fuel)
@@ -248,7 +252,8 @@ pub record SourceRuns (file input output : List ℕ) (values returns : ℕ) (cal
       → returnWords ≤ returns
       → firstTree input ≡ refusal number position
       → RefusedWith 0 number position output (call fuel)
-  -- the evaluation ends within 1,024 open calls: fuel for all its expressions and space for its result, or 17, or 14 before that
+  -- the evaluation ends within 1,024 open calls: fuel for all its expressions and space for its
+  -- result, or 17, or 14 before that
   pub ends :
       (program : Program) (t : Tree) (n : ℕ) (v : Value) (fuel : ℕ)
       → Passed file input values returns program t
@@ -275,7 +280,8 @@ pub record SourceRuns (file input output : List ℕ) (values returns : ℕ) (cal
       → Passed file input values returns program t
       → ((n : ℕ) (v : Value) → Ends program t mostCalls n v → ⊥)
       → Refuses18 output call
-  -- a call ends in no other case than that of `ends`: its program passed pass one, and so did all else before the evaluation, which ended
+  -- a call ends in no other case than that of `ends`: its program passed pass one, and so did all
+  -- else before the evaluation, which ended
   pub ended-from : (fuel : ℕ) → call fuel .answer .outcome ≡ done tt → EndedFrom file input output values returns fuel (call fuel)
   -- every refusal leaves the output, and reports neither bytes nor a number
   pub untouched :
@@ -288,7 +294,8 @@ pub record SourceRuns (file input output : List ℕ) (values returns : ℕ) (cal
       → Passed file input values returns program t
       → call fuel .answer .outcome ≡ done tt
       → ByReductions program t output (call fuel)
-  -- no more expressions begin than there is fuel, the number is one of 32 bits, and the output keeps its length
+  -- no more expressions begin than there is fuel, the number is one of 32 bits, and the output
+  -- keeps its length
   pub within-fuel : (fuel : ℕ) → call fuel .answer .begun ≤ fuel
   pub number-fits : (fuel : ℕ) → Bytes input → call fuel .answer .number < 2 ^ 32
   pub same-length : (fuel : ℕ) → length (call fuel .output) ≡ length output

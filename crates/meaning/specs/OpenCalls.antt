@@ -1,5 +1,6 @@
--- The source evaluation held to a number of open calls. A body has no loop, so it always comes to an end: with a value, or at a call too many. It is a
--- function by recursion on the calls that may still be opened and, inside a body, on the expression.
+-- The source evaluation held to a number of open calls. A body has no loop, so it always comes to
+-- an end: with a value, or at a call too many. It is a function by recursion on the calls that may
+-- still be opened and, inside a body, on the expression.
 use Prim.Native.Nat.{ℕ, zero, suc, _+_}
 use mathlib.Core.List.{List, [], _∷_}
 use mathlib.Core.Option.{Option, none, some}
@@ -11,7 +12,8 @@ use Rattle.formats.specs.Records.{nth}
 use Rattle.formats.specs.Programs.{Expr, const, var, add, ifZero, letIn, leafOf, nodeOf, caseOf, call, Args, noArgs, arg, size, total, Program, signatures}
 use Rattle.meaning.specs.Evaluation.{Value, number, tree, Environment, numberNamed, treeNamed, withNumber, withTrees, inCall, resultNumber}
 
--- What an evaluation comes to: a mark for each expression begun, then its value, or the number of a refusal with its record (0 where it has none).
+-- What an evaluation comes to: a mark for each expression begun, then its value, or the number of a
+-- refusal with its record (0 where it has none).
 pub data Outcome (A : Type 0) : Type 0 where
   gives : (value : A) → Outcome A
   stops : (number at-record : ℕ) → Outcome A
@@ -34,8 +36,8 @@ followedBy (gives x) f = f x
 followedBy (stops why r) f = stops why r
 followedBy (begins o) f = begins (followedBy o f)
 
--- What the rows of the file and pass one rule out is given a value too: an unbound name, a tree where a number is wanted or a number where a tree is, a
--- function that is not there.
+-- What the rows of the file and pass one rule out is given a value too: an unbound name, a tree
+-- where a number is wanted or a number where a tree is, a function that is not there.
 unfoldable pub numberOr : Option ℕ → ℕ
 numberOr none = 0
 numberOr (some i) = i

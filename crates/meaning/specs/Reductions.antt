@@ -58,8 +58,8 @@ unfoldable pub replaced : Name → Option Term → Term
 replaced x none = name x
 replaced x (some W) = W
 
--- [σ]M. No bound name is renamed: what programs put in for a name has no free name that could be bound there (numbers and trees have none, a fix has
--- functions' names alone).
+-- [σ]M. No bound name is renamed: what programs put in for a name has no free name that could be
+-- bound there (numbers and trees have none, a fix has functions' names alone).
 unfoldable pub substitute : Substitution → Term → Term
 substitute σ (int i) = int i
 substitute σ (lam x M) = lam x (substitute (without x σ) M)

@@ -15,7 +15,8 @@ pub data Stop : Type 0 where
   ended : (number : ℕ) → Stop
   refused : (number : ℕ) → Stop
 
--- A run: the addresses of the instructions performed, in order; the state in which it stops; why it stops.
+-- A run: the addresses of the instructions performed, in order; the state in which it stops; why it
+-- stops.
 pub record Run : Type 0 where
   pub performed : List ℕ
   pub last : State

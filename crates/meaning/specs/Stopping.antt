@@ -1,8 +1,8 @@
--- When an instruction stops the run: the refusals 15 to 19, a rule for each condition, and the return of the first frame. None of these rules refers
--- to how an instruction is performed.
+-- When an instruction stops the run: the refusals 15 to 19, a rule for each condition, and the
+-- return of the first frame. None of these rules refers to how an instruction is performed.
 --
--- The theorems are StreamRun.antt, `OneStep.refused-exactly` and `OneStep.ends-exactly`: an instruction is refused with a number, or the run ends with
--- one, exactly where a rule says so.
+-- The theorems are StreamRun.antt, `OneStep.refused-exactly` and `OneStep.ends-exactly`: an
+-- instruction is refused with a number, or the run ends with one, exactly where a rule says so.
 use Prim.Native.Nat.{ℕ, _+_, _≤_, _<_}
 use mathlib.Core.List.{List, [], _∷_}
 use mathlib.Core.Logic.{_≢_}
@@ -14,7 +14,8 @@ use Rattle.meaning.specs.Instructions.{Operation, LeafTag, NodeTag, Writ
 use Rattle.meaning.specs.Performing.{Setting, State, opened}
 use Rattle.meaning.specs.CannotPerform.{Fetches, CannotPerform}
 
--- The input, the output or the open calls prevent an operation. "Four bytes are read or written together or none."
+-- The input, the output or the open calls prevent an operation. "Four bytes are read or written
+-- together or none."
 pub data Prevented (m : Setting) (s : State) : Operation → ℕ → Type 0 where
   -- "15 input ended": a read tag with no byte left, a read number with fewer than 4
   no-tag : {a : ℕ} → length (m .input) ≤ s .read → Prevented m s (ReadTag a) inputEnded
@@ -26,7 +27,8 @@ pub data Prevented (m : Setting) (s : State) : Operation → ℕ → Type 0 wher
       → getD (m .input) (s .read) 0 ≢ leafTag
       → getD (m .input) (s .read) 0 ≢ nodeTag
       → Prevented m s (ReadTag a) notATag
-  -- "17 output full": a leaf tag or a node tag with no room for 1 byte, a write number with no room for 4
+  -- "17 output full": a leaf tag or a node tag with no room for 1 byte, a write number with no room
+  -- for 4
   no-room-for-leaf : m .space < length (s .output) + 1 → Prevented m s LeafTag outputFull
   no-room-for-node : m .space < length (s .output) + 1 → Prevented m s NodeTag outputFull
   no-room-for-number : m .space < length (s .output) + labelBytes → Prevented m s WriteNumber outputFull

@@ -1,4 +1,5 @@
--- What holds of every stream run, of any code: the statements. They are proved in proofs/StreamRun.antt.
+-- What holds of every stream run, of any code: the statements. They are proved in
+-- proofs/StreamRun.antt.
 use Prim.Native.Nat.{ℕ, _+_, _≤_, _<_}
 use mathlib.Core.List.{List, [], _∷_, _++_}
 use mathlib.Core.Logic.{_↔_, _≢_}
@@ -46,7 +47,8 @@ pub record OneStep (m : Setting) (s : State) : Type 0 where
   -- 19 exactly where the instruction can't be performed, whatever the input, the output and the
   -- open calls are.
   pub cannot-first : (step m s ≡ refuses cannotPerform) ↔ CannotPerform m s
-  -- It is refused with 15 to 19 exactly where a rule says so, and the run ends there exactly at the return of the first frame.
+  -- It is refused with 15 to 19 exactly where a rule says so, and the run ends there exactly at the
+  -- return of the first frame.
   pub refused-exactly : (number : ℕ) → (step m s ≡ refuses number) ↔ Refused m s number
   pub ends-exactly : (number : ℕ) → (step m s ≡ ends number) ↔ ReturnsFirst m s number
   pub grows : (t : State) → step m s ≡ goes t → Grows s t
@@ -59,8 +61,8 @@ pub data Steps (m : Setting) : List ℕ → State → State → Type 0 where
   here : {s : State} → Steps m [] s s
   on : {past : List ℕ} {s t u : State} → step m s ≡ goes t → Steps m past t u → Steps m (s .address ∷ past) s u
 
--- A run with its fuel, from s on, reported by its steps: the fuel is used up, or there is fuel for one more and the first frame returns, or that
--- instruction is refused.
+-- A run with its fuel, from s on, reported by its steps: the fuel is used up, or there is fuel for
+-- one more and the first frame returns, or that instruction is refused.
 pub data Stops (m : Setting) (fuel : ℕ) (s : State) : Run → Type 0 where
   used-up : {past : List ℕ} {t : State} → Steps m past s t → length past ≡ fuel → Stops m fuel s (record { performed = past; last = t; stop = refused fuelUsedUp })
   returned :
@@ -97,8 +99,8 @@ pub record Runs (m : Setting) (s : State) : Type 0 where
 
 -- ---- calls
 
--- How many bytes, from bytes read on, a run has looked at without reading them: at 16 the byte that is no tag; at 15 up to four bytes of a label, or
--- the input's end.
+-- How many bytes, from bytes read on, a run has looked at without reading them: at 16 the byte that
+-- is no tag; at 15 up to four bytes of a label, or the input's end.
 unfoldable pub lookedAt : Result (Unit {0}) → ℕ
 lookedAt (done x) = 0
 lookedAt (refusal number position) =
@@ -111,7 +113,8 @@ lookedAt (refusal number position) =
 abbrev pub restsOn : Answer → ℕ
 restsOn a = a .bytesRead + lookedAt (a .outcome)
 
--- Calls of the stream run, each with its input and fuel, and with one code, one work space and one output.
+-- Calls of the stream run, each with its input and fuel, and with one code, one work space and one
+-- output.
 pub record Calls (output : List ℕ) (call : List ℕ → ℕ → Ran) : Type 0 where
   -- units never exceed the fuel, and equal it at 14
   pub within-fuel : (input : List ℕ) (fuel : ℕ) → call input fuel .answer .units ≤ fuel
@@ -124,7 +127,8 @@ pub record Calls (output : List ℕ) (call : List ℕ → ℕ → Ran) : Type 0 
   pub written-fits : (input : List ℕ) (fuel : ℕ) → call input fuel .answer .bytesWritten ≤ length output
   pub same-length : (input : List ℕ) (fuel : ℕ) → length (call input fuel .output) ≡ length output
   pub untouched : (input : List ℕ) (fuel : ℕ) → untouchedBy (call input fuel) (call input fuel .output) ≡ untouchedBy (call input fuel) output
-  -- with more fuel, bytes read and written only grow, and what was written is a prefix of what is written later
+  -- with more fuel, bytes read and written only grow, and what was written is a prefix of what is
+  -- written later
   pub reads-on : (input : List ℕ) (fuel more : ℕ) → fuel ≤ more → call input fuel .answer .bytesRead ≤ call input more .answer .bytesRead
   pub writes-on : (input : List ℕ) (fuel more : ℕ) → fuel ≤ more → Opens (writtenBy (call input fuel)) (writtenBy (call input more))
   -- a run that ends, ends with every larger fuel, with the same answer and output
@@ -135,7 +139,8 @@ pub record Calls (output : List ℕ) (call : List ℕ → ℕ → Ran) : Type 0 
       → ((position : ℕ) → call input fuel .answer .outcome ≢ refusal fuelUsedUp position)
       → fuel ≤ more
       → call input more ≡ call input fuel
-  -- every other input that opens with the bytes read, and agrees on those looked at besides, gives the same answer and output
+  -- every other input that opens with the bytes read, and agrees on those looked at besides, gives
+  -- the same answer and output
   pub same-input :
       (input other : List ℕ) (fuel : ℕ)
       → take (restsOn (call input fuel .answer)) other ≡ take (restsOn (call input fuel .answer)) input
@@ -145,7 +150,8 @@ pub record Calls (output : List ℕ) (call : List ℕ → ℕ → Ran) : Type 0 
 pub record StreamRun : Type 0 where
   -- an instruction is read as it is written
   pub reads-back : (op : Operation) → operationOf (instructionOf op) ≡ some op
-  -- its unused fields are written zero: what is written for an operation is any instruction that has it, with the unused fields zero ..
+  -- its unused fields are written zero: what is written for an operation is any instruction that
+  -- has it, with the unused fields zero ..
   pub written-zero : (i : Instruction) (op : Operation) → operationOf i ≡ some op → instructionOf op ≡ used i
   -- .. and not looked at: whatever they hold, the operation is the same
   pub not-looked-at : (i : Instruction) → operationOf i ≡ operationOf (used i)

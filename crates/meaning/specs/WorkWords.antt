@@ -14,11 +14,13 @@ use Rattle.formats.specs.Results.{Result, refusal}
 unfoldable pub beforeStream : ℕ → Bool
 beforeStream number = leb number spaceTooShort
 
--- The numbers that a call is refused with before its source run: 1 to 13, and those of the tree reader, 15, 16 and 20.
+-- The numbers that a call is refused with before its source run: 1 to 13, and those of the tree
+-- reader, 15, 16 and 20.
 unfoldable pub beforeSource : ℕ → Bool
 beforeSource number = leb number spaceTooShort || (eqb number inputEnded || (eqb number notATag || eqb number tooDeep))
 
--- The work words of a call with this outcome: unprimed at entry, primed at exit. `before` says which refusals come before the run.
+-- The work words of a call with this outcome: unprimed at entry, primed at exit. `before` says
+-- which refusals come before the run.
 pub record WorkWords (before : ℕ → Bool) (outcome : Result (Unit {0})) (values values′ returns returns′ : List ℕ) : Type 0 where
   -- as many as were lent
   pub values-length : length values′ ≡ length values

@@ -1,4 +1,5 @@
--- The place of a named tree: a law for each way out of `offset_of`, and that it is the offset where the steps find the tree.
+-- The place of a named tree: a law for each way out of `offset_of`, and that it is the offset where
+-- the steps find the tree.
 use Prim.Native.Nat.{ℕ, zero, suc, _+_, _-_, _*_, _/_, _%_, _≤_, _<_}
 use mathlib.Core.List.{List}
 use mathlib.Core.Logic.{_≢_}

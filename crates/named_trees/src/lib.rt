@@ -6,8 +6,8 @@ ghost use mathlib.Core.Path.{_≡_};
 ghost use Rattle.stepwise.specs.Inner.Steps.{treeAt};
 ghost use Rattle.named_trees.specs.Inner.Offsets.{partAt, treeOffset};
 
-// Where a tree of the node at offset `node` begins: the left one for an even j, else the right one. The tree at `known` ends at `end`; of another left tree
-// the end is looked for.
+// Where a tree of the node at offset `node` begins: the left one for an even j, else the right one.
+// The tree at `known` ends at `end`; of another left tree the end is looked for.
 fn part_of(input: &[u8], known: usize, end: usize, node: usize, j: u16) -> usize
     ensures { λ r. ⌜ r ≡ partAt (now (input .entry)) known end node j ⌝ }
 {
@@ -35,8 +35,9 @@ fn part_of(input: &[u8], known: usize, end: usize, node: usize, j: u16) -> usize
     }
 }
 
-// Where the tree of this code begins, in a frame whose own tree is at `own`: 0 is that tree, 2c + 1 the left tree and 2c + 2 the right one of the tree
-// that the Case at record c looks at. The code falls at each call, and the Cases are nested.
+// Where the tree of this code begins, in a frame whose own tree is at `own`: 0 is that tree, 2c + 1
+// the left tree and 2c + 2 the right one of the tree that the Case at record c looks at. The code
+// falls at each call, and the Cases are nested.
 fn offset_of(table: &[u16], input: &[u8], own: usize, known: usize, end: usize, code: u16) -> usize
     ensures { λ r. ⌜ r ≡ treeOffset (now (table .entry)) (now (input .entry)) own known end code ⌝ }
 {
@@ -54,7 +55,8 @@ fn offset_of(table: &[u16], input: &[u8], own: usize, known: usize, end: usize, 
 
 // Where the tree begins that the stage's record names.
 pub fn named_offset(table: &[u16], input: &[u8], s: Stage) -> usize
-    ensures { λ r. ⌜ r ≡ treeOffset (now (table .entry)) (now (input .entry)) (s .tree) (s .known) (s .end) (treeAt (now (table .entry)) (s .node)) ⌝ }
+    ensures { λ r. ⌜ r ≡ treeOffset (now (table .entry)) (now (input .entry)) (s .tree) (s .known)
+        (s .end) (treeAt (now (table .entry)) (s .node)) ⌝ }
 {
     let code = frames::field(table, s.node, TREE);
     offset_of(table, input, s.tree, s.known, s.end, code)

@@ -13,7 +13,8 @@ ghost use Rattle.nodes.specs.Inner.Parts.{partsIn};
 
 // The row "nodes".
 pub fn node_row(flat: &[u8]) -> Verdict
-    ensures { λ r. ⌜ verdictResult r ≡ verdict (nodeRow (headerIn (now (flat .entry))) (now (flat .entry))) ⌝ }
+    ensures { λ r. ⌜ verdictResult r ≡ verdict
+        (nodeRow (headerIn (now (flat .entry))) (now (flat .entry))) ⌝ }
 {
     let functions = signatures::functions_in(flat) as usize;
     let nodes = signatures::nodes_in(flat) as usize;

@@ -1,5 +1,5 @@
--- The number that a word stands for. It is the one that signed operations read off the word. A word of the upper half is as far below 2^32 - 1
--- as its number is below -1.
+-- The number that a word stands for. It is the one that signed operations read off the word. A word
+-- of the upper half is as far below 2^32 - 1 as its number is below -1.
 use Prim.Native.Nat.{ℕ, zero, suc, _-_, _^_, _≤_, _<_}
 use mathlib.Core.Bool.{Bool, true, false}
 use mathlib.Core.Path.{_≡_, refl, ap, _∙_}

@@ -1,4 +1,5 @@
-// 32-bit words as numbers: their sums modulo 2^32, and the number that a word stands for in two's complement.
+// 32-bit words as numbers: their sums modulo 2^32, and the number that a word stands for in two's
+// complement.
 ghost use mathlib.Core.Path.{_≡_};
 ghost use Rattle.formats.specs.Numbers.{sum32, signed32};
 

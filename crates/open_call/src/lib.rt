@@ -28,10 +28,12 @@ fn from_down(slot: u16, n: u16) -> u16
     slot - n
 }
 
-// Puts the arguments of a call, which stand on words from `slot` down of the last frame, on the first words of the next one.
+// Puts the arguments of a call, which stand on words from `slot` down of the last frame, on the
+// first words of the next one.
 fn copy(values: &mut [u32], calls: u16, slot: u16, count: u16)
     requires { ⌜ calls < mostWaiting ⌝ }
-    ensures { λ _. ⌜ now (values .exit) ≡ copied (now (values .entry)) (frameWords * calls) slot count ⌝ }
+    ensures { λ _. ⌜ now (values .exit) ≡ copied (now (values .entry)) (frameWords * calls) slot
+        count ⌝ }
 {
     let mut n: u16 = 0;
     while n < count {
@@ -44,7 +46,8 @@ fn copy(values: &mut [u32], calls: u16, slot: u16, count: u16)
 // Puts the arguments of the call at the stage's record on the first words of the next frame.
 fn pass_arguments(table: &[u16], values: &mut [u32], s: Stage)
     requires { ⌜ (s .node < recordLimit) × (s .calls < mostWaiting) ⌝ }
-    ensures { λ _. ⌜ now (values .exit) ≡ copied (now (values .entry)) (frameWords * s .calls) (slotAt (now (table .entry)) (suc (s .node))) (moreAt (now (table .entry)) (s .node)) ⌝ }
+    ensures { λ _. ⌜ now (values .exit) ≡ copied (now (values .entry)) (frameWords * s .calls)
+        (slotAt (now (table .entry)) (suc (s .node))) (moreAt (now (table .entry)) (s .node)) ⌝ }
 {
     let slot = frames::field(table, s.node + 1, SLOT);
     copy(values, s.calls, slot, frames::field(table, s.node, MORE))
@@ -61,7 +64,8 @@ fn put_return(returns: &mut [u64], i: usize, x: u64)
 
 // Saves the call's record and its frame's tree on the return words.
 fn save(returns: &mut [u64], s: Stage)
-    ensures { λ _. ⌜ now (returns .exit) ≡ set (set (now (returns .entry)) (2 * s .calls) (s .node)) (suc (2 * s .calls)) (s .tree) ⌝ }
+    ensures { λ _. ⌜ now (returns .exit) ≡ set (set (now (returns .entry)) (2 * s .calls) (s .node))
+        (suc (2 * s .calls)) (s .tree) ⌝ }
 {
     let i = 2 * (s.calls as usize);
     put_return(returns, i, s.node as u64);
@@ -70,7 +74,8 @@ fn save(returns: &mut [u64], s: Stage)
 
 // Opens the call at the stage's record: its function's body begins, or it is one too many.
 pub fn open(table: &[u16], input: &[u8], values: &mut [u32], returns: &mut [u64], s: Stage) -> Stage
-    ensures { λ r. ⌜ Opens (now (table .entry)) (now (input .entry)) (now (values .entry)) (now (values .exit)) (now (returns .entry)) (now (returns .exit)) s r ⌝ }
+    ensures { λ r. ⌜ Opens (now (table .entry)) (now (input .entry)) (now (values .entry))
+        (now (values .exit)) (now (returns .entry)) (now (returns .exit)) s r ⌝ }
 {
     let r = s.node;
     if RECORD_LIMIT <= r {

@@ -6,7 +6,8 @@ ghost use mathlib.Core.Path.{_≡_};
 ghost use Rattle.refusal.specs.Inner.Verdicts.{verdictResult};
 ghost use Rattle.rules.specs.PassTwo.{checkFile};
 
-// A program file: the rows blocks to prefix form, pass one, then pass two, each finished for the whole file before the next begins.
+// A program file: the rows blocks to prefix form, pass one, then pass two, each finished for the
+// whole file before the next begins.
 pub fn check_file(file: &[u8]) -> Verdict
     ensures { λ r. ⌜ verdictResult r ≡ checkFile (now (file .entry)) ⌝ }
 {

@@ -1,4 +1,5 @@
--- Where parts stand: a law for each way out of the functions, and what is exact where counts are small.
+-- Where parts stand: a law for each way out of the functions, and what is exact where counts are
+-- small.
 use Prim.Native.Nat.{ℕ, suc, _+_, _-_, _%_, _≤_, _<_}
 use mathlib.Core.Bool.{Bool, true, false}
 use mathlib.Core.List.{List, [], _∷_}

@@ -26,8 +26,9 @@ const FOLLOWED: usize = 6;
 
 const LAST_ARGUMENT: usize = 7;
 
-// Where a record stands: what it is to its parent, the parent's record, the word of its number, numbers named, numbers kept, and in how many node parts
-// of Cases it stands. The records of these Cases are lent beside it, the outermost first.
+// Where a record stands: what it is to its parent, the parent's record, the word of its number,
+// numbers named, numbers kept, and in how many node parts of Cases it stands. The records of these
+// Cases are lent beside it, the outermost first.
 pub struct Location {
     pub role: usize,
     pub parent: usize,
@@ -37,7 +38,8 @@ pub struct Location {
     pub depth: usize,
 }
 
-// The sum, and the largest number where it is no 64-bit number: counts of a program's records are small.
+// The sum, and the largest number where it is no 64-bit number: counts of a program's records are
+// small.
 fn add_up(x: usize, y: usize) -> usize
     ensures { λ r. ⌜ r ≡ capped (x + y) ⌝ }
 {
@@ -76,7 +78,8 @@ fn placed(
     keeps: usize,
     depth: usize,
 ) -> Location
-    ensures { λ r. ⌜ r ≡ record { role = role; parent = parent; slot = slot; names = names; keeps = keeps; depth = depth } ⌝ }
+    ensures { λ r. ⌜ r ≡ record
+        { role = role; parent = parent; slot = slot; names = names; keeps = keeps; depth = depth } ⌝ }
 {
     Location {
         role: role,
@@ -98,7 +101,8 @@ fn names_inside(part: Part, names: usize) -> usize
     }
 }
 
-// In how many node parts of Cases a part stands, by what the part is, where the record stands in so many.
+// In how many node parts of Cases a part stands, by what the part is, where the record stands in so
+// many.
 fn depth_inside(part: Part, depth: usize) -> usize
     ensures { λ r. ⌜ r ≡ depthInside (partOf part) depth ⌝ }
 {
@@ -119,7 +123,8 @@ fn argument(r: usize, kept: usize, last: bool, names: usize, depth: usize) -> Lo
     placed(KEPT, r, slot, names, kept, depth)
 }
 
-// Where part i of the record r stands, which has so many parts: what is named in it goes by the part, its role and its word by the record's kind.
+// Where part i of the record r stands, which has so many parts: what is named in it goes by the
+// part, its role and its word by the record's kind.
 pub fn inside(
     part: Part,
     node: Record,
@@ -166,7 +171,8 @@ pub fn inside(
     }
 }
 
-// Before a part with two tree names more is entered, the Case's record r is put on top of the stack.
+// Before a part with two tree names more is entered, the Case's record r is put on top of the
+// stack.
 pub fn note_case(cases: &mut [u16], part: Part, r: usize, depth: usize)
     ensures { λ _. ⌜ now (cases .exit) ≡ noted (partOf part) r depth (now (cases .entry)) ⌝ }
 {

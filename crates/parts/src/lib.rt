@@ -18,7 +18,8 @@ fn nth_of(p: Part, q: Part, r: Part, i: usize) -> Part
     }
 }
 
-// Part i, counted from 0. Every part of a Call is a number. Where another record has no part i, it is `Whole`.
+// Part i, counted from 0. Every part of a Call is a number. Where another record has no part i, it
+// is `Whole`.
 pub fn nth_part(parts: Parts, i: usize) -> Part
     ensures { λ r. ⌜ partOf r ≡ nthPart (listed parts) i ⌝ }
 {

@@ -1,4 +1,5 @@
--- The walk over an expression and over its parts: a law for each way out of `enter` and of `enter_parts`, and that the records left fall.
+-- The walk over an expression and over its parts: a law for each way out of `enter` and of
+-- `enter_parts`, and that the records left fall.
 use Prim.Native.Nat.{ℕ, suc, _+_, _-_, _*_, _≤_, _<_}
 use mathlib.Core.Bool.{true}
 use mathlib.Core.List.{List}

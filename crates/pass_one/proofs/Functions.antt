@@ -1,4 +1,5 @@
--- Pass one over the functions one after the other: a law for each way out of `start`, `pass` and `check_pass_one`.
+-- Pass one over the functions one after the other: a law for each way out of `start`, `pass` and
+-- `check_pass_one`.
 use Prim.Native.Nat.{ℕ, _+_, _≤_, _<_}
 use mathlib.Core.List.{List}
 use mathlib.Core.Path.{_≡_, refl, sym, ap, ap₂, subst, _∙_}
@@ -52,7 +53,8 @@ started s j m n em en = record {
 abbrev rowOne : Program → ℕ → List Function → Result (Unit {0})
 rowOne program k fs = passOver (signatures program) (enteredAll k fs)
 
--- the functions from j on, at record k, say what pass one says of every program that these records are
+-- the functions from j on, at record k, say what pass one says of every program that these records
+-- are
 pub record Walking (s : List ℕ) (functions end k j : ℕ) : Type 0 where
   pub some-program : Value (readProgram s)
   pub inside : Inside k end

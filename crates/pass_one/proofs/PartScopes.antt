@@ -1,4 +1,5 @@
--- What is known on entering a part: a law for each way out of `inside`, and that counts stay small from one part to the next.
+-- What is known on entering a part: a law for each way out of `inside`, and that counts stay small
+-- from one part to the next.
 use Prim.Native.Nat.{ℕ, suc, _+_, _≤_}
 use mathlib.Core.Bool.{true, false}
 use mathlib.Core.Path.{_≡_, ap, ap₂}

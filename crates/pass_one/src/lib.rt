@@ -22,7 +22,8 @@ const MOST_WORDS: usize = 16;
 // The sort of a function that gives a tree.
 const TREE_VALUED: u8 = 1;
 
-// What is known on entering a record: number names and tree names bound, words above the frame's base, and whether a tree is expected.
+// What is known on entering a record: number names and tree names bound, words above the frame's
+// base, and whether a tree is expected.
 struct Scope {
     numbers: usize,
     trees: usize,
@@ -147,8 +148,8 @@ fn inside(part: Part, i: usize, scope: Scope) -> Scope
     }
 }
 
-// Pass one over the expression at record k, entered with this scope: its own tests, then its parts in order. Twice the records left up to the end, and
-// one more for the parts, falls at each call.
+// Pass one over the expression at record k, entered with this scope: its own tests, then its parts
+// in order. Twice the records left up to the end, and one more for the parts, falls at each call.
 fn enter(flat: &[u8], k: usize, end: usize, scope: Scope) -> Walked
     requires { ⌜ Fits k end (scopeOf scope) ⌝ }
     ensures { λ r. ⌜ Entered (now (flat .entry)) k end scope r ⌝ }

@@ -1,4 +1,5 @@
--- The row "pass two": one function after the other, a law for each way out of the loop, and the row after pass one.
+-- The row "pass two": one function after the other, a law for each way out of the loop, and the row
+-- after pass one.
 use Prim.Native.Nat.{ℕ, _+_, _≤_, _<_}
 use mathlib.Core.List.{List, [], _∷_}
 use mathlib.Core.Path.{_≡_, refl, sym, ap, _∙_}
@@ -33,7 +34,8 @@ abbrev rowTwo : Program → ℕ → List Function → Result (Unit {0})
 rowTwo program k fs = walkAll k fs
 
 module _ (s : List ℕ) (functions last : ℕ) where
-  -- the functions from j on, at record k, say what pass two says of every program that these records are
+  -- the functions from j on, at record k, say what pass two says of every program that these
+  -- records are
   pub record Walking (k j : ℕ) : Type 0 where
     pub inside : Inside k last
     pub rest : (program : Program) → readProgram s ≡ done program → Left s functions last passTwo rowTwo program k j

@@ -1,4 +1,5 @@
--- Expressions, lists of them, and functions: a law for each way out of the functions that walk them, and what their calls ask.
+-- Expressions, lists of them, and functions: a law for each way out of the functions that walk
+-- them, and what their calls ask.
 use Prim.Native.Nat.{ℕ, suc, _+_, _-_, _*_, _≤_, _<_}
 use mathlib.Core.Bool.{true, false, not}
 use mathlib.Core.List.{List, [], _∷_}

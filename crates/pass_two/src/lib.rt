@@ -34,8 +34,9 @@ fn joined(one: Pending, other: Checked, k: usize) -> Checked
     }
 }
 
-// Pass two over the expression at record k, where so many tree names are bound. Three times the records left up to the end, with one more for an
-// expression and two more for a list, falls at each call.
+// Pass two over the expression at record k, where so many tree names are bound. Three times the
+// records left up to the end, with one more for an expression and two more for a list, falls at
+// each call.
 fn order_at(flat: &[u8], k: usize, end: usize, trees: u16, pending: Pending) -> Checked
     requires { ⌜ Small k end trees ⌝ }
     ensures { λ r. ⌜ Ordered (now (flat .entry)) k end trees pending r ⌝ }
@@ -100,7 +101,8 @@ fn order_call(
     }
 }
 
-// Pass two over a list of arguments, or of parts, from number i on, the next of them at record k: one after the other.
+// Pass two over a list of arguments, or of parts, from number i on, the next of them at record k:
+// one after the other.
 fn order_list(
     flat: &[u8],
     i: usize,
@@ -128,7 +130,8 @@ fn order_list(
     order_list(flat, i + 1, count, first.next, end, trees, first.pending)
 }
 
-// A Case takes the head. Its leaf part begins with the others; its node part with its two names in front of them.
+// A Case takes the head. Its leaf part begins with the others; its node part with its two names in
+// front of them.
 fn order_case(flat: &[u8], a: u8, k: usize, end: usize, trees: u16, pending: Pending) -> Checked
     requires { ⌜ Small (k + 1) end trees ⌝ }
     ensures { λ r. ⌜ OrderedCase (now (flat .entry)) a k end trees pending r ⌝ }

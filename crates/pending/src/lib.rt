@@ -10,7 +10,8 @@ ghost use Rattle.pending.specs.Inner.List.{lengthOf, listOf, Alone, Took
 // The most trees pending.
 const MOST_PENDING: usize = 16;
 
-// The pending trees: the names of so many, the head last. A length past the most counts as the most.
+// The pending trees: the names of so many, the head last. A length past the most counts as the
+// most.
 pub struct Pending {
     pub names: [u16; MOST_PENDING],
     pub len: usize,
@@ -76,7 +77,8 @@ pub fn is_full(pending: Pending) -> bool
     MOST_PENDING <= count(pending)
 }
 
-// The pending trees with two more in front, where they fit: the left tree's name, then the right one's.
+// The pending trees with two more in front, where they fit: the left tree's name, then the right
+// one's.
 pub fn put_two(pending: Pending, left: u16, right: u16) -> Pending
     ensures { λ r. ⌜ InFront pending left right r ⌝ }
 {

@@ -1,4 +1,5 @@
--- The row "prefix form": the functions one after the other, each with its records, a law for each way out of the loop.
+-- The row "prefix form": the functions one after the other, each with its records, a law for each
+-- way out of the loop.
 use Prim.Native.Nat.{ℕ, suc, _+_, _-_, _*_, _≤_, _<_}
 use mathlib.Core.Bool.{Bool, true, false, not}
 use mathlib.Core.List.{List, [], _∷_}

@@ -1,4 +1,5 @@
--- The rows one after the other: a row that passes leaves what follows it, and the first refusal is the whole reading's.
+-- The rows one after the other: a row that passes leaves what follows it, and the first refusal is
+-- the whole reading's.
 use Prim.Native.Nat.{ℕ}
 use mathlib.Core.List.{List}
 use mathlib.Core.Path.{_≡_, refl, sym, ap, _∙_}

@@ -8,8 +8,9 @@ ghost use Rattle.formats.specs.Rows.{readProgram};
 ghost use Rattle.refusal.specs.Inner.Verdicts.{verdictResult};
 ghost use Rattle.program.specs.Inner.Prefix.{IsOne, PrefixSays};
 
-// Whether the records from the first up to the end are exactly one expression. From the last to the first, each takes its parts off the
-// expressions that stand after it, and is one expression with them.
+// Whether the records from the first up to the end are exactly one expression. From the last to the
+// first, each takes its parts off the expressions that stand after it, and is one expression with
+// them.
 fn one_expression(flat: &[u8], first: usize, end: usize) -> bool
     requires { ⌜ first ≤ end ⌝ }
     ensures { λ r. ⌜ IsOne (now (flat .entry)) first end r ⌝ }

@@ -1,4 +1,5 @@
-// The first half of a row of a program's record, for the source run: what the record's kind and its operands say.
+// The first half of a row of a program's record, for the source run: what the record's kind and its
+// operands say.
 use records::Record;
 ghost use Prim.Native.Nat.{_%_};
 ghost use mathlib.Core.Path.{_≡_};
@@ -28,8 +29,8 @@ pub struct Own {
     pub more: u16,
 }
 
-// The first record of function b: after the header, the function records, and the nodes of the functions before it. It is exact: counts of 16 bits, fewer
-// than 65,536 of them.
+// The first record of function b: after the header, the function records, and the nodes of the
+// functions before it. It is exact: counts of 16 bits, fewer than 65,536 of them.
 fn first_record(flat: &[u8], b: u16) -> usize
     ensures { λ r. ⌜ r ≡ firstIn (now (flat .entry)) b ⌝ }
 {
@@ -80,7 +81,8 @@ fn own_words(action: u16, operand: u16, tree: u16, more: u16) -> Own
     }
 }
 
-// The first half of the row of a record with so many numbers named, in so many node parts of Cases, whose records are lent.
+// The first half of the row of a record with so many numbers named, in so many node parts of Cases,
+// whose records are lent.
 pub fn own_of(flat: &[u8], cases: &[u16], node: Record, names: usize, depth: usize) -> Own
     ensures { λ r. ⌜ r ≡ ownIn (now (flat .entry)) (now (cases .entry)) names depth (meant node) ⌝ }
 {

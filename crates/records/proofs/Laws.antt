@@ -1,5 +1,6 @@
--- A law for each way out of the functions over node records. A record read is the one of its kind number: the fields that the kind does not use
--- sum to 0 exactly where the record is the one that its kind has.
+-- A law for each way out of the functions over node records. A record read is the one of its kind
+-- number: the fields that the kind does not use sum to 0 exactly where the record is the one that
+-- its kind has.
 use Prim.Native.Nat.{ℕ, _+_, _*_, _/_, _≤_, _<_}
 use mathlib.Core.Bool.{Bool, true, false, _&&_, and-true, and-comm}
 use mathlib.Core.List.{List, [], _∷_}
@@ -50,7 +51,8 @@ same-test true y f g = sym (f refl)
 same-test false true f g = g refl
 same-test false false f g = refl
 
--- a record is the one of its kind exactly where the sum of the fields that the kind does not use is 0
+-- a record is the one of its kind exactly where the sum of the fields that the kind does not use is
+-- 0
 sum-test :
     (x y a c b d i j u : ℕ)
     → (u ≡ 0 → (x ≡ y) × (a ≡ c) × (b ≡ d) × (i ≡ j))
@@ -69,7 +71,8 @@ sum-test x y a c b d i j u all back = same-test _ _
 
 -- ---- the match
 
--- the three sums of unused fields: of a kind with no operand, with a tree's or a number's name, and with a number
+-- the three sums of unused fields: of a kind with no operand, with a tree's or a number's name, and
+-- with a number
 no-operand : (x a b i u : ℕ) → u ≡ a + b + i → same (fields x 0 0 0) (fields x a b i) ≡ eqb u 0
 no-operand x a b i u e = sum-test _ _ _ _ _ _ _ _ u (λ z. (refl, omega arith, omega arith, omega arith)) (λ p q s t. omega arith)
 
@@ -79,7 +82,8 @@ named x a b i u e = sum-test _ _ _ _ _ _ _ _ u (λ z. (refl, refl, omega arith, 
 numbered : (x a b i u : ℕ) → u ≡ a + b + 0 → same (fields x 0 0 i) (fields x a b i) ≡ eqb u 0
 numbered x a b i u e = sum-test _ _ _ _ _ _ _ _ u (λ z. (refl, omega arith, omega arith, refl)) (λ p q s t. omega arith)
 
--- The arms: for each kind number the kind with its operands, its parts, its template, and what is known of the sum u of the fields that it does not use.
+-- The arms: for each kind number the kind with its operands, its parts, its template, and what is
+-- known of the sum u of the fields that it does not use.
 pub data Arm (functions a b i u : ℕ) : ℕ → Kind → Parts → Template → Type 0 where
   const-arm : u ≡ a + b + 0 → Arm functions a b i u 0 (Const i) (these []) (lastly (Push i))
   var-arm : u ≡ 0 + b + i → Arm functions a b i u 1 (Var a) (these []) (lastly (Get a))
@@ -91,7 +95,8 @@ pub data Arm (functions a b i u : ℕ) : ℕ → Kind → Parts → Template →
   case-arm : u ≡ 0 + b + i → Arm functions a b i u 7 (Case a) (these (underNumber ∷ underTrees ∷ [])) (parted (Two ReadTag ReadNumber) (Two End Jump) None)
   call-arm : eqb u 0 ≡ (ltb b functions && eqb i 0) → Arm functions a b i u 8 (Call a b) (argumentsOf b) (lastly (CallItem b))
 
--- What an arm says: the kind of that number, whether its unused fields are zero, its parts and its template.
+-- What an arm says: the kind of that number, whether its unused fields are zero, its parts and its
+-- template.
 record Says (functions a b i u x : ℕ) (k : Kind) (parts : Parts) (t : Template) : Type 0 where
   kind : (edition : ℕ) → kindOf edition (fields x a b i) ≡ some k
   unused : (same (fieldsOf k) (fields x a b i) && below functions k) ≡ eqb u 0

@@ -1,4 +1,5 @@
-// Node records: the nine kinds with their operands, parts and templates, read from flat records, 8 bytes each.
+// Node records: the nine kinds with their operands, parts and templates, read from flat records, 8
+// bytes each.
 use refusal::Refusal;
 ghost use Prim.Native.Nat.{_+_};
 ghost use mathlib.Core.Path.{_≡_};
@@ -46,7 +47,8 @@ pub enum Record {
     Call(Called),
 }
 
-// A part: a number or a tree is expected; or what is expected of the whole, as it is, with one number name more, or with two tree names more.
+// A part: a number or a tree is expected; or what is expected of the whole, as it is, with one
+// number name more, or with two tree names more.
 pub enum Part {
     Number,
     Tree,
@@ -64,8 +66,9 @@ pub enum Parts {
     Arguments(u16),
 }
 
-// An item of a template: an instruction whose address or word is found when it is emitted. `Ifnot` and `ReadTag` go to the last part, `Jump` goes
-// after the whole; `Get` is of a number name, `Call` of a function.
+// An item of a template: an instruction whose address or word is found when it is emitted. `Ifnot`
+// and `ReadTag` go to the last part, `Jump` goes after the whole; `Get` is of a number name, `Call`
+// of a function.
 pub enum Item {
     Push(u32),
     Get(u8),
@@ -96,7 +99,8 @@ pub struct Template {
     pub last: Items,
 }
 
-// A record read: its kind with its operands, its parts and its template; or why it is refused, and the number of the record.
+// A record read: its kind with its operands, its parts and its template; or why it is refused, and
+// the number of the record.
 pub enum RecordRead {
     Read(Record, Parts, Template),
     Refused(Refusal, usize),
@@ -145,7 +149,8 @@ fn before(first: Items, second: Items, third: Items) -> Template
 
 // An item before the one part, and one after it.
 fn around(first: Item, last: Item) -> Template
-    ensures { λ r. ⌜ r ≡ record { first = One first; second = None; third = None; last = One last } ⌝ }
+    ensures { λ r. ⌜ r ≡ record
+        { first = One first; second = None; third = None; last = One last } ⌝ }
 {
     Template {
         first: Items::One(first),
@@ -165,8 +170,8 @@ fn row(node: Record, parts: Parts, template: Template, sum: u64, at: usize) -> R
     RecordRead::Refused(Refusal::NodeField, at)
 }
 
-// The one match over the kind number: an arm has the kind's operands, its parts with what is expected and named in each, its template, and the fields
-// that it does not use.
+// The one match over the kind number: an arm has the kind's operands, its parts with what is
+// expected and named in each, its template, and the fields that it does not use.
 fn record_of(kind: u8, a: u8, b: u16, i: u32, functions: u8, at: usize) -> RecordRead
     ensures { λ r. ⌜ OfKind functions at kind a b i r ⌝ }
 {
@@ -255,7 +260,8 @@ fn position_of(flat: &[u8], k: usize) -> usize
     RECORD_BYTES * k
 }
 
-// Record k of flat records as a node of the program whose header they have. Where the record is not there, its fields read as 0.
+// Record k of flat records as a node of the program whose header they have. Where the record is not
+// there, its fields read as 0.
 pub fn record_at(flat: &[u8], k: usize) -> RecordRead
     ensures { λ r. ⌜ described r ≡ onValue shapeOf (nodeIn (now (flat .entry)) k) ⌝ }
 {

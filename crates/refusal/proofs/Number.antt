@@ -1,5 +1,6 @@
--- Different refusals have different numbers. The refusals stand in a list in the order of their numbers, so a number is a position in that list,
--- counted from 1, and at that position stands the refusal itself: the list gives each refusal back from its number.
+-- Different refusals have different numbers. The refusals stand in a list in the order of their
+-- numbers, so a number is a position in that list, counted from 1, and at that position stands the
+-- refusal itself: the list gives each refusal back from its number.
 use Prim.Native.Nat.{ℕ, _-_, _≤_}
 use mathlib.Core.List.{List, [], _∷_}
 use mathlib.Core.Path.{_≡_, refl, sym, ap, _∙_}

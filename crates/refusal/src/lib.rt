@@ -46,14 +46,15 @@ pub enum Refusal {
     TooDeep,
 }
 
-// What a check says: passed, or the first refusal and its position. What a run says: passed where it ended, or its refusal and the position.
+// What a check says: passed, or the first refusal and its position. What a run says: passed where
+// it ended, or its refusal and the position.
 pub enum Verdict {
     Passed,
     Refused(Refusal, usize),
 }
 
-// What a call that fills a lent buffer answers: the bytes written from its start on; or the refusal and its position, and then the buffer is
-// untouched.
+// What a call that fills a lent buffer answers: the bytes written from its start on; or the refusal
+// and its position, and then the buffer is untouched.
 pub enum Filled {
     Written(usize),
     Refused(Refusal, usize),

@@ -55,7 +55,8 @@ fn write_leaf(output: &mut [u8], at: usize, label: u32)
 
 // A node's tag is written when it begins, where it fits. Gives the bytes written.
 pub fn emit_first(table: &[u16], output: &mut [u8], s: Stage) -> usize
-    ensures { λ r. ⌜ Says (emittedFirst (now (table .entry)) (s .node)) (now (output .entry)) (now (output .exit)) (s .written) r ⌝ }
+    ensures { λ r. ⌜ Says (emittedFirst (now (table .entry)) (s .node)) (now (output .entry))
+        (now (output .exit)) (s .written) r ⌝ }
 {
     if frames::field(table, s.node, ACTION) != TAGS_NODE {
         return s.written;
@@ -66,7 +67,8 @@ pub fn emit_first(table: &[u16], output: &mut [u8], s: Stage) -> usize
 
 // A leaf is written when its number is finished, where it fits. Gives the bytes written.
 pub fn emit_last(table: &[u16], output: &mut [u8], s: Stage) -> usize
-    ensures { λ r. ⌜ Says (emittedLast (now (table .entry)) (s .node) (s .number)) (now (output .entry)) (now (output .exit)) (s .written) r ⌝ }
+    ensures { λ r. ⌜ Says (emittedLast (now (table .entry)) (s .node) (s .number))
+        (now (output .entry)) (now (output .exit)) (s .written) r ⌝ }
 {
     if frames::field(table, s.node, ROLE) != LABELLED {
         return s.written;

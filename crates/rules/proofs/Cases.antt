@@ -1,4 +1,5 @@
--- Closed cases of pass one and pass two, proved by computation. Each row of a table is a program and the outcome of it.
+-- Closed cases of pass one and pass two, proved by computation. Each row of a table is a program
+-- and the outcome of it.
 use Prim.Native.Nat.{ℕ, zero, suc}
 use mathlib.Core.List.{List, [], _∷_, _++_, map}
 use mathlib.Core.Logic.{inl, inr}
@@ -40,7 +41,8 @@ on b a = call a b noArgs
 unfoldable pub with-one : ℕ → ℕ → Expr → Expr
 with-one b a x = call a b (arg x noArgs)
 
--- So many Lets around a body; so many Cases, each in the node part of the one before it, on the tree at the head.
+-- So many Lets around a body; so many Cases, each in the node part of the one before it, on the
+-- tree at the head.
 unfoldable pub lets : ℕ → Expr → Expr
 lets zero body = body
 lets (suc k) body = letIn (const 1) (lets k body)
@@ -102,7 +104,8 @@ pass-two =
     ∷ says (refusal 11 4) (numbered (add (on 0 0) (caseOf 0 (const 1) (const 1))) ∷ [])
     -- a tree left, in the second function
     ∷ says (refusal 11 4) (numbered (on 0 0) ∷ numbered (const 1) ∷ [])
-    -- fifteen Cases deep, 15 pending at the last, whose parts leave unequal lists; sixteen deep, 16 pending
+    -- fifteen Cases deep, 15 pending at the last, whose parts leave unequal lists; sixteen deep, 16
+    -- pending
     ∷ says (refusal 11 30) (numbered (cases 15 0) ∷ [])
     ∷ says (refusal 12 32) (numbered (cases 16 0) ∷ [])
     -- fifteen and sixteen deep, nothing else being wrong
@@ -118,14 +121,16 @@ pass-one =
     says (refusal 9 2) (numbered (var 0) ∷ [])
     ∷ says (refusal 9 2) (numbered (on 0 1) ∷ [])
     ∷ says (refusal 9 2) (treed (var 0) ∷ [])
-    -- Let's first part does not see its name; a leaf's label is a number name, a node's trees are tree names
+    -- Let's first part does not see its name; a leaf's label is a number name, a node's trees are
+    -- tree names
     ∷ says (refusal 9 3) (numbered (letIn (var 0) (on 0 0)) ∷ [])
     ∷ says (refusal 9 3) (numbered (caseOf 0 (on 0 1) (on 0 1)) ∷ [])
     -- types: a number, a leaf, a Call
     ∷ says (refusal 8 2) (treed (const 1) ∷ [])
     ∷ says (refusal 8 2) (numbered (leafOf (const 1)) ∷ [])
     ∷ says (refusal 8 3) (treed (on 1 0) ∷ numbered (on 1 0) ∷ [])
-    -- words: sixteen Lets around a Call that leaves none; a Const, a Case, a number-valued Call on the sixteenth
+    -- words: sixteen Lets around a Call that leaves none; a Const, a Case, a number-valued Call on
+    -- the sixteenth
     ∷ says (done tt) (treed (lets 16 (on 0 0)) ∷ [])
     ∷ says (done tt) (numbered (lets 15 (on 0 0)) ∷ [])
     ∷ says (refusal 10 34) (numbered (lets 16 (const 1)) ∷ [])
@@ -143,11 +148,13 @@ verdicts = refl
 
 -- ---- what a part is decides what is said of it
 
--- What is said on entering a record of this kind, record 3, as part 0 of another, of which a tree is expected; tree 0 alone is named around it.
+-- What is said on entering a record of this kind, record 3, as part 0 of another, of which a tree
+-- is expected; tree 0 alone is named around it.
 unfoldable pub as-part : Kind → Part → Result (Unit {0})
 as-part kind p = atEntry [] (entry (partScope p 0 (scope 0 1 0 Tree⁺)) 3 kind)
 
--- A Leaf may be Node's first part; it is refused where the part is a number. A number name is bound in a part under one, tree name 2 in one under two more.
+-- A Leaf may be Node's first part; it is refused where the part is a number. A number name is bound
+-- in a part under one, tree name 2 in one under two more.
 pub by-part : (as-part Leaf (nthPart (partsOf Node) 0) ≡ done tt)
     × (map (as-part Leaf) (aNumber ∷ aTree ∷ asWhole ∷ underNumber ∷ underTrees ∷ []) ≡ refusal 8 3 ∷ done tt ∷ done tt ∷ done tt ∷ done tt ∷ [])
     × (map (as-part (Var 0)) (aNumber ∷ aTree ∷ asWhole ∷ underNumber ∷ underTrees ∷ []) ≡ refusal 9 3 ∷ refusal 9 3 ∷ refusal 9 3 ∷ refusal 8 3 ∷ refusal 9 3 ∷ [])
@@ -171,7 +178,8 @@ left-typed zero g n a = call-typed g n a
 left-typed (suc k) g n a =
     Types.T-Case {Δ₂ = []} TypesName.T-Var1 Types.T-Int (Types.T-Plus {Δ₁ = n ∷ []} (left-typed k g (suc (suc n)) n) (call-typed g (suc (suc n)) (suc n)))
 
--- however many words its body takes, so is a function of Lets, though `pass-one` has the Call in sixteen Lets refused
+-- however many words its body takes, so is a function of Lets, though `pass-one` has the Call in
+-- sixteen Lets refused
 lets-typed : (k g n a : ℕ) → Types one-number g n (a ∷ []) (lets k (on 0 a)) Int
 unfolding lets
 lets-typed zero g n a = call-typed g n a
@@ -187,7 +195,8 @@ grow-passes = refl
 grow-admitted : Admitted grow
 grow-admitted = order-checker .passes grow grow-lawful .0 grow-passes
 
--- Its parts exchanged, it is within the limits and passes pass one; the first fault is the first Call, 11 at record 6.
+-- Its parts exchanged, it is within the limits and passes pass one; the first fault is the first
+-- Call, 11 at record 6.
 unfoldable pub swap : Program
 swap = programOf (treed (caseOf 0 (leafOf (var 0)) (nodeOf (on 0 2) (on 0 1))) ∷ [])
 
@@ -215,7 +224,8 @@ swap-verdicts = (refl, refl)
 swap-fault : FirstFault (signatures swap) (firstNode swap) (swap .functions) 11 6
 swap-fault = order-checker .pass-two swap 11 6 swap-lawful (swap-verdicts .0) .0 (swap-verdicts .1)
 
--- A number name that is not bound, and a number where a tree is expected: 9 and 8, and the function has no derivation.
+-- A number name that is not bound, and a number where a tree is expected: 9 and 8, and the function
+-- has no derivation.
 unfoldable pub unbound : Program
 unbound = programOf (numbered (var 0) ∷ [])
 

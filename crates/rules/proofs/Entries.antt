@@ -1,5 +1,5 @@
--- Pass one goes through the nodes in prefix order, one record after the other. What it expects of parts, and all that is known in them, is what the match
--- over the kinds says of them.
+-- Pass one goes through the nodes in prefix order, one record after the other. What it expects of
+-- parts, and all that is known in them, is what the match over the kinds says of them.
 use Prim.Native.Nat.{ℕ, zero, suc, _+_, _<_}
 use mathlib.Core.List.{List, [], _∷_, _++_, map, map-append}
 use mathlib.Core.Path.{_≡_, refl, sym, ap, subst, _∙_}

@@ -1,4 +1,5 @@
--- The first fault is where pass two refuses: what comes before it is walked through, so a refusal there is the whole walk's.
+-- The first fault is where pass two refuses: what comes before it is walked through, so a refusal
+-- there is the whole walk's.
 use Prim.Native.Nat.{ℕ, suc, _+_}
 use mathlib.Core.Bool.{false, not-eq-not}
 use mathlib.Core.List.{List, [], _∷_, cons≢nil}

@@ -1,5 +1,6 @@
--- Where pass one refuses with 10, more than 16 words stand at some point of the function with that record. At the record the words are tested and 16
--- stand already, so one more makes 17; and an expression's words are at least those of each of its parts.
+-- Where pass one refuses with 10, more than 16 words stand at some point of the function with that
+-- record. At the record the words are tested and 16 stand already, so one more makes 17; and an
+-- expression's words are at least those of each of its parts.
 use Prim.Native.Nat.{ℕ, zero, suc, _+_, _≤_, _<_}
 use mathlib.Core.Bool.{Bool, true, false, false≢true}
 use mathlib.Core.List.{List, [], _∷_}
@@ -172,7 +173,8 @@ sums (suc k) = add (const 1) (sums k)
 alone : Expr → Program
 alone body = record { edition = 1; functions = record { sort = numberValued; parameters = 0; body = body } ∷ [] }
 
--- 15 sums pass, with 16 words; of 16 the last number is refused, at record 34, and that function needs 17 words.
+-- 15 sums pass, with 16 words; of 16 the last number is refused, at record 34, and that function
+-- needs 17 words.
 sums-verdicts : (passOne (alone (sums 15)) ≡ done tt) × (passOne (alone (sums 16)) ≡ refusal 10 34)
 unfolding passOne passOver atEntry roomy wordsTested typed named enteredAll entered inside startOf resultType isInt size prefix signatureOf alone sums
 sums-verdicts = (refl, refl)

@@ -1,4 +1,5 @@
--- Laws of pass one: where it refuses, what passes in joined parts, and what passing says of an expression of each kind.
+-- Laws of pass one: where it refuses, what passes in joined parts, and what passing says of an
+-- expression of each kind.
 use Prim.Native.Nat.{ℕ, suc, _+_, _<_}
 use mathlib.Core.Bool.{Bool, true, false, false≢true}
 use mathlib.Core.List.{List, [], _∷_, _++_}

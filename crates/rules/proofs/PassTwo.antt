@@ -1,5 +1,6 @@
--- Laws of pass two. `Said` is the view of a result: what holds of its value, or else of its refusal. Two recursions say all: over a derivation by
--- Figure 19 (`checked-walk`), and over an expression that passed pass one (`reported`: it is in order, or it has a first fault).
+-- Laws of pass two. `Said` is the view of a result: what holds of its value, or else of its
+-- refusal. Two recursions say all: over a derivation by Figure 19 (`checked-walk`), and over an
+-- expression that passed pass one (`reported`: it is in order, or it has a first fault).
 use Prim.Native.Nat.{ℕ, suc, _+_, _≤_, _<_}
 use mathlib.Core.Bool.{Bool, true, false, false≢true}
 use mathlib.Core.List.{List, [], _∷_, _++_}

@@ -1,5 +1,5 @@
--- Laws of derivations by Figure 19: they are those by Figure 6 on what is used, both forms of the limit of 16 agree, and their lines are
--- determined.
+-- Laws of derivations by Figure 19: they are those by Figure 6 on what is used, both forms of the
+-- limit of 16 agree, and their lines are determined.
 use Prim.Native.Nat.{ℕ, suc, _≤_, _<_}
 use mathlib.Core.List.{List, [], _∷_, _++_, append-assoc, append-cancel-right, tail-eq-of-cons-eq}
 use mathlib.Core.Logic.{_↔_}

@@ -1,5 +1,6 @@
--- Where Figure 6 types an expression, the name of each of its records is bound and the type is the one expected. So pass one refuses nothing but its
--- words, and where it refuses a name or a type, the function with that record has no derivation.
+-- Where Figure 6 types an expression, the name of each of its records is bound and the type is the
+-- one expected. So pass one refuses nothing but its words, and where it refuses a name or a type,
+-- the function with that record has no derivation.
 use Prim.Native.Nat.{ℕ, suc, _+_, _<_}
 use mathlib.Core.Bool.{true, false≢true}
 use mathlib.Core.List.{List, [], _∷_, _++_}
@@ -123,7 +124,8 @@ module _ (gs : List Signature) where
   unfolding size
   many-entered f k = sym (length-map (entered (startOf f) k (f .body)) kindIn) ∙ ap length (kinds-entered (f .body) (startOf f) k)
 
-  -- a function, or one after it, has the record, and of it holds what follows where a condition first fails in its body
+  -- a function, or one after it, has the record, and of it holds what follows where a condition
+  -- first fails in its body
   pub in-function :
       {number r : ℕ} (P : Function → Type 0) (k : ℕ) (fs : List Function)
       → ((f : Function) (j : ℕ) → FirstFails gs (entered (startOf f) j (f .body)) number r → P f)

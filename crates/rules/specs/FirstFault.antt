@@ -1,4 +1,5 @@
--- The first fault that pass two meets, as a relation: how the walk comes to a record, all before it being in order, and what fails there.
+-- The first fault that pass two meets, as a relation: how the walk comes to a record, all before it
+-- being in order, and what fails there.
 use Prim.Native.Nat.{ℕ, suc, _+_, _≤_, _<_}
 use mathlib.Core.List.{List, [], _∷_}
 use mathlib.Core.Logic.{_≢_}
@@ -92,8 +93,8 @@ pub data WalksTo (gs : List Signature) : Spot → Spot → Type 0 where
 pub data IsHead (a : ℕ) : List ℕ → Type 0 where
   head : {rest : List ℕ} → IsHead a (a ∷ rest)
 
--- What fails at the record of the expression just entered, with the refusal's number and its record: a rule for each condition of the row "pass
--- two", and one for each kind that it concerns.
+-- What fails at the record of the expression just entered, with the refusal's number and its
+-- record: a rule for each condition of the row "pass two", and one for each kind that it concerns.
 pub data Faults (gs : List Signature) : Spot → ℕ → ℕ → Type 0 where
   -- "11 not the head"
   case-not-head :

@@ -1,8 +1,8 @@
 -- 000, Figure 19, for the programs of 01, Program file: the rules for type checking, under their
 -- names, with the environment that is left over.
 --
--- A judgement Γ | Δ ⊢ M : τ ↗ Δ′ is `Checks gs g n r Δ e τ Δ′`: Γ and n are those of Typing, r is the number of e's own record. A derivation is
--- data, and its lines are one fold over it.
+-- A judgement Γ | Δ ⊢ M : τ ↗ Δ′ is `Checks gs g n r Δ e τ Δ′`: Γ and n are those of Typing, r is
+-- the number of e's own record. A derivation is data, and its lines are one fold over it.
 use Prim.Native.Nat.{ℕ, suc, _+_, _≤_, _<_}
 use mathlib.Core.List.{List, [], _∷_, _++_}
 use mathlib.Core.Option.{some}
@@ -44,8 +44,8 @@ mutual
         → Checks gs g n (suc r) Δ p Tree⁺ Δ′
         → Checks gs g n (suc r + size p) Δ′ q Tree⁺ Δ″
         → Checks gs g n r Δ (nodeOf p q) Tree⁺ Δ″
-    -- Γ | Δ ⊢ M : Tree⁻ ↗ Δ′, Γ, x : Int | Δ′ ⊢ M₁ : τ ↗ Δ″ and Γ | x₁ : Tree⁻, x₂ : Tree⁻, Δ′ ⊢ M₂ : τ ↗ Δ″ give
-    -- Γ | Δ ⊢ case M of leaf x ⇒ M₁ | node x₁ x₂ ⇒ M₂ : τ ↗ Δ″
+    -- Γ | Δ ⊢ M : Tree⁻ ↗ Δ′, Γ, x : Int | Δ′ ⊢ M₁ : τ ↗ Δ″ and Γ | x₁ : Tree⁻, x₂ : Tree⁻, Δ′ ⊢ M₂
+    -- : τ ↗ Δ″ give Γ | Δ ⊢ case M of leaf x ⇒ M₁ | node x₁ x₂ ⇒ M₂ : τ ↗ Δ″
     T-Case :
         {g n r a : ℕ} {Δ Δ′ Δ″ : List ℕ} {p q : Expr} {τ : Ty}
         → ChecksName Δ a Tree⁻ Δ′
@@ -67,8 +67,9 @@ mutual
         → Checks gs g n (suc r + size t + size z) Δ′ o τ Δ″
         → Checks gs g n r Δ (ifZero t z o) τ Δ″
 
-  -- A term of type σ, applied to the numbers xs, the first at record r, and then to tree a. Each step is T-App: Γ | Δ ⊢ M₁ : τ₁ → τ₂ ↗ Δ′ and
-  -- Γ | Δ′ ⊢ M₂ : τ₁ ↗ Δ″ give Γ | Δ ⊢ M₁ M₂ : τ₂ ↗ Δ″.
+  -- A term of type σ, applied to the numbers xs, the first at record r, and then to tree a. Each
+  -- step is T-App: Γ | Δ ⊢ M₁ : τ₁ → τ₂ ↗ Δ′ and Γ | Δ′ ⊢ M₂ : τ₁ ↗ Δ″ give Γ | Δ ⊢ M₁ M₂ : τ₂ ↗
+  -- Δ″.
   pub data ChecksApplied (gs : List Signature) : ℕ → ℕ → ℕ → List ℕ → Ty → Args → ℕ → Ty → List ℕ → Type 0 where
     to-number :
         {g n r a : ℕ} {Δ Δ′ Δ″ : List ℕ} {x : Expr} {xs : Args} {σ τ : Ty}

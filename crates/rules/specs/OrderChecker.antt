@@ -1,6 +1,7 @@
 -- What holds of the order checker: the statements. They are proved in proofs/OrderChecker.antt.
 --
--- Demand 2: "within the limits, the order checker passes precisely what document 000's typing rules admit, with document 01's for Let and IfZero".
+-- Demand 2: "within the limits, the order checker passes precisely what document 000's typing rules
+-- admit, with document 01's for Let and IfZero".
 use Prim.Native.Nat.{ℕ, suc, _+_, _≤_, _<_}
 use mathlib.Core.List.{List, [], _∷_, _++_, map}
 use mathlib.Core.Logic.{_↔_, _⊎_}
@@ -34,8 +35,9 @@ firstNode program = suc (length (program .functions))
 abbrev pub CheckedFunction : List Signature → ℕ → Function → Type 0
 CheckedFunction gs r f = Checks gs (f .parameters) 1 r (0 ∷ []) (f .body) (resultType (f .sort)) []
 
--- A function within the limits that has a derivation by Figure 6. The limit of 16 pending is of the whole list, so it is said of derivations by
--- Figure 19, whose lists those are: there is one, and each has fewer than 16 at each Case.
+-- A function within the limits that has a derivation by Figure 6. The limit of 16 pending is of the
+-- whole list, so it is said of derivations by Figure 19, whose lists those are: there is one, and
+-- each has fewer than 16 at each Case.
 pub record AdmittedFunction (gs : List Signature) (r : ℕ) (f : Function) : Type 0 where
   pub typed : TypedFunction gs f
   pub few-words : wordsOf gs (f .parameters) (f .body) ≤ mostFrameWords
@@ -75,7 +77,8 @@ Numbered r (entry sc k kind ∷ xs) = (k ≡ r) × Numbered (suc r) xs
 unfoldable pub kindIn : Entry → Kind
 kindIn (entry sc r kind) = kind
 
--- Record r is one of a function's, of which P holds; functions from this one on, its first node at record k.
+-- Record r is one of a function's, of which P holds; functions from this one on, its first node at
+-- record k.
 pub data InFunction (P : Function → Type 0) (r : ℕ) : ℕ → List Function → Type 0 where
   this-one : {k : ℕ} {f : Function} {fs : List Function} → k ≤ r → r < k + size (f .body) → P f → InFunction P r k (f ∷ fs)
   after-it : {k : ℕ} {f : Function} {fs : List Function} → InFunction P r (k + size (f .body)) fs → InFunction P r k (f ∷ fs)
@@ -95,10 +98,11 @@ pub record OrderChecker : Type 0 where
   -- with Figure 6's judgement on Δ₁. (000, section 3.4: "The relation means that Γ | Δ₁ ⊢ M : τ
   -- holds for Δ₁ such that Δ = Δ₁, Δ′.")
   pub splits : (gs : List Signature) (g n r : ℕ) (Δ : List ℕ) (e : Expr) (τ : Ty) (Δ′ : List ℕ) → Checks gs g n r Δ e τ Δ′ ↔ Split gs g n Δ e τ Δ′
-  -- A program passes both passes exactly when every function body has a derivation by Figure 6 and stays within the limits.
+  -- A program passes both passes exactly when every function body has a derivation by Figure 6 and
+  -- stays within the limits.
   pub passes : (program : Program) → Lawful program → (bothPasses program ≡ done tt) ↔ Admitted program
-  -- So it is of records and of files: one passes exactly where it holds a program that the rules admit. (What they hold is always within the limits
-  -- of "Program file".)
+  -- So it is of records and of files: one passes exactly where it holds a program that the rules
+  -- admit. (What they hold is always within the limits of "Program file".)
   pub records : (r : List ℕ) → Bytes r → (checkRecords r ≡ done tt) ↔ AdmittedRecords r
   pub files : (s : List ℕ) → Bytes s → (checkFile s ≡ done tt) ↔ AdmittedFile s
   -- The limit of 16 pending, said otherwise: no list of the derivation is longer than 16.
@@ -110,9 +114,11 @@ pub record OrderChecker : Type 0 where
   pub one-listing :
       (gs : List Signature) (g n r : ℕ) (Δ : List ℕ) (e : Expr) (τ : Ty) (Δ₁ Δ₂ : List ℕ) (d : Checks gs g n r Δ e τ Δ₁) (d′ : Checks gs g n r Δ e τ Δ₂)
       → (Δ₁ ≡ Δ₂) × (lines d ≡ lines d′)
-  -- The types that pass one expects of a record's parts are those that the one match over the kinds gives them.
+  -- The types that pass one expects of a record's parts are those that the one match over the kinds
+  -- gives them.
   pub part-types : (kind : Kind) (i : ℕ) (sc : Scope) → PartTyped (partsOf kind) i (expectedIn sc) (expectedIn (inside kind i sc))
-  -- So is all that is known on entering a part: it is what that match says of part i, wherever the kind has a part i.
+  -- So is all that is known on entering a part: it is what that match says of part i, wherever the
+  -- kind has a part i.
   pub part-scopes :
       (arity : ℕ → ℕ) (kind : Kind) (i : ℕ) (sc : Scope)
       → i < partCount arity (partsOf kind)
@@ -124,7 +130,8 @@ pub record OrderChecker : Type 0 where
   pub pass-one :
       (program : Program) (number r : ℕ)
       → (passOne program ≡ refusal number r) ↔ FirstFails (signatures program) (enteredAll (firstNode program) (program .functions)) number r
-  -- Where pass one refuses with 9 or 8, some function body has no derivation. (No limit is asked for here.)
+  -- Where pass one refuses with 9 or 8, some function body has no derivation. (No limit is asked
+  -- for here.)
   pub pass-one-no-typing :
       (program : Program) (number r : ℕ)
       → passOne program ≡ refusal number r
@@ -137,12 +144,14 @@ pub record OrderChecker : Type 0 where
       → passOne program ≡ refusal number r
       → (number ≡ notBound) ⊎ (number ≡ wrongType)
       → Untyped (signatures program) r (firstNode program) (program .functions)
-  -- Where pass one refuses with 10, the function that has the record of the refusal needs more than 16 words. (Nothing is asked of the program.)
+  -- Where pass one refuses with 10, the function that has the record of the refusal needs more than
+  -- 16 words. (Nothing is asked of the program.)
   pub pass-one-overfull-there :
       (program : Program) (r : ℕ)
       → passOne program ≡ refusal tooManyWords r
       → Overfull (signatures program) r (firstNode program) (program .functions)
-  -- Where every body has one, it refuses nothing but 10: the limit of 16 words is all that pass one asks besides.
+  -- Where every body has one, it refuses nothing but 10: the limit of 16 words is all that pass one
+  -- asks besides.
   pub only-words :
       (program : Program) (number r : ℕ)
       → Every (TypedFunction (signatures program)) (program .functions)
@@ -173,7 +182,8 @@ pub record OrderChecker : Type 0 where
       (program : Program) (r : ℕ)
       → passTwo program ≡ refusal outOfOrder r
       → Untyped (signatures program) r (firstNode program) (program .functions)
-  -- Where every body has one, it refuses nothing but 12: the limit of 16 pending is all that the checker asks besides.
+  -- Where every body has one, it refuses nothing but 12: the limit of 16 pending is all that the
+  -- checker asks besides.
   pub only-full :
       (program : Program) (number r : ℕ)
       → Every (TypedFunction (signatures program)) (program .functions)
@@ -181,7 +191,8 @@ pub record OrderChecker : Type 0 where
       → number ≡ tooManyPending
   -- The rules in Typing admit the same functions as Figure 6 in printed form.
   pub printed : (gs : List Signature) (f : Function) → TypedFunction gs f ↔ JudgedFunction gs (signatureOf f) f
-  -- Where there is one function, that is T-Fix itself: its fixed point has the function's type under no names.
+  -- Where there is one function, that is T-Fix itself: its fixed point has the function's type
+  -- under no names.
   pub fixed :
       (f : Function)
       → TypedFunction (signatureOf f ∷ []) f ↔ Judges [] [] (fix (functionName 0) (functionTerm f)) (functionType (signatureOf f))

@@ -144,6 +144,7 @@ unfoldable pub functionNames : ℕ → List Signature → List Binding
 functionNames b [] = []
 functionNames b (s ∷ ss) = has (functionName b) (functionType s) ∷ functionNames (suc b) ss
 
--- T-Fix for functions that call each other: with all their names in Γ at once, the function's term has its name's type.
+-- T-Fix for functions that call each other: with all their names in Γ at once, the function's term
+-- has its name's type.
 abbrev pub JudgedFunction : List Signature → Signature → Function → Type 0
 JudgedFunction gs s f = Judges (functionNames 0 gs) [] (functionTerm f) (functionType s)

@@ -3,8 +3,8 @@ use Prim.Native.Nat.{ℕ, zero, suc}
 use mathlib.Core.Bool.{Bool, true, false}
 use Rattle.formats.specs.Programs.{Sort, numberValued, treeValued, Signature}
 
--- 000, Definition 1: "Int | Tree^d | τ₁ → τ₂", d being − or +. "We write Tree⁻ for the type of input trees, and write Tree⁺ for the type of
--- output trees."
+-- 000, Definition 1: "Int | Tree^d | τ₁ → τ₂", d being − or +. "We write Tree⁻ for the type of
+-- input trees, and write Tree⁺ for the type of output trees."
 pub data Ty : Type 0 where
   Int : Ty
   Tree⁻ : Ty

@@ -7,7 +7,8 @@
 -- number of tree names bound so far: names count along the path (01, Names), so Case's node part
 -- binds n and n + 1.
 --
--- The theorem stands beside this file: OrderChecker.antt, field `passes`. The checker passes precisely what these rules admit, within the limits.
+-- The theorem stands beside this file: OrderChecker.antt, field `passes`. The checker passes
+-- precisely what these rules admit, within the limits.
 use Prim.Native.Nat.{ℕ, suc, _<_}
 use mathlib.Core.List.{List, [], _∷_, _++_}
 use mathlib.Core.Option.{some}
@@ -70,8 +71,9 @@ mutual
         → Types gs g n Δ₂ o τ
         → Types gs g n (Δ₁ ++ Δ₂) (ifZero t z o) τ
 
-  -- A term of type σ, applied to the numbers xs and then to tree a, has type τ. Each step is T-App: Γ | Δ₁ ⊢ M₁ : τ₂ → τ₁ and Γ | Δ₂ ⊢ M₂ : τ₂ give
-  -- Γ | Δ₁, Δ₂ ⊢ M₁ M₂ : τ₁. Δ is what the numbers and the tree use; a function's own name uses none.
+  -- A term of type σ, applied to the numbers xs and then to tree a, has type τ. Each step is T-App:
+  -- Γ | Δ₁ ⊢ M₁ : τ₂ → τ₁ and Γ | Δ₂ ⊢ M₂ : τ₂ give Γ | Δ₁, Δ₂ ⊢ M₁ M₂ : τ₁. Δ is what the numbers
+  -- and the tree use; a function's own name uses none.
   pub data Applies (gs : List Signature) : ℕ → ℕ → List ℕ → Ty → Args → ℕ → Ty → Type 0 where
     to-number :
         {g n a : ℕ} {Δ₁ Δ₂ : List ℕ} {x : Expr} {xs : Args} {σ τ : Ty}
@@ -80,6 +82,7 @@ mutual
         → Applies gs g n (Δ₁ ++ Δ₂) (arrow Int σ) (arg x xs) a τ
     to-tree : {g n a : ℕ} {Δ : List ℕ} {τ : Ty} → TypesName Δ a Tree⁻ → Applies gs g n Δ (arrow Tree⁻ τ) noArgs a τ
 
--- A function's body is typed under its own parameters: its numbers, and its one tree, name 0 (T-Abs2, T-Abs1).
+-- A function's body is typed under its own parameters: its numbers, and its one tree, name 0
+-- (T-Abs2, T-Abs1).
 abbrev pub TypedFunction : List Signature → Function → Type 0
 TypedFunction gs f = Types gs (f .parameters) 1 (0 ∷ []) (f .body) (resultType (f .sort))

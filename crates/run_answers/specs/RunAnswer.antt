@@ -28,6 +28,7 @@ pub record Extends (w : ℕ) : Type 0 where
   -- that stands for the same number
   pub same-number : signed64 (signExtended w) ≡ signed32 w
 
--- Place 0: the refusal's position, 0 where the run ended. Then units, bytes read, bytes written and the number, sign-extended to 64 bits.
+-- Place 0: the refusal's position, 0 where the run ended. Then units, bytes read, bytes written and
+-- the number, sign-extended to 64 bits.
 abbrev pub runSlotsOf : ℕ → Answer → List ℕ
 runSlotsOf position a = position ∷ a .units ∷ a .bytesRead ∷ a .bytesWritten ∷ signExtended (a .number) ∷ []

@@ -1,4 +1,5 @@
-// The answer of a stream run from C or Rust: a number, and the first slots of an array that the caller lends.
+// The answer of a stream run from C or Rust: a number, and the first slots of an array that the
+// caller lends.
 use machine::Answer;
 use refusal::Verdict;
 ghost use mathlib.Core.Path.{_≡_};
@@ -32,9 +33,11 @@ pub fn sign_extended(word: u32) -> u64
     }
 }
 
-// The row of a refusal's position, units, bytes read, bytes written and the number, sign-extended to 64 bits.
+// The row of a refusal's position, units, bytes read, bytes written and the number, sign-extended
+// to 64 bits.
 fn store(ran: Answer, number: u32, position: usize, answer: &mut [u64]) -> u32
-    ensures { λ r. ⌜ StoresRun (runAnswer ran) number position (now (answer .entry)) (now (answer .exit)) r ⌝ }
+    ensures { λ r. ⌜ StoresRun (runAnswer ran) number position (now (answer .entry))
+        (now (answer .exit)) r ⌝ }
 {
     let row = [
         position as u64,

@@ -1,4 +1,5 @@
--- What a run of a program file called from C or Rust answers, what its buffers then hold, and all that is promised of a run of a program file.
+-- What a run of a program file called from C or Rust answers, what its buffers then hold, and all
+-- that is promised of a run of a program file.
 use Prim.Native.Nat.{ℕ, _≤_}
 use mathlib.Core.Bool.{true, false}
 use mathlib.Core.List.{List}
@@ -10,8 +11,8 @@ use Rattle.translation.specs.ThisCall.{ranWith, ProgramRun}
 use Rattle.run_answers.specs.RunAnswer.{runSlots}
 use Rattle.run_answers.specs.RunCall.{StreamCall}
 
--- The buffers: unprimed at entry, primed at exit; the answer's slots are `before` and `after`. Where the answer has too few slots there is no run, and
--- all buffers are untouched.
+-- The buffers: unprimed at entry, primed at exit; the answer's slots are `before` and `after`.
+-- Where the answer has too few slots there is no run, and all buffers are untouched.
 pub record ProgramCall (file input output output′ code code′ values values′ returns returns′ before after : List ℕ) (fuel r : ℕ) : Type 0 where
   -- the answer's slots, every byte of the output, and the work words
   pub run :
@@ -23,7 +24,8 @@ pub record ProgramCall (file input output output′ code code′ values values�
         | true ↦ code
         | false ↦ runFile file input output code fuel (length values) (length returns) .code
       ]
-  -- Demand 3, and what holds on any input, of what the slots say (`run .answers`) and the output at exit.
+  -- Demand 3, and what holds on any input, of what the slots say (`run .answers`) and the output at
+  -- exit.
   pub program-run :
       runSlots ≤ length before
       → ProgramRun file input output code fuel (length values) (length returns)

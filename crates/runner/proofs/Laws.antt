@@ -1,4 +1,5 @@
--- A law for each way out of the runner. That a call gives what the definition gives is enough: demand 3 about it follows (translation, Calls).
+-- A law for each way out of the runner. That a call gives what the definition gives is enough:
+-- demand 3 about it follows (translation, Calls).
 use Prim.Native.Nat.{ℕ, _+_, _≤_, _<_}
 use mathlib.Core.Bool.{_&&_, and-false}
 use mathlib.Core.List.{List}

@@ -1,4 +1,5 @@
-// The runner: from a program file and token bytes to the run's answer. Checker, translator and stream run in one call.
+// The runner: from a program file and token bytes to the run's answer. Checker, translator and
+// stream run in one call.
 use machine::Answer;
 use refusal::Filled;
 use refusal::Refusal;
@@ -27,10 +28,13 @@ fn too_few_words(file: &[u8]) -> Filled
     }
 }
 
-// All that comes before a run that is lent so many value words and return words: the rows of the file, both passes, every 13, and then the program's
-// code is written to the start of `code`. A refusal leaves the buffer untouched.
+// All that comes before a run that is lent so many value words and return words: the rows of the
+// file, both passes, every 13, and then the program's code is written to the start of `code`. A
+// refusal leaves the buffer untouched.
 fn prepare(file: &[u8], code: &mut [u8], values: usize, returns: usize) -> Filled
-    ensures { λ r. ⌜ FilledBuffer (prepared (length (now (code .entry))) values returns (now (file .entry))) (now (code .entry)) (now (code .exit)) r ⌝ }
+    ensures { λ r. ⌜ FilledBuffer
+        (prepared (length (now (code .entry))) values returns (now (file .entry)))
+        (now (code .entry)) (now (code .exit)) r ⌝ }
 {
     if values < VALUE_WORDS {
         return too_few_words(file);
@@ -54,8 +58,9 @@ fn refused(why: Refusal, position: usize) -> Answer
     }
 }
 
-// Runs the program of a file on an input: what comes before a run, and then the run of the code, which stays in its buffer. Its contract carries
-// demand 3, and what holds on any input, about this very call.
+// Runs the program of a file on an input: what comes before a run, and then the run of the code,
+// which stays in its buffer. Its contract carries demand 3, and what holds on any input, about this
+// very call.
 pub fn run(
     file: &[u8],
     input: &[u8],
@@ -65,7 +70,9 @@ pub fn run(
     values: &mut [u32],
     returns: &mut [u64],
 ) -> Answer
-    ensures { λ r. ⌜ RunnerCall (now (file .entry)) (now (input .entry)) (now (output .entry)) (now (output .exit)) (now (code .entry)) (now (code .exit)) (now (values .entry)) (now (values .exit)) (now (returns .entry)) (now (returns .exit)) fuel r ⌝ }
+    ensures { λ r. ⌜ RunnerCall (now (file .entry)) (now (input .entry)) (now (output .entry))
+        (now (output .exit)) (now (code .entry)) (now (code .exit)) (now (values .entry))
+        (now (values .exit)) (now (returns .entry)) (now (returns .exit)) fuel r ⌝ }
 {
     let emitted = prepare(file, code, values.len(), returns.len());
     match emitted {

@@ -1,4 +1,5 @@
--- The fields of the header stand at the start; those of function b's record after the header and the records of the functions before it.
+-- The fields of the header stand at the start; those of function b's record after the header and
+-- the records of the functions before it.
 use Prim.Native.Nat.{ℕ, suc, _+_, _*_}
 use mathlib.Core.List.{List}
 use mathlib.Core.Path.{_≡_, ap, _∙_}

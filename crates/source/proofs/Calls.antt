@@ -105,7 +105,8 @@ module _ (file input output values returns : List ℕ) (fuel : ℕ) where
   unfolding sourceRun
   ran c e = rw (sourceRun, e)
 
--- The program of flat records passes, its rows are in the table, and there are work words: the steps come to its outcome on each tree.
+-- The program of flat records passes, its rows are in the table, and there are work words: the
+-- steps come to its outcome on each tree.
 pub record Ready (s after input values returns : List ℕ) (first : ℕ) : Type 0 where
   pub program : Program
   pub reads : readProgram s ≡ done program

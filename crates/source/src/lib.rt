@@ -37,7 +37,8 @@ pub struct SourceAnswer {
 
 // The answer of a run that is refused.
 fn refused(why: Refusal, position: usize, begun: u64) -> SourceAnswer
-    ensures { λ r. ⌜ sourceAnswer r ≡ record { outcome = refusal (number why) position; begun = begun; bytesWritten = 0; number = 0 } ⌝ }
+    ensures { λ r. ⌜ sourceAnswer r ≡ record
+        { outcome = refusal (number why) position; begun = begun; bytesWritten = 0; number = 0 } ⌝ }
 {
     SourceAnswer {
         verdict: Verdict::Refused(why, position),
@@ -57,15 +58,17 @@ fn why_stopped(stop: u32) -> Refusal
     Refusal::TooManyCalls
 }
 
-// How many bytes the output has room for: fewer than 2^63, so that the count, which goes no further, can be held against them.
+// How many bytes the output has room for: fewer than 2^63, so that the count, which goes no
+// further, can be held against them.
 fn room_of(output: &[u8]) -> usize
     ensures { λ r. ⌜ Room (now (output .entry)) r ⌝ }
 {
     output.len()
 }
 
-// Evaluates the program of these rows: one walk counts the result's bytes, into a buffer of its own, and where they fit a second one, the same, writes them. So
-// a refusal leaves the output untouched.
+// Evaluates the program of these rows: one walk counts the result's bytes, into a buffer of its
+// own, and where they fit a second one, the same, writes them. So a refusal leaves the output
+// untouched.
 fn count_then_write(
     table: &[u16],
     input: &[u8],
@@ -76,7 +79,9 @@ fn count_then_write(
     values: &mut [u32],
     returns: &mut [u64],
 ) -> SourceAnswer
-    ensures { λ r. ⌜ Evaluates (now (table .entry)) (now (input .entry)) first fuel (now (output .entry)) (now (output .exit)) (now (values .entry)) (now (values .exit)) (now (returns .entry)) (now (returns .exit)) r ⌝ }
+    ensures { λ r. ⌜ Evaluates (now (table .entry)) (now (input .entry)) first fuel
+        (now (output .entry)) (now (output .exit)) (now (values .entry)) (now (values .exit))
+        (now (returns .entry)) (now (returns .exit)) r ⌝ }
 {
     let counted = source_walk::walk(table, input, first, fuel, counting, values, returns);
     if counted.stop != NOT_REFUSED {
@@ -96,7 +101,8 @@ fn count_then_write(
     }
 }
 
-// Evaluates the program of these rows. What the walk that counts writes is of no matter, so it is lent one byte.
+// Evaluates the program of these rows. What the walk that counts writes is of no matter, so it is
+// lent one byte.
 fn evaluate(
     table: &[u16],
     input: &[u8],
@@ -106,7 +112,9 @@ fn evaluate(
     values: &mut [u32],
     returns: &mut [u64],
 ) -> SourceAnswer
-    ensures { λ r. ⌜ Evaluates (now (table .entry)) (now (input .entry)) first fuel (now (output .entry)) (now (output .exit)) (now (values .entry)) (now (values .exit)) (now (returns .entry)) (now (returns .exit)) r ⌝ }
+    ensures { λ r. ⌜ Evaluates (now (table .entry)) (now (input .entry)) first fuel
+        (now (output .entry)) (now (output .exit)) (now (values .entry)) (now (values .exit))
+        (now (returns .entry)) (now (returns .exit)) r ⌝ }
 {
     let mut nothing = [0u8; 1];
     count_then_write(
@@ -137,7 +145,9 @@ fn run_records(
     values: &mut [u32],
     returns: &mut [u64],
 ) -> SourceAnswer
-    ensures { λ r. ⌜ OfFile (now (flat .entry)) (now (input .entry)) (now (output .entry)) (now (output .exit)) (now (values .entry)) (now (values .exit)) (now (returns .entry)) (now (returns .exit)) fuel r ⌝ }
+    ensures { λ r. ⌜ OfFile (now (flat .entry)) (now (input .entry)) (now (output .entry))
+        (now (output .exit)) (now (values .entry)) (now (values .exit)) (now (returns .entry))
+        (now (returns .exit)) fuel r ⌝ }
 {
     let mut table = [0u16; TABLE_WORDS];
     let decoded = decode::decode(flat, &mut table);
@@ -160,8 +170,9 @@ fn run_records(
     }
 }
 
-// The source run of a program file: the rows of the file, pass one, 13 where work words are missing, the tree reader; then the evaluation, where 14 and 18
-// arise; last 17, where the output is shorter than the result. A refusal leaves the output untouched.
+// The source run of a program file: the rows of the file, pass one, 13 where work words are
+// missing, the tree reader; then the evaluation, where 14 and 18 arise; last 17, where the output
+// is shorter than the result. A refusal leaves the output untouched.
 pub fn run(
     file: &[u8],
     input: &[u8],
@@ -170,7 +181,10 @@ pub fn run(
     values: &mut [u32],
     returns: &mut [u64],
 ) -> SourceAnswer
-    ensures { λ r. ⌜ Sourced (sourceRun (now (file .entry)) (now (input .entry)) (now (output .entry)) fuel (length (now (values .entry))) (length (now (returns .entry)))) (now (output .exit)) (now (values .entry)) (now (values .exit)) (now (returns .entry)) (now (returns .exit)) r ⌝ }
+    ensures { λ r. ⌜ Sourced (sourceRun (now (file .entry)) (now (input .entry))
+        (now (output .entry)) fuel (length (now (values .entry))) (length (now (returns .entry))))
+        (now (output .exit)) (now (values .entry)) (now (values .exit)) (now (returns .entry))
+        (now (returns .exit)) r ⌝ }
 {
     let mut flat = [0u8; MOST_BYTES];
     let taken = block_reader::from_blocks(file, &mut flat);

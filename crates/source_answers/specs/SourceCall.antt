@@ -1,4 +1,5 @@
--- What a source run called from C or Rust answers, and what its buffers then hold: as of a stream run, with its own slots and its own early refusals.
+-- What a source run called from C or Rust answers, and what its buffers then hold: as of a stream
+-- run, with its own slots and its own early refusals.
 use Prim.Native.Nat.{ℕ}
 use mathlib.Core.List.{List}
 use Rattle.meaning.specs.SourceRun.{SourceRan}

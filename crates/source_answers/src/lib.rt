@@ -1,4 +1,5 @@
-// The answer of a source run from C or Rust: a number, and the first slots of an array that the caller lends.
+// The answer of a source run from C or Rust: a number, and the first slots of an array that the
+// caller lends.
 use refusal::Verdict;
 use source::SourceAnswer;
 ghost use mathlib.Core.Path.{_≡_};
@@ -18,9 +19,11 @@ pub fn has_room(answer: &[u64]) -> bool
     SOURCE_SLOTS <= answer.len()
 }
 
-// The row of a refusal's position, expressions begun, bytes written and the number, sign-extended to 64 bits.
+// The row of a refusal's position, expressions begun, bytes written and the number, sign-extended
+// to 64 bits.
 fn store(ran: SourceAnswer, number: u32, position: usize, answer: &mut [u64]) -> u32
-    ensures { λ r. ⌜ StoresSource (sourceAnswer ran) number position (now (answer .entry)) (now (answer .exit)) r ⌝ }
+    ensures { λ r. ⌜ StoresSource (sourceAnswer ran) number position (now (answer .entry))
+        (now (answer .exit)) r ⌝ }
 {
     let row = [
         position as u64,
@@ -33,7 +36,8 @@ fn store(ran: SourceAnswer, number: u32, position: usize, answer: &mut [u64]) ->
 
 // The answer of a source run.
 pub fn report_source(ran: SourceAnswer, answer: &mut [u64]) -> u32
-    ensures { λ r. ⌜ AnswersSource (sourceAnswer ran) (now (answer .entry)) (now (answer .exit)) r ⌝ }
+    ensures { λ r. ⌜ AnswersSource (sourceAnswer ran) (now (answer .entry)) (now (answer .exit))
+        r ⌝ }
 {
     let verdict = ran.verdict;
     match verdict {

@@ -4,10 +4,13 @@ ghost use lib.ListN.{length};
 ghost use Rattle.meaning.specs.SourceRun.{sourceRun};
 ghost use Rattle.source_answers.specs.SourceCall.{SourceCall};
 
-// The source run of a program file: its meaning on the tree that begins `input`, for programs that pass pass one, in or out of order. The refusal's
-// number, 0 where the run ended; the refusal's position, expressions begun, bytes written and the number, sign-extended to 64 bits, go to the answer's first
-// four slots. A refusal leaves `output` untouched. Fewer than 16,384 `values` or 2,048 `returns`: 13. Refused with 1 to 13, 15, 16 or 20, a call leaves them
-// untouched; what they hold after a run is free. With fewer than four slots in `answer`: 13, and all buffers are untouched.
+// The source run of a program file: its meaning on the tree that begins `input`, for programs that
+// pass pass one, in or out of order. The refusal's number, 0 where the run ended; the refusal's
+// position, expressions begun, bytes written and the number, sign-extended to 64 bits, go to the
+// answer's first four slots. A refusal leaves `output` untouched. Fewer than 16,384 `values` or
+// 2,048 `returns`: 13. Refused with 1 to 13, 15, 16 or 20, a call leaves them untouched; what they
+// hold after a run is free. With fewer than four slots in `answer`: 13, and all buffers are
+// untouched.
 pub fn source(
     file: &[u8],
     input: &[u8],
@@ -17,7 +20,11 @@ pub fn source(
     returns: &mut [u64],
     answer: &mut [u64],
 ) -> u32
-    ensures { λ r. ⌜ SourceCall (sourceRun (now (file .entry)) (now (input .entry)) (now (output .entry)) fuel (length (now (values .entry))) (length (now (returns .entry)))) (now (output .entry)) (now (output .exit)) (now (values .entry)) (now (values .exit)) (now (returns .entry)) (now (returns .exit)) (now (answer .entry)) (now (answer .exit)) r ⌝ }
+    ensures { λ r. ⌜ SourceCall (sourceRun (now (file .entry)) (now (input .entry))
+        (now (output .entry)) fuel (length (now (values .entry))) (length (now (returns .entry))))
+        (now (output .entry)) (now (output .exit)) (now (values .entry)) (now (values .exit))
+        (now (returns .entry)) (now (returns .exit)) (now (answer .entry)) (now (answer .exit))
+        r ⌝ }
 {
     if !source_answers::has_room(answer) {
         return refusal::number_of(Refusal::SpaceTooShort);

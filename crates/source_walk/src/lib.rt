@@ -1,5 +1,5 @@
-// The walk of the source run: expressions begin one after the other, over the rows of a program, with the state in the lent words; no native recursion over
-// expressions or calls.
+// The walk of the source run: expressions begin one after the other, over the rows of a program,
+// with the state in the lent words; no native recursion over expressions or calls.
 use stages::BEGIN;
 use stages::ENDED;
 use stages::FINISHED;
@@ -28,7 +28,9 @@ fn climb(
     returns: &[u64],
     start: Stage,
 ) -> Stage
-    ensures { λ r. ⌜ Climbs (now (table .entry)) (now (input .entry)) (now (returns .entry)) (now (output .entry)) (now (output .exit)) (now (values .entry)) (now (values .exit)) start r ⌝ }
+    ensures { λ r. ⌜ Climbs (now (table .entry)) (now (input .entry)) (now (returns .entry))
+        (now (output .entry)) (now (output .exit)) (now (values .entry)) (now (values .exit)) start
+        r ⌝ }
 {
     let mut s = start;
     while s.mode == FINISHED {
@@ -45,7 +47,8 @@ fn climb(
 
 // One expression begins.
 fn begin_one(table: &[u16], input: &[u8], output: &mut [u8], values: &mut [u32], s: Stage) -> Stage
-    ensures { λ r. ⌜ BeginsOne (now (table .entry)) (now (input .entry)) (now (output .entry)) (now (output .exit)) (now (values .entry)) (now (values .exit)) s r ⌝ }
+    ensures { λ r. ⌜ BeginsOne (now (table .entry)) (now (input .entry)) (now (output .entry))
+        (now (output .exit)) (now (values .entry)) (now (values .exit)) s r ⌝ }
 {
     let at = result_bytes::emit_first(table, output, s);
     let mut next = begin_record::begin(table, input, values, s);
@@ -55,7 +58,8 @@ fn begin_one(table: &[u16], input: &[u8], output: &mut [u8], values: &mut [u32],
 
 // A call opens, if one is to be opened.
 fn open_one(table: &[u16], input: &[u8], values: &mut [u32], returns: &mut [u64], s: Stage) -> Stage
-    ensures { λ r. ⌜ OpensOne (now (table .entry)) (now (input .entry)) (now (values .entry)) (now (values .exit)) (now (returns .entry)) (now (returns .exit)) s r ⌝ }
+    ensures { λ r. ⌜ OpensOne (now (table .entry)) (now (input .entry)) (now (values .entry))
+        (now (values .exit)) (now (returns .entry)) (now (returns .exit)) s r ⌝ }
 {
     if s.mode == OPEN {
         return open_call::open(table, input, values, returns, s);
@@ -72,14 +76,17 @@ fn turn(
     returns: &mut [u64],
     s: Stage,
 ) -> Stage
-    ensures { λ r. ⌜ Turns (now (table .entry)) (now (input .entry)) (now (output .entry)) (now (output .exit)) (now (values .entry)) (now (values .exit)) (now (returns .entry)) (now (returns .exit)) s r ⌝ }
+    ensures { λ r. ⌜ Turns (now (table .entry)) (now (input .entry)) (now (output .entry))
+        (now (output .exit)) (now (values .entry)) (now (values .exit)) (now (returns .entry))
+        (now (returns .exit)) s r ⌝ }
 {
     let begun = begin_one(table, input, output, values, s);
     let settled = climb(table, input, output, values, returns, begun);
     open_one(table, input, values, returns, settled)
 }
 
-// How a walk stops: 0 where it ended, else a refusal's number; the expressions begun, the bytes written, the number.
+// How a walk stops: 0 where it ended, else a refusal's number; the expressions begun, the bytes
+// written, the number.
 pub struct Walked {
     pub stop: u32,
     pub begun: u64,
@@ -93,7 +100,8 @@ const FUEL_USED_UP: u32 = 14;
 
 const TOO_MANY_CALLS: u32 = 18;
 
-// What a walk that stops at this stage reports. A program's rows lead to no stage that is stuck, so what has not ended is a call too many.
+// What a walk that stops at this stage reports. A program's rows lead to no stage that is stuck, so
+// what has not ended is a call too many.
 fn finish(s: Stage, begun: u64) -> Walked
     ensures { λ r. ⌜ r ≡ finished s begun ⌝ }
 {
@@ -113,8 +121,9 @@ fn finish(s: Stage, begun: u64) -> Walked
     }
 }
 
-// Evaluates the program of these rows on the tree that begins the input, from the record `first` on. The fuel is looked at before each expression. The
-// result is written to the start of `output` as far as it fits.
+// Evaluates the program of these rows on the tree that begins the input, from the record `first`
+// on. The fuel is looked at before each expression. The result is written to the start of `output`
+// as far as it fits.
 pub fn walk(
     table: &[u16],
     input: &[u8],
@@ -124,7 +133,9 @@ pub fn walk(
     values: &mut [u32],
     returns: &mut [u64],
 ) -> Walked
-    ensures { λ r. ⌜ Walks (now (table .entry)) (now (input .entry)) first fuel (now (output .entry)) (now (output .exit)) (now (values .entry)) (now (values .exit)) (now (returns .entry)) (now (returns .exit)) r ⌝ }
+    ensures { λ r. ⌜ Walks (now (table .entry)) (now (input .entry)) first fuel
+        (now (output .entry)) (now (output .exit)) (now (values .entry)) (now (values .exit))
+        (now (returns .entry)) (now (returns .exit)) r ⌝ }
 {
     let mut s = Stage {
         mode: BEGIN,

@@ -1,4 +1,5 @@
--- What a stage stands for: a law for each thing that may be done next, and what a step that reaches a turn leaves.
+-- What a stage stands for: a law for each thing that may be done next, and what a step that reaches
+-- a turn leaves.
 use Prim.Native.Nat.{ℕ}
 use mathlib.Core.List.{List}
 use mathlib.Core.Logic.{_≢_}

@@ -2,7 +2,8 @@
 ghost use mathlib.Core.Path.{_≡_};
 ghost use Rattle.stages.specs.Inner.Stages.{staged};
 
-// What is to be done next: a record begins, a record is finished, a call opens; the run has ended, a call too many would open, or the rows lead nowhere.
+// What is to be done next: a record begins, a record is finished, a call opens; the run has ended,
+// a call too many would open, or the rows lead nowhere.
 pub const BEGIN: u32 = 0;
 
 pub const FINISHED: u32 = 1;
@@ -15,8 +16,10 @@ pub const DEEP: u32 = 4;
 
 pub const STUCK: u32 = 5;
 
-// What is to be done next, by its number (`specs/Stages`); the record that it is done to, and the record's number where it is finished; how many calls wait, and
-// the position of the frame's tree; a tree that was passed, by its position and its end (0 as long as there is none); and the bytes written.
+// What is to be done next, by its number (`specs/Stages`); the record that it is done to, and the
+// record's number where it is finished; how many calls wait, and the position of the frame's tree;
+// a tree that was passed, by its position and its end (0 as long as there is none); and the bytes
+// written.
 pub struct Stage {
     pub mode: u32,
     pub node: u16,

@@ -30,7 +30,8 @@ use Rattle.stepwise.proofs.Whole.{comes}
 
 -- ---- rows
 
--- Grow: action, operand, tree, the rest; role, parent, slot, the record after. Case at record 2, Leaf at 3, Add at 4, Node at 7.
+-- Grow: action, operand, tree, the rest; role, parent, slot, the record after. Case at record 2,
+-- Leaf at 3, Add at 4, Node at 7.
 grow-rows : rowsIn grow
     ≡ 4 ∷ 0 ∷ 0 ∷ 0 ∷ 0 ∷ 0 ∷ 0 ∷ 10
     ∷ 2 ∷ 0 ∷ 0 ∷ 0 ∷ 4 ∷ 2 ∷ 0 ∷ 7
@@ -44,7 +45,8 @@ grow-rows : rowsIn grow
 unfolding grow rowsOfAll rowsOf actionOf codeOf roleOf slotOf namesIn keepsIn casesIn operandOf treeOf moreOf firstRecord arityOf nth total signatureOf size prefix
 grow-rows = refl
 
--- A Call of two arguments after a number kept, the first one's word below that; a Let over two parameters, an IfZero in its body.
+-- A Call of two arguments after a number kept, the first one's word below that; a Let over two
+-- parameters, an IfZero in its body.
 pair : Program
 pair = programOf
     (numbered (add (const 70000) (call 0 1 (arg (const 3) (arg (const 4) noArgs))))
@@ -68,7 +70,8 @@ pair-rows : rowsIn pair
 unfolding pair programOf numbered rowsOfAll rowsOf rowsOfArgs afterArgs actionOf codeOf roleOf slotOf namesIn keepsIn casesIn operandOf treeOf moreOf firstRecord arityOf nth total signatureOf size prefix prefixes
 pair-rows = refl
 
--- the names of trees inside two Cases, at records 2 and 5: the frame's tree, the first Case's left and right tree, then the second's
+-- the names of trees inside two Cases, at records 2 and 5: the frame's tree, the first Case's left
+-- and right tree, then the second's
 codes : map (codeOf (2 ∷ 5 ∷ [])) (0 ∷ 1 ∷ 2 ∷ 3 ∷ 4 ∷ []) ≡ 0 ∷ 5 ∷ 6 ∷ 11 ∷ 12 ∷ []
 unfolding codeOf
 codes = refl

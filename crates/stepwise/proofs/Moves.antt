@@ -1,4 +1,5 @@
--- Steps one by one, from what comes after to what comes before: a law for each thing that may be the outcome of a record.
+-- Steps one by one, from what comes after to what comes before: a law for each thing that may be
+-- the outcome of a record.
 use Prim.Native.Nat.{ℕ, suc, _+_, _*_, _≤_, _<_}
 use mathlib.Core.List.{List, [], _∷_, _++_, append-nil}
 use mathlib.Core.Logic.{_≢_}

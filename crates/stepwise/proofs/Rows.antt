@@ -1,4 +1,5 @@
--- The rows of an expression in a table: its own row first, then those of its parts, one after the other; and the bodies of a program in its table.
+-- The rows of an expression in a table: its own row first, then those of its parts, one after the
+-- other; and the bodies of a program in its table.
 use Prim.Native.Nat.{ℕ, zero, suc, _+_, _*_, _≤_, _<_}
 use mathlib.Core.List.{List, [], _∷_, _++_, map}
 use mathlib.Core.Option.{some, Option·some-injective, Option·none-ne-some}

@@ -1,8 +1,9 @@
 -- The steps over an expression's rows come to what its evaluation comes to.
 --
--- From a state whose frame holds the named numbers, each on its word, and whose named trees are found in the input, the record of an expression begins;
--- if what follows comes to an outcome from every value, so does the whole. Kind by kind, with one lemma for each; the calls in an expression are assumed
--- to do so.
+-- From a state whose frame holds the named numbers, each on its word, and whose named trees are
+-- found in the input, the record of an expression begins; if what follows comes to an outcome from
+-- every value, so does the whole. Kind by kind, with one lemma for each; the calls in an expression
+-- are assumed to do so.
 use Prim.Native.Nat.{ℕ, zero, suc, _+_, _-_, _*_, _≤_, _<_}
 use mathlib.Core.Bool.{Bool, true, false}
 use mathlib.Core.List.{List, [], _∷_, _++_, append-nil}
@@ -87,8 +88,8 @@ module _ (program : Program) (T input : List ℕ) (k : ℕ) where
     pub returns : returnWords ≤ length (s .returns)
     pub allowed : s .calls + k ≡ mostWaiting
 
-  -- The state agrees with an environment of g numbers and n trees: the numbers are on the frame's first words, the trees are found from record r on, and
-  -- what is known of an end is right.
+  -- The state agrees with an environment of g numbers and n trees: the numbers are on the frame's
+  -- first words, the trees are found from record r on, and what is known of an end is right.
   pub record Agrees (g n : ℕ) (cases : List ℕ) (r : ℕ) (E : Environment) (s : State) : Type 0 where
     pub numbers : length (E .numbers) ≡ g
     pub trees : length (E .trees) ≡ n
@@ -177,7 +178,8 @@ module _ (program : Program) (T input : List ℕ) (k : ℕ) where
   abbrev pub onWord : State → ℕ → ℕ → ℕ
   onWord s keeps c = wordAt s (lastWord - (keeps + c))
 
-  -- Before arguments, the first of them at record j: it begins, or there is none and the Call at record r opens.
+  -- Before arguments, the first of them at record j: it begins, or there is none and the Call at
+  -- record r opens.
   unfoldable pub turnOf : Args → ℕ → ℕ → State → Turn
   turnOf noArgs r j s = opens r s
   turnOf (arg x xs) r j s = begin j s
@@ -208,8 +210,8 @@ module _ (program : Program) (T input : List ℕ) (k : ℕ) where
       → FollowsArgs (arity b) g (p .keeps) r s out κ
       → Comes T input out (turnOf xs r j s) (followedBy (evaluateArgs (called program k) E j xs before) κ)
 
-  -- A call of f is ready to open: its row names f's first record, its numbers are on their words, its tree and its frame's
-  -- own tree lie at their places, and what is known of an end is right.
+  -- A call of f is ready to open: its row names f's first record, its numbers are on their words,
+  -- its tree and its frame's own tree lie at their places, and what is known of an end is right.
   pub record Ready (r b : ℕ) (f : Function) (numbers : List ℕ) (t : Tree) (s : State) : Type 0 where
     pub low : r < recordLimit
     pub offset : ℕ
@@ -436,7 +438,8 @@ module _ (program : Program) (T input : List ℕ) (k : ℕ) where
             })));
       }))))
 
-  -- by the tree that is looked at: a leaf's label is named by the next word; a node's trees are named
+  -- by the tree that is looked at: a leaf's label is named by the next word; a node's trees are
+  -- named
   sim-case :
       {g n : ℕ} {sort : Sort} (a : ℕ) (x y : Expr) → a < n → Sim (suc g) n sort x → Sim g (suc (suc n)) sort y → Sim g n sort (caseOf a x y)
   unfolding evaluate treeOr wordsOf headOf actionOf treeOf operandOf roleOf namesIn keepsIn casesIn
@@ -628,7 +631,8 @@ module _ (program : Program) (T input : List ℕ) (k : ℕ) where
       none-there : (c i : ℕ) → atLevel [] c ≡ some i → onWord s (p .keeps) c ≡ i
       none-there c i e = let below = level-below [] c e in absurd (omega arith)
 
-  -- every expression that pass one takes comes to what its evaluation comes to, if the calls in it do
+  -- every expression that pass one takes comes to what its evaluation comes to, if the calls in it
+  -- do
   pub sim : SimCalls → {g n : ℕ} {sort : Sort} {e : Expr} → Proper (program .functions) g n sort e → Sim g n sort e
   sim calls d = elim d as (λ g n sort e d. Sim g n sort e) (λ g n count xs d. SimArgs g n count xs) [
     | proper-const {i = i} small ↦ sim-const i

@@ -1,4 +1,5 @@
--- Trees that lie in the input, one whose end is known, and those named at a record, each with its code and its offset.
+-- Trees that lie in the input, one whose end is known, and those named at a record, each with its
+-- code and its offset.
 use Prim.Native.Nat.{ℕ, zero, suc, _+_, _-_, _*_, _/_, _%_, _≤_, _<_, zero-le}
 use mathlib.Core.Bool.{Bool, true, false, _&&_}
 use mathlib.Core.List.{List, [], _∷_, _++_}
@@ -216,7 +217,8 @@ module _ (cases : List ℕ) (r : ℕ) where
       let inside : j / 2 < length cases = omega arith in
       rw (List·getD-append cases (r ∷ []) 0 (j / 2) inside)
 
--- the right tree of the node that the Case at record c looks at is found, whether or not the left tree's end is known
+-- the right tree of the node that the Case at record c looks at is found, whether or not the left
+-- tree's end is known
 found-right : {T input : List ℕ} {s : State} {p : ℕ} {l r : Tree} (c : ℕ)
     → Lies input p (node l r)
     → treeAt T c < suc (2 * c)
@@ -235,7 +237,8 @@ found-right {T} {input} {s} {p} {l} c lies small cached found = by-test (eqb (su
         (the-known c p small within found same)
     by-test false e = the-right c p (length (tokens l)) small within found (eqb-false (suc p) (s .known) e) (end-found (lies-left lies))
 
--- in the node part of the Case at record r, which looks at the tree of name a, its left and its right tree are named
+-- in the node part of the Case at record r, which looks at the tree of name a, its left and its
+-- right tree are named
 pub named-deeper : {T input : List ℕ} {own : ℕ} {cases : List ℕ} {r : ℕ} {trees : List Tree} (a : ℕ) (left right : Tree)
     → treeAt T r ≡ codeOf cases a → atLevel trees a ≡ some (node left right) → Named T input own cases r trees
     → Named T input own (cases ++ (r ∷ [])) (suc r) (right ∷ (left ∷ trees))
@@ -319,7 +322,8 @@ right-offset {T} {input} {s} {l} lies cached d =
     at-own : (a c p : ℕ) → suc (suc (2 * a)) ≡ suc (suc (2 * c)) → treeAt T c ≡ 0 → Found T input s (treeAt T a) p → p ≡ s .tree
     at-own a c p is none f = let same : a ≡ c = omega arith in own-offset f (ap (treeAt T) same ∙ none)
 
--- what `onRight` asks for: the Case at record `looking` looks at the frame's own tree, a node, and the Call is on its right tree
+-- what `onRight` asks for: the Case at record `looking` looks at the frame's own tree, a node, and
+-- the Call is on its right tree
 record OnRight (T input : List ℕ) (r own : ℕ) : Type 0 where
   looking : ℕ
   code : treeAt T r ≡ suc (suc (2 * looking))

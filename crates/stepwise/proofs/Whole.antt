@@ -1,7 +1,9 @@
--- The steps come to the evaluation's outcome: calls do, by recursion on the calls that may still be opened, and so does the whole.
+-- The steps come to the evaluation's outcome: calls do, by recursion on the calls that may still be
+-- opened, and so does the whole.
 --
--- Where none may be opened, a call stops the evaluation, and the step is the call that is one too many. Else the function's body begins in the next frame,
--- with the arguments on its first words; after it the return words bring back the Call's record and the caller's tree.
+-- Where none may be opened, a call stops the evaluation, and the step is the call that is one too
+-- many. Else the function's body begins in the next frame, with the arguments on its first words;
+-- after it the return words bring back the Call's record and the caller's tree.
 use Prim.Native.Nat.{ℕ, zero, suc, _+_, _-_, _*_, _≤_}
 use mathlib.Core.List.{List, [], _∷_}
 use mathlib.Core.Option.{some, Option·some-injective, Option·none-ne-some}

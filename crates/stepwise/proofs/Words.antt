@@ -1,4 +1,5 @@
--- Laws of a frame's words and of return words: what taking a part leaves as it was, a word set, a call's arguments put on the next frame's words.
+-- Laws of a frame's words and of return words: what taking a part leaves as it was, a word set, a
+-- call's arguments put on the next frame's words.
 use Prim.Native.Nat.{ℕ, zero, suc, _+_, _-_, _*_, _%_, _≤_, _<_}
 use mathlib.Core.Bool.{Bool, true, false}
 use mathlib.Core.List.{List}
@@ -17,8 +18,8 @@ use Rattle.stepwise.proofs.Trees.{Lies, Cached, cached-after}
 
 -- ---- what taking a part leaves
 
--- Of the frame's words the first `names` and the last `keeps`, all words below the frame, and the return words of the calls that wait; and what is known
--- of an end stays right.
+-- Of the frame's words the first `names` and the last `keeps`, all words below the frame, and the
+-- return words of the calls that wait; and what is known of an end stays right.
 pub record Leaves (input : List ℕ) (names keeps : ℕ) (s s′ : State) : Type 0 where
   pub calls : s′ .calls ≡ s .calls
   pub tree : s′ .tree ≡ s .tree

@@ -1,4 +1,5 @@
-// A template's items, counted and found by the part that they stand before; and the entry of a function.
+// A template's items, counted and found by the part that they stand before; and the entry of a
+// function.
 use records::Items;
 use records::Template;
 ghost use mathlib.Core.Path.{_≡_};

@@ -1,4 +1,5 @@
--- A program's functions one after the other: what is left of them at function j, whose body is at record k, and where its code begins.
+-- A program's functions one after the other: what is left of them at function j, whose body is at
+-- record k, and where its code begins.
 use Prim.Native.Nat.{ℕ, zero, suc, _+_, _≤_, _<_}
 use mathlib.Core.List.{List, [], _∷_, _++_, append-assoc, append-nil, map}
 use mathlib.Core.Path.{_≡_, refl, sym, ap, ap₂, subst, _∙_}

@@ -1,4 +1,5 @@
--- The functions that emit an expression and its parts: a law for each way out of them, and what their calls ask.
+-- The functions that emit an expression and its parts: a law for each way out of them, and what
+-- their calls ask.
 use Prim.Native.Nat.{ℕ, suc, _+_, _-_, _*_, _≤_, _<_}
 use mathlib.Core.List.{List, [], _∷_, _++_, map}
 use mathlib.Core.Path.{_≡_, refl, sym, ap, ap₂, _∙_}

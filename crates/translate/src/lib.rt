@@ -27,8 +27,8 @@ const RETURN: u8 = 13;
 // The sort of a function that gives a tree.
 const TREE_VALUED: u8 = 1;
 
-// How far the code is emitted: the next record, the next address, and the address at which the last part begins. Addresses count from the start of
-// the part of the code buffer that is lent.
+// How far the code is emitted: the next record, the next address, and the address at which the last
+// part begins. Addresses count from the start of the part of the code buffer that is lent.
 struct Emitted {
     next: usize,
     at: usize,
@@ -48,8 +48,9 @@ struct Table {
     count: usize,
 }
 
-// Lays down the expression at record k from address `at` of `code` on, which is address base + at of the program. Where it does not fit nothing is
-// written, and the addresses are reported all the same.
+// Lays down the expression at record k from address `at` of `code` on, which is address base + at
+// of the program. Where it does not fit nothing is written, and the addresses are reported all the
+// same.
 fn emit(
     flat: &[u8],
     entries: &[u16],
@@ -61,7 +62,8 @@ fn emit(
     scope: Scope,
 ) -> Emitted
     requires { ⌜ Small k end base at 0 ⌝ }
-    ensures { λ r. ⌜ Emits (now (flat .entry)) (now (entries .entry)) (now (code .entry)) (now (code .exit)) base at k end scope r ⌝ }
+    ensures { λ r. ⌜ Emits (now (flat .entry)) (now (entries .entry)) (now (code .entry))
+        (now (code .exit)) base at k end scope r ⌝ }
 {
     if end <= k {
         return Emitted {
@@ -100,8 +102,9 @@ fn emit(
     }
 }
 
-// Lays down the parts of a record from part i on, the next of them at record k, each after what stands before it, and after them all what stands
-// last. What stands before a part is emitted once the parts are finished: then its addresses are known.
+// Lays down the parts of a record from part i on, the next of them at record k, each after what
+// stands before it, and after them all what stands last. What stands before a part is emitted once
+// the parts are finished: then its addresses are known.
 fn emit_parts(
     flat: &[u8],
     entries: &[u16],
@@ -116,7 +119,8 @@ fn emit_parts(
     scope: Scope,
 ) -> Emitted
     requires { ⌜ SmallParts i k end base at last ⌝ }
-    ensures { λ r. ⌜ EmitsParts (now (flat .entry)) (now (entries .entry)) (now (code .entry)) (now (code .exit)) base at last shape i k end scope r ⌝ }
+    ensures { λ r. ⌜ EmitsParts (now (flat .entry)) (now (entries .entry)) (now (code .entry))
+        (now (code .exit)) base at last shape i k end scope r ⌝ }
 {
     let template = shape.template;
     if shape.count <= i {
@@ -163,7 +167,8 @@ fn emit_parts(
     rest
 }
 
-// What is known on entering the body of function j: its number parameters stand on the frame's first words.
+// What is known on entering the body of function j: its number parameters stand on the frame's
+// first words.
 fn start(flat: &[u8], j: u16) -> Scope
     ensures { λ r. ⌜ Starts (now (flat .entry)) j r ⌝ }
 {
@@ -187,8 +192,8 @@ fn words_kept(tree: bool) -> u8
     1
 }
 
-// Lays down function j, its body at record k, at the start of `code`, which is the part of the code buffer that begins at its entry: its body, then
-// return.
+// Lays down function j, its body at record k, at the start of `code`, which is the part of the code
+// buffer that begins at its entry: its body, then return.
 fn emit_function(
     flat: &[u8],
     entries: &[u16],
@@ -199,7 +204,8 @@ fn emit_function(
     end: usize,
 ) -> Emitted
     requires { ⌜ Small k end entry 0 1 ⌝ }
-    ensures { λ r. ⌜ EmitsFunction (now (flat .entry)) (now (entries .entry)) (now (code .entry)) (now (code .exit)) entry j k end r ⌝ }
+    ensures { λ r. ⌜ EmitsFunction (now (flat .entry)) (now (entries .entry)) (now (code .entry))
+        (now (code .exit)) entry j k end r ⌝ }
 {
     let scope = start(flat, j);
     let body = emit(flat, entries, code, entry, 0, k, end, scope);
@@ -256,10 +262,13 @@ fn emit_all(flat: &[u8], entries: &[u16], code: &mut [u8])
     }
 }
 
-// The code of flat records that are a program which both passes accept, written to the start of a lent buffer; or the first refusal of the rows header
-// to prefix form, pass one and pass two, and last 13 where the buffer is too short. A refusal leaves the buffer untouched.
+// The code of flat records that are a program which both passes accept, written to the start of a
+// lent buffer; or the first refusal of the rows header to prefix form, pass one and pass two, and
+// last 13 where the buffer is too short. A refusal leaves the buffer untouched.
 pub fn translate_records(flat: &[u8], code: &mut [u8]) -> Filled
-    ensures { λ r. ⌜ FilledBuffer (translateRecords (length (now (code .entry))) (now (flat .entry))) (now (code .entry)) (now (code .exit)) r ⌝ }
+    ensures { λ r. ⌜ FilledBuffer
+        (translateRecords (length (now (code .entry))) (now (flat .entry))) (now (code .entry))
+        (now (code .exit)) r ⌝ }
 {
     let verdict = pass_two::check_all_rows(flat);
     if let Verdict::Refused(why, position) = verdict {
@@ -277,7 +286,8 @@ pub fn translate_records(flat: &[u8], code: &mut [u8]) -> Filled
 
 // The same from a program file: the block rows first.
 pub fn translate_file(file: &[u8], code: &mut [u8]) -> Filled
-    ensures { λ r. ⌜ FilledBuffer (translateFile (length (now (code .entry))) (now (file .entry))) (now (code .entry)) (now (code .exit)) r ⌝ }
+    ensures { λ r. ⌜ FilledBuffer (translateFile (length (now (code .entry))) (now (file .entry)))
+        (now (code .entry)) (now (code .exit)) r ⌝ }
 {
     let mut flat = [0u8; MOST_BYTES];
     let taken = block_reader::from_blocks(file, &mut flat);

@@ -1,4 +1,5 @@
--- Where instructions stand: the code of an expression ends where `codeEnd` says, so joined code stands part after part.
+-- Where instructions stand: the code of an expression ends where `codeEnd` says, so joined code
+-- stands part after part.
 use Prim.Native.Nat.{ℕ, suc, _+_}
 use mathlib.Core.List.{List, [], _∷_, _++_}
 use mathlib.Core.Option.{Option, some}
@@ -56,7 +57,8 @@ module _ (entries : ℕ → ℕ) where
 
 -- ---- instructions from an address on
 
--- These stand there, one after the other. `Has a op` says what it is for op to stand at address a: in a list, or in a machine's code.
+-- These stand there, one after the other. `Has a op` says what it is for op to stand at address a:
+-- in a list, or in a machine's code.
 abbrev pub At : (Has : ℕ → Operation → Type 0) → ℕ → List Operation → Type 0
 At Has a [] = Unit {0}
 At Has a (op ∷ ops) = Has a op × At Has (suc a) ops

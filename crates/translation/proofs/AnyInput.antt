@@ -1,8 +1,10 @@
 -- What an input begins with: a tree's tokens, or a first fault.
 --
--- A tree that stands at a position is carried there, by recursion on the tree. What stands at a position of any bytes is found by the tag there: a whole leaf;
--- a node, whose left tree is found next, and then its right tree after it; or a fault. In front of a fault the tokens are those of some tree, whatever
--- trees come after it. The place grows with each tag, so the recursion is on a bound of the bytes that are left.
+-- A tree that stands at a position is carried there, by recursion on the tree. What stands at a
+-- position of any bytes is found by the tag there: a whole leaf; a node, whose left tree is found
+-- next, and then its right tree after it; or a fault. In front of a fault the tokens are those of
+-- some tree, whatever trees come after it. The place grows with each tag, so the recursion is on a
+-- bound of the bytes that are left.
 use Prim.Native.Nat.{ℕ, zero, suc, _+_, _≤_, _<_}
 use mathlib.Core.List.{List, [], _∷_, _++_}
 use mathlib.Core.Path.{_≡_, sym, ap, subst, _∙_}
@@ -62,7 +64,8 @@ pub data Begins (s : List ℕ) : Type 0 where
   with-tree : (t : Tree) → Labelled t → Opens (tokens t) s → Begins s
   with-fault : (t : Tree) → Carries (Unit {0}) s (suc (length s)) 0 (t ∷ []) → Begins s
 
--- What is found at a position: a tree that stands there, or some tree's tokens up to a first fault, whatever trees come after it.
+-- What is found at a position: a tree that stands there, or some tree's tokens up to a first fault,
+-- whatever trees come after it.
 data Found (s : List ℕ) (p : ℕ) : Type 0 where
   a-tree : (t : Tree) → Labelled t → Lies s p (tokens t) → Found s p
   a-fault : (t : Tree) → ((ts : List Tree) → Carries (Unit {0}) s (suc (length s)) p (t ∷ ts)) → Found s p

@@ -1,4 +1,5 @@
--- `MovesWords` is what the machine does with the words of a frame: a step that opens no call and leaves none leads so. Opcode by opcode.
+-- `MovesWords` is what the machine does with the words of a frame: a step that opens no call and
+-- leaves none leads so. Opcode by opcode.
 use Prim.Native.Nat.{ℕ, suc, _+_}
 use mathlib.Core.Bool.{Bool, true, false}
 use mathlib.Core.List.{List, [], _∷_}

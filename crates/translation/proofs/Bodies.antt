@@ -1,8 +1,9 @@
--- What the order checker has found of a checked program: it passes pass one; and each function's body stays within 16 words, and the walk of pass two
--- goes through it.
+-- What the order checker has found of a checked program: it passes pass one; and each function's
+-- body stays within 16 words, and the walk of pass two goes through it.
 --
--- The order checker passes a program exactly where the rules admit each of its functions (rules, OrderChecker, field `passes`). So it is enough to
--- find a function by its number among those that are admitted.
+-- The order checker passes a program exactly where the rules admit each of its functions (rules,
+-- OrderChecker, field `passes`). So it is enough to find a function by its number among those that
+-- are admitted.
 use Prim.Native.Nat.{ℕ, zero, suc, _+_, _≤_}
 use mathlib.Core.List.{List, [], _∷_}
 use mathlib.Core.Option.{some, Option·some-injective, Option·none-ne-some}
@@ -25,7 +26,8 @@ pub passes-one : (program : Program) → Checked program → PassesOne program
 unfolding bothPasses
 passes-one program c = record { lawful = c .lawful; passes = then-inv (passOne program) _ tt (c .passes) .first }
 
--- A function's body, within the limit of words, and walked through from its one tree to none, its first node at some record.
+-- A function's body, within the limit of words, and walked through from its one tree to none, its
+-- first node at some record.
 pub record CheckedBody (gs : List Signature) (f : Function) : Type 0 where
   pub few-words : wordsOf gs (f .parameters) (f .body) ≤ mostFrameWords
   pub at : ℕ

@@ -1,4 +1,5 @@
--- What the translator and the runner give: a law for each way that a call may go, and demand 3 about a call that comes to its run.
+-- What the translator and the runner give: a law for each way that a call may go, and demand 3
+-- about a call that comes to its run.
 use Prim.Native.Nat.{ℕ, _*_, _≤_}
 use mathlib.Core.Bool.{Bool, true, false, _&&_}
 use mathlib.Core.List.{List, [], _++_, append-nil, map}

@@ -1,4 +1,5 @@
--- What names stand for while code runs: numbers on words of the frame, trees still to come in the input.
+-- What names stand for while code runs: numbers on words of the frame, trees still to come in the
+-- input.
 use Prim.Native.Nat.{ℕ, suc, _+_, _≤_, _<_}
 use mathlib.Core.Bool.{Bool, true, false}
 use mathlib.Core.List.{List, [], _∷_}
@@ -71,8 +72,9 @@ on-first-words (i ∷ numbers) = picked (level-newest i (length numbers) numbers
 
 -- ---- the input
 
--- From place p on the input carries the tokens of these trees, in order, up to the position `end`. Where `Faulty` allows it, only up to a first fault: a tag
--- that is not there, a byte that is no tag, or a label that is not whole; what the trees are from there on is then of no matter.
+-- From place p on the input carries the tokens of these trees, in order, up to the position `end`.
+-- Where `Faulty` allows it, only up to a first fault: a tag that is not there, a byte that is no
+-- tag, or a label that is not whole; what the trees are from there on is then of no matter.
 pub data Carries (Faulty : Type 0) (s : List ℕ) (end : ℕ) : ℕ → List Tree → Type 0 where
   carried : Carries Faulty s end end []
   a-leaf :

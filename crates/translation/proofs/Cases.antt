@@ -1,5 +1,5 @@
--- Closed cases of a program's code and of its runs, proved by computation. Each row of a table is a program and its listing, or a call and what it
--- gives.
+-- Closed cases of a program's code and of its runs, proved by computation. Each row of a table is a
+-- program and its listing, or a call and what it gives.
 use Prim.Native.Nat.{ℕ}
 use mathlib.Core.List.{List, [], _∷_, map}
 use mathlib.Core.Path.{_≡_, refl}
@@ -63,7 +63,8 @@ let-tree = growing (letIn (const 7) (leafOf (var 1)))
 under-temporary : Program
 under-temporary = programOf (numbered (add (const 1) (letIn (const 2) (caseOf 0 (add (var 0) (var 1)) (add (on 0 1) (on 0 2))))) ∷ [])
 
--- Function 0 calls function 1 with two numbers; the Let in the second stands above the word of the first. Function 2 is Sum.
+-- Function 0 calls function 1 with two numbers; the Let in the second stands above the word of the
+-- first. Function 2 is Sum.
 three-functions : Program
 three-functions =
     programOf
@@ -72,8 +73,8 @@ three-functions =
     ∷ numbered (caseOf 0 (var 0) (add (on 2 1) (on 2 2)))
     ∷ [])
 
--- Names bound by a Let in each part that begins with words of its own count: both parts of an IfZero, Leaf's, Node's, Case's node part (two Lets), and
--- the body of a function with a number.
+-- Names bound by a Let in each part that begins with words of its own count: both parts of an
+-- IfZero, Leaf's, Node's, Case's node part (two Lets), and the body of a function with a number.
 names-in-parts : Program
 names-in-parts =
     programOf
@@ -90,7 +91,8 @@ names-in-parts =
     }
     ∷ [])
 
--- What an optimiser would leave out: a test of a constant, a Let of a name, a function that is written twice, one that is never called.
+-- What an optimiser would leave out: a test of a constant, a Let of a name, a function that is
+-- written twice, one that is never called.
 doubled : Function
 doubled = numbered (caseOf 0 (letIn (var 0) (add (var 0) (var 1))) (add (on 1 1) (on 2 2)))
 
@@ -187,8 +189,8 @@ row runs on fuel space gives = record { runs = runs; on = on; fuel = fuel; space
 ranOn : Row → Ran
 ranOn r = streamRun (codeOf (r .runs)) (tokens (r .on)) (blank (r .space)) (r .fuel) valueWords returnWords
 
--- The same programs; both parts of IfZero and of Case are taken, where a number is expected and where a tree is. Where a run ends, it has just
--- enough fuel.
+-- The same programs; both parts of IfZero and of Case are taken, where a number is expected and
+-- where a tree is. Where a run ends, it has just enough fuel.
 runs : List Row
 runs =
     row grow two-leaves 25 12 (ended-with 25 11 0 (2 ∷ 1 ∷ 6 ∷ 0 ∷ 0 ∷ 0 ∷ 1 ∷ 8 ∷ 0 ∷ 0 ∷ 0 ∷ []) (blank 1))
@@ -220,7 +222,8 @@ as-reported = refl
 
 -- ---- units
 
--- Grow on a leaf 5, by hand: Case, Leaf, Add, Var and Const. Its units are those of the run, in the table above.
+-- Grow on a leaf 5, by hand: Case, Leaf, Add, Var and Const. Its units are those of the run, in the
+-- table above.
 grow-on-leaf : Ends grow (leaf 5) 1 5 (tree (leaf 6))
 unfolding grow nth atLevel branch inBranch sum32
 grow-on-leaf = record { first = _; is-first = refl; takes = CaseOn refl (LeafOf (Plus (Named refl) Literal)) }

@@ -1,5 +1,6 @@
--- Calls of the stream run with a checked program's code: the code may have anything after it in its buffer, and the work space is lent. On an input that
--- carries a tree, the course of the run is known (WholeRuns), and with it what the call answers.
+-- Calls of the stream run with a checked program's code: the code may have anything after it in its
+-- buffer, and the work space is lent. On an input that carries a tree, the course of the run is
+-- known (WholeRuns), and with it what the call answers.
 use Prim.Native.Nat.{ℕ, zero-le}
 use mathlib.Core.List.{List, [], _∷_, _++_}
 use mathlib.Core.Logic.{_≢_}
@@ -30,7 +31,8 @@ use Rattle.translation.proofs.Goes.{InputFault}
 use Rattle.translation.proofs.Evaluated.{Runnable}
 use Rattle.translation.proofs.WholeRuns.{Known, ends-so, sticks-so, faults-so, known}
 
--- Why a run of such code stops. It has ended; its fuel, the space or the calls are used up; or it has come to a fault of the input, if there can be one.
+-- Why a run of such code stops. It has ended; its fuel, the space or the calls are used up; or it
+-- has come to a fault of the input, if there can be one.
 pub data StopsFor (Faulty : Type 0) : Stop → Type 0 where
   it-ended : {number : ℕ} → StopsFor Faulty (ended number)
   no-fuel : StopsFor Faulty (refused fuelUsedUp)

@@ -1,6 +1,8 @@
--- Where functions' code stands: each function's body from its entry on, then its return. Different functions begin at different addresses.
+-- Where functions' code stands: each function's body from its entry on, then its return. Different
+-- functions begin at different addresses.
 --
--- By recursion over the functions: the first one's code ends where the next one's begins, since the code of its body ends where `codeEnd` says.
+-- By recursion over the functions: the first one's code ends where the next one's begins, since the
+-- code of its body ends where `codeEnd` says.
 use Prim.Native.Nat.{ℕ, zero, suc, _≤_}
 use mathlib.Core.List.{List, [], _∷_, _++_, append-assoc}
 use mathlib.Core.Option.{some, Option·some-injective, Option·none-ne-some}
@@ -42,7 +44,8 @@ module _ (Has : ℕ → Operation → Type 0) (entries : ℕ → ℕ) where
 abbrev pub Holds : Program → ℕ → Operation → Type 0
 Holds program a op = nth (operationsOf program) a ≡ some op
 
--- where each instruction of a program stands at its address, each of its functions stands at its entry
+-- where each instruction of a program stands at its address, each of its functions stands at its
+-- entry
 pub code-stands : (Has : ℕ → Operation → Type 0) (program : Program) → ((a : ℕ) (op : Operation) → Holds program a op → Has a op)
     → (b : ℕ) (f : Function) → nth (program .functions) b ≡ some f → FunctionStands Has (entryOf program) (entryOf program b) f
 unfolding operationsOf entryOf

@@ -1,7 +1,9 @@
--- Expressions with their code: which instructions stand where, from one address to another, for an expression with a value of a sort.
+-- Expressions with their code: which instructions stand where, from one address to another, for an
+-- expression with a value of a sort.
 --
--- A body of which pass one finds no name unbound and no type wrong has a value of its function's sort, part by part; and its code is emitted by the
--- templates, part after part. Both are read off together, by recursion on the expression.
+-- A body of which pass one finds no name unbound and no type wrong has a value of its function's
+-- sort, part by part; and its code is emitted by the templates, part after part. Both are read off
+-- together, by recursion on the expression.
 use Prim.Native.Nat.{ℕ, zero, suc, _+_}
 use mathlib.Core.Bool.{true, false≢true}
 use mathlib.Core.List.{List, [], _∷_}
@@ -26,7 +28,8 @@ use Rattle.translation.proofs.CodeStands.{Holds, code-stands}
 
 -- ---- code in its position
 
--- `Coded program s e a b`: the expression e has a value of sort s, and its code stands from address a to the one before b.
+-- `Coded program s e a b`: the expression e has a value of sort s, and its code stands from address
+-- a to the one before b.
 mutual
   pub data Coded (program : Program) : Sort → Expr → (a b : ℕ) → Type 0 where
     coded-const : {i a : ℕ} → Holds program a (Push i) → Coded program numberValued (const i) a (suc a)
@@ -95,7 +98,8 @@ fits-sort u s e = sort-by-type s u (fits-is u (resultType s) e)
 -- ---- from sound records, with code by the templates
 
 module _ (program : Program) where
-  -- The records of an expression, and of a Call's arguments from part i on, have their names bound and their types right.
+  -- The records of an expression, and of a Call's arguments from part i on, have their names bound
+  -- and their types right.
   abbrev pub SoundIn : Scope → ℕ → Expr → Type 0
   SoundIn sc r e = Every (Sound (signatures program)) (entered sc r e)
 
@@ -200,7 +204,8 @@ module _ (program : Program) where
     pub body : Coded program (f .sort) (f .body) (entryOf program b) end
     pub return : Holds program end (Return (wordsKept (f .sort)))
 
-  -- The records of a function's body, from some record on, have their names bound and their types right.
+  -- The records of a function's body, from some record on, have their names bound and their types
+  -- right.
   record SoundBody (f : Function) : Type 0 where
     first : ℕ
     sound : SoundIn (startOf f) first (f .body)

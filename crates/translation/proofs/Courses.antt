@@ -1,6 +1,7 @@
--- Runs whose course is known. Where steps lead, with space enough, from s to a state that goes no further, a run from s with any space and fuel goes
--- the same way: up to that state, or until its fuel is used up, or until the output is full. By induction along the steps: each is made with the space
--- given too, or refused because what it writes does not fit (`narrowed`).
+-- Runs whose course is known. Where steps lead, with space enough, from s to a state that goes no
+-- further, a run from s with any space and fuel goes the same way: up to that state, or until its
+-- fuel is used up, or until the output is full. By induction along the steps: each is made with the
+-- space given too, or refused because what it writes does not fit (`narrowed`).
 use Prim.Native.Nat.{ℕ, zero, suc, _+_, _≤_, _<_, zero-le}
 use mathlib.Core.List.{List, _∷_}
 use mathlib.Core.Path.{_≡_, refl, ap}
@@ -16,8 +17,8 @@ use Rattle.translation.proofs.Paths.{withSpace, Path, no-step, join}
 use Rattle.translation.proofs.Wider.{step-fits, goes-too, full, narrowed}
 use Rattle.translation.proofs.Meets.{steps-grow}
 
--- The machine goes no further: the first frame returns, or the instruction is refused. The step, why the run stops, and the units that this last
--- instruction counts.
+-- The machine goes no further: the first frame returns, or the instruction is refused. The step,
+-- why the run stops, and the units that this last instruction counts.
 pub data Final : Step → Stop → ℕ → Type 0 where
   returns : {number : ℕ} → Final (ends number) (ended number) 1
   refused-there : {why : ℕ} → Final (refuses why) (refused why) 0
@@ -48,8 +49,8 @@ pub record WholeWay (last : State) (units counts : ℕ) (why : Stop) (r : Run) :
   pub spent : unitsOf r ≡ units + counts
   pub is-last : r .last ≡ last
 
--- What a run with this space and fuel comes to, where its course leads to `last` in so many units, and stops there for this reason: its fuel or the
--- output ends before, or it goes the whole way.
+-- What a run with this space and fuel comes to, where its course leads to `last` in so many units,
+-- and stops there for this reason: its fuel or the output ends before, or it goes the whole way.
 pub data CameTo (last : State) (units counts : ℕ) (why : Stop) (space fuel : ℕ) (r : Run) : Type 0 where
   out-of-fuel : r .stop ≡ refused fuelUsedUp → unitsOf r ≡ fuel → fuel ≤ units → CameTo last units counts why space fuel r
   out-of-space : r .stop ≡ refused outputFull → space < length (last .output) → CameTo last units counts why space fuel r
@@ -96,7 +97,8 @@ grown-length : {s t : State} → Grows s t → length (s .output) ≤ length (t 
 grown-length {s} {t} g = omega (arith, ap length (g .writes .joined), length-append (s .output) (g .writes .rest))
 
 module _ (m : Setting) (space : ℕ) {final : Step} {why : Stop} {counts : ℕ} (f : Final final why counts) where
-  -- Where what has been written still fits, a run from s with any fuel comes to `last`, and stops there if that can be.
+  -- Where what has been written still fits, a run from s with any fuel comes to `last`, and stops
+  -- there if that can be.
   abbrev Leading : List ℕ → State → State → Type 0
   Leading past s last =
       (fuel : ℕ)

@@ -1,8 +1,10 @@
 -- Demand 3: the proof of specs/Demand3.antt.
 --
--- The run on a tree's own tokens has a known course (WholeRuns), so it ends, or is refused with 14, 17 or 18: it looks at no byte that it has not read.
--- What stands after the tree is then of no matter (StreamRun, `same-input`), and no more is read than the tree's tokens. What is written is compared
--- with the run of a wider machine, on which the evaluation's calls can all be open: its steps go on from those of the narrow one.
+-- The run on a tree's own tokens has a known course (WholeRuns), so it ends, or is refused with 14,
+-- 17 or 18: it looks at no byte that it has not read. What stands after the tree is then of no
+-- matter (StreamRun, `same-input`), and no more is read than the tree's tokens. What is written is
+-- compared with the run of a wider machine, on which the evaluation's calls can all be open: its
+-- steps go on from those of the narrow one.
 use Prim.Native.Nat.{ℕ, suc, _+_, _*_, _≤_, _<_}
 use mathlib.Core.List.{List, [], _++_}
 use mathlib.Core.Logic.{_≢_}
@@ -205,7 +207,8 @@ module _ (given : Given) (t : Tree) (labelled : Labelled t) where
         same-number = ap (λ (r : Ran). r .answer .number) so ∙ ap numberReported (a .stops);
       }
 
-  -- with fuel for one more than its units, and space for its result, the run is whole, and has spent them
+  -- with fuel for one more than its units, and space for its result, the run is whole, and has
+  -- spent them
   pub whole-run :
       (n : ℕ) (v : Value) (evaluated : Ends program t mostCalls n v) (rest output : List ℕ) (fuel : ℕ)
       → unitsIn (evaluated .takes) < fuel

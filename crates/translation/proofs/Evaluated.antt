@@ -1,7 +1,9 @@
--- The code of a program keeps up with its evaluation: calls do, by recursion on the calls that may still be opened, and so does the whole.
+-- The code of a program keeps up with its evaluation: calls do, by recursion on the calls that may
+-- still be opened, and so does the whole.
 --
--- Where none may be opened, a call stops the evaluation, and the call instruction is refused with 18. Else the call opens the function's code, whose body
--- keeps up where the calls in it do, and its return leaves the value with the caller.
+-- Where none may be opened, a call stops the evaluation, and the call instruction is refused with
+-- 18. Else the call opens the function's code, whose body keeps up where the calls in it do, and
+-- its return leaves the value with the caller.
 use Prim.Native.Nat.{ℕ, zero, suc, _*_, _≤_}
 use mathlib.Core.List.{List, [], _∷_}
 use mathlib.Core.Option.{Option, some}

@@ -1,5 +1,6 @@
--- How code keeps up with an outcome of the evaluation: where the outcome gives a value, the code comes, in so many units, to the state that has it; where
--- it stops at a call too many, the code is refused there; or the input has a fault, and the code is refused at it.
+-- How code keeps up with an outcome of the evaluation: where the outcome gives a value, the code
+-- comes, in so many units, to the state that has it; where it stops at a call too many, the code is
+-- refused there; or the input has a fault, and the code is refused at it.
 use Prim.Native.Nat.{ℕ, suc, _+_}
 use Rattle.formats.specs.Refusals.{inputEnded, notATag, tooManyCalls}
 use Rattle.meaning.specs.Performing.{Setting, State}
@@ -14,8 +15,9 @@ pub data InputFault : ℕ → Type 0 where
   input-ended : InputFault inputEnded
   not-a-tag : InputFault notATag
 
--- From state s the code keeps up with an outcome. `finish` is the state to come to, given the value and the bytes then read; `Post` is what holds then,
--- given the expressions begun, the value, the units spent and the bytes read.
+-- From state s the code keeps up with an outcome. `finish` is the state to come to, given the value
+-- and the bytes then read; `Post` is what holds then, given the expressions begun, the value, the
+-- units spent and the bytes read.
 module _ (Faulty : Type 0) (m : Setting) where
   pub data Goes (s : State) {X A : Type 0} (form : X → A) (finish : X → ℕ → State) (Post : (n : ℕ) → X → (units read : ℕ) → Type 0) : Outcome A → Type 0
     where

@@ -1,4 +1,5 @@
--- What pass two says of the pending trees: a tree that is taken stands at the head, two branches end with one list, and what is left is an end of the list.
+-- What pass two says of the pending trees: a tree that is taken stands at the head, two branches
+-- end with one list, and what is left is an end of the list.
 use Prim.Native.Nat.{ℕ, suc, _+_}
 use mathlib.Core.List.{List, [], _∷_}
 use mathlib.Core.Path.{_≡_, refl, ap, _∙_}
@@ -34,7 +35,8 @@ both-branches r one other Δ e =
     let same = same-names (first .value) (second .value) (c .held) in
     (first .first ∙ ap done (same ∙ c .same), second .first ∙ ap done (c .same))
 
--- What a Case that passes says: its tree stands at the head, and both branches end with the same list.
+-- What a Case that passes says: its tree stands at the head, and both branches end with the same
+-- list.
 pub record CaseInOrder (n r a : ℕ) (Δ Δ′ : List ℕ) (p q : Expr) : Type 0 where
   pub rest : List ℕ
   pub at-head : Δ ≡ a ∷ rest

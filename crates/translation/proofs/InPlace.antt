@@ -1,4 +1,5 @@
--- Each function's instructions are the part of the program's that begins at its entry: by recursion over the functions.
+-- Each function's instructions are the part of the program's that begins at its entry: by recursion
+-- over the functions.
 use Prim.Native.Nat.{ℕ, zero, suc, _+_}
 use mathlib.Core.List.{List, [], _∷_, _++_, append-assoc}
 use mathlib.Core.Option.{some, Option·some-injective, Option·none-ne-some}

@@ -1,7 +1,9 @@
--- The code of a program lies where its entries say: among its bytes, with whatever bytes after them, each function's code stands from its entry on.
+-- The code of a program lies where its entries say: among its bytes, with whatever bytes after
+-- them, each function's code stands from its entry on.
 --
--- An instruction has eight bytes, at eight times its address; they are read as the instruction because its fields fit (Operands). Bytes after do not
--- change what is read. So each instruction stands at its address, and each function at its entry (CodeStands).
+-- An instruction has eight bytes, at eight times its address; they are read as the instruction
+-- because its fields fit (Operands). Bytes after do not change what is read. So each instruction
+-- stands at its address, and each function at its entry (CodeStands).
 use Prim.Native.Nat.{ℕ, _+_, _*_, _≤_, _<_}
 use mathlib.Core.List.{List, [], _∷_, _++_, map}
 use mathlib.Core.Option.{some, Option·none-ne-some}

@@ -1,5 +1,6 @@
--- Steps from one state on are one row: each state has at most one next one. So a state that the row comes to leads on to every state at which the row
--- ends, and what has been read and written by then only grows.
+-- Steps from one state on are one row: each state has at most one next one. So a state that the row
+-- comes to leads on to every state at which the row ends, and what has been read and written by
+-- then only grows.
 use Prim.Native.Nat.{ℕ, _+_, zero-le}
 use mathlib.Core.List.{List}
 use mathlib.Core.Path.{_≡_, subst}

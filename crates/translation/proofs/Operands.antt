@@ -1,9 +1,11 @@
 -- How many instructions a program's code has, and that each field of each of them fits its bytes.
 --
--- The code of an expression has at least one instruction, and at most four for each of its records; a function has one more, its return. So the code
--- of a lawful program has at most 4 × 1,024 + 32 instructions, and each address in it is at most that number. A word above the base is an argument,
--- or an instruction emitted before has put it there: so at address a at most a + 4 words stand, and each name's word is below 2^16. The number of a
--- Const fits by the limits of "Program file", and so does the count of a Call's arguments. Neither pass is needed for any of this.
+-- The code of an expression has at least one instruction, and at most four for each of its records;
+-- a function has one more, its return. So the code of a lawful program has at most 4 × 1,024 + 32
+-- instructions, and each address in it is at most that number. A word above the base is an
+-- argument, or an instruction emitted before has put it there: so at address a at most a + 4 words
+-- stand, and each name's word is below 2^16. The number of a Const fits by the limits of "Program
+-- file", and so does the count of a Call's arguments. Neither pass is needed for any of this.
 use Prim.Native.Nat.{ℕ, zero, suc, _+_, _*_, _^_, _≤_, _<_}
 use mathlib.Core.List.{List, [], _∷_, _++_, map}
 use mathlib.Core.Option.{Option, none, some}
@@ -160,7 +162,8 @@ module _
     (within : (b : ℕ) → entries b ≤ mostInstructions)
     (few : (b : ℕ) → arityOf gs b ≤ mostArguments)
   where
-    -- the code of an expression that ends within the limit, where no more words stand than its address allows
+    -- the code of an expression that ends within the limit, where no more words stand than its
+    -- address allows
     mutual
       unfolding code codeArgs codeEnd argsEnd prefix prefixes instructionOf
 

@@ -1,4 +1,5 @@
--- Steps that the output's length does not stop: they are the same with every space that holds what has been written at their end.
+-- Steps that the output's length does not stop: they are the same with every space that holds what
+-- has been written at their end.
 use Prim.Native.Nat.{ℕ, _+_, _≤_}
 use mathlib.Core.List.{List, [], _∷_, _++_}
 use mathlib.Core.Path.{_≡_, refl}

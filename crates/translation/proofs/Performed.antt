@@ -1,4 +1,5 @@
--- One instruction of the templates performed, opcode by opcode: from a state that holds what it needs, to the next. Each is a path of one unit.
+-- One instruction of the templates performed, opcode by opcode: from a state that holds what it
+-- needs, to the next. Each is a path of one unit.
 use Prim.Native.Nat.{ℕ, zero, suc, _+_, _≤_, _<_}
 use mathlib.Core.List.{List, [], _∷_, _++_}
 use mathlib.Core.Option.{some}

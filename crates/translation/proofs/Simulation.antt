@@ -1,9 +1,10 @@
 -- The code of an expression keeps up with its evaluation.
 --
--- From a state at the code's first instruction whose frame holds the named numbers, each on its word, and whose input carries the pending trees, the code
--- comes to the state after it with the value: a number on top of the frame, a tree's tokens after the output. It has then read the tokens of the trees
--- that the expression took, and performed the units of the expressions begun. Kind by kind, with one lemma for each; the calls in an expression are
--- assumed to keep up.
+-- From a state at the code's first instruction whose frame holds the named numbers, each on its
+-- word, and whose input carries the pending trees, the code comes to the state after it with the
+-- value: a number on top of the frame, a tree's tokens after the output. It has then read the
+-- tokens of the trees that the expression took, and performed the units of the expressions begun.
+-- Kind by kind, with one lemma for each; the calls in an expression are assumed to keep up.
 use Prim.Native.Nat.{ℕ, zero, suc, _+_, _*_, _≤_, _<_}
 use mathlib.Core.List.{List, [], _∷_, _++_, append-assoc}
 use mathlib.Core.Option.{some}
@@ -83,7 +84,8 @@ module _ (Faulty : Type 0) (m : Setting) (program : Program) (end : ℕ) (wide :
     pub few : wordsBelow callers ≤ 16 * length callers
     pub allowed : suc (length callers) + k ≡ m .mostOpen
 
-  -- Of these named trees the ones with the names Δ are pending: the input carries them from here on, and after them those that the callers have pending.
+  -- Of these named trees the ones with the names Δ are pending: the input carries them from here
+  -- on, and after them those that the callers have pending.
   pub record Left (trees : List Tree) (Δ : List ℕ) (beyond : List Tree) (read : ℕ) : Type 0 where
     pub pending : List Tree
     pub named : Picks trees Δ pending
@@ -96,7 +98,8 @@ module _ (Faulty : Type 0) (m : Setting) (program : Program) (end : ℕ) (wide :
       on-names : (ts : List Tree) → Picks trees [] ts → Carries Faulty (m .input) end read (ts ++ beyond) → Carries Faulty (m .input) end read beyond
       on-names ts none-picked carries = carries
 
-  -- The state before an expression: g number names on their words, w words in the frame, n tree names, some of them pending.
+  -- The state before an expression: g number names on their words, w words in the frame, n tree
+  -- names, some of them pending.
   pub record Before (g n : ℕ) (E : Environment) (words : Words) (w : ℕ) (Δ : List ℕ) (beyond : List Tree) (s : State) : Type 0 where
     pub numbers : length (E .numbers) ≡ g
     pub trees : length (E .trees) ≡ n
@@ -105,7 +108,8 @@ module _ (Faulty : Type 0) (m : Setting) (program : Program) (end : ℕ) (wide :
     pub left : Left (E .trees) Δ beyond (s .read)
     pub under : Under (s .callers)
 
-  -- What is known after it: a derivation of its value, with its expressions begun and its units; and what is carried on.
+  -- What is known after it: a derivation of its value, with its expressions begun and its units;
+  -- and what is carried on.
   pub record After (E : Environment) (sort : Sort) (e : Expr) (Δ : List ℕ) (beyond : List Tree) (n : ℕ) (x : ValuesOf sort) (units read : ℕ) : Type 0
     where
       pub begun : ℕ
@@ -141,8 +145,8 @@ module _ (Faulty : Type 0) (m : Setting) (program : Program) (end : ℕ) (wide :
     pub counts : 2 + unitsIn derivation ≡ units
     pub carries : Carries Faulty (m .input) end read beyond
 
-  -- What is to be shown of an expression of a sort under so many names, of arguments, and of calls. (r and q are record numbers, of pass two and of the
-  -- evaluation.)
+  -- What is to be shown of an expression of a sort under so many names, of arguments, and of calls.
+  -- (r and q are record numbers, of pass two and of the evaluation.)
   abbrev pub Sim : (g n : ℕ) (sort : Sort) (e : Expr) → Type 0
   Sim g n sort e =
       (E : Environment) (words : Words) (w r : ℕ) (Δ Δ′ : List ℕ) (beyond : List Tree) (s : State)
@@ -391,7 +395,8 @@ module _ (Faulty : Type 0) (m : Setting) (program : Program) (end : ℕ) (wide :
       let same = picks-one (left .named) (picks-kept u (picks-kept l named)) in
       record { pending = ts; named = named; carries = rw same at (left .carries) }
 
-  -- by the tag of the tree that the input carries first: a label is named by its word; a node's parts are named and pending
+  -- by the tag of the tree that the input carries first: a label is named by its word; a node's
+  -- parts are named and pending
   sim-case : {g n : ℕ} {sort : Sort} (a : ℕ) (p q : Expr) → Sim (suc g) n sort p → Sim g (suc (suc n)) sort q → Sim g n sort (caseOf a p q)
   unfolding code codeEnd wordsOf evaluate treeOr branch inBranch counted caseUnits
   sim-case {g} {n} {sort} a p q sim-p sim-q E words w r Δ Δ′ beyond s b walked few emitted at-record =

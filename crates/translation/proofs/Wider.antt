@@ -1,5 +1,6 @@
--- Wider limits. Under smaller limits an instruction does what it does under larger ones, or is refused because words, calls or space are too few
--- (`Widened`). That is shown once, by cases over the operation: each line is made of tests that both settings make alike, and at most one test
+-- Wider limits. Under smaller limits an instruction does what it does under larger ones, or is
+-- refused because words, calls or space are too few (`Widened`). That is shown once, by cases over
+-- the operation: each line is made of tests that both settings make alike, and at most one test
 -- against a limit. What steps do under other limits is read off it.
 use Prim.Native.Nat.{ℕ, suc, _+_, _≤_, _<_}
 use mathlib.Core.Bool.{Bool, true, false}
@@ -43,7 +44,8 @@ Fits m s (goes t) = length (s .output) ≤ m .space → length (t .output) ≤ m
 Fits m s (ends number) = Unit {0}
 Fits m s (refuses number) = Unit {0}
 
--- The outcome of an instruction under the limits of m, and under those of M: the same, or m has fewer words, fewer calls, or too little space.
+-- The outcome of an instruction under the limits of m, and under those of M: the same, or m has
+-- fewer words, fewer calls, or too little space.
 data Widened (m M : Setting) (s : State) : Step → Step → Type 0 where
   same : {r : Step} → Fits m s r → Widened m M s r r
   few-words : {q : Step} → m .mostWords < M .mostWords → Widened m M s (refuses cannotPerform) q

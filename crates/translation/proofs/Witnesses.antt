@@ -1,5 +1,6 @@
--- Witnesses for demand 3: a checked program and a tree for each way that an evaluation may go. It ends within 1,024 open calls, with a tree or with a
--- number; it ends, but with more calls open; it is endless. So none of what is stated of checked programs (Demand3) is empty. And a program that
+-- Witnesses for demand 3: a checked program and a tree for each way that an evaluation may go. It
+-- ends within 1,024 open calls, with a tree or with a number; it ends, but with more calls open; it
+-- is endless. So none of what is stated of checked programs (Demand3) is empty. And a program that
 -- pass one refuses with 10 alone: its code has a word count above 16 (CodeLimits).
 use Prim.Native.Nat.{ℕ, zero, suc, _+_, _*_, _^_, _≤_, _<_}
 use mathlib.Core.List.{List, [], _∷_}
@@ -86,7 +87,8 @@ ends-with-number = record {
 
 -- ---- with more than 1,024 open
 
--- Function 0 calls function 1 with 1,100. Function 1 calls itself with one less, until 0 is left; then a leaf gives its label.
+-- Function 0 calls function 1 with 1,100. Function 1 calls itself with one less, until 0 is left;
+-- then a leaf gives its label.
 unfoldable countdown : Program
 countdown =
     programOf

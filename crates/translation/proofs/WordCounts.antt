@@ -1,8 +1,11 @@
--- For a program with no 9 and no 8, pass one says 10 exactly where some word count in its code exceeds 16.
+-- For a program with no 9 and no 8, pass one says 10 exactly where some word count in its code
+-- exceeds 16.
 --
--- Both say that some function's body takes more than 16 words (`wordsOf`). Pass one: where a body takes no more, each of its tests of words holds
--- (`passes`); and a body that passes takes no more (`few-words`, in the crate rules). The code: a body that takes more reaches such a count
--- (`most-reached`), and where every body takes no more, no count on any way from any entry exceeds 16 (`all-safe`).
+-- Both say that some function's body takes more than 16 words (`wordsOf`). Pass one: where a body
+-- takes no more, each of its tests of words holds (`passes`); and a body that passes takes no more
+-- (`few-words`, in the crate rules). The code: a body that takes more reaches such a count
+-- (`most-reached`), and where every body takes no more, no count on any way from any entry exceeds
+-- 16 (`all-safe`).
 use Prim.Native.Nat.{ℕ, zero, suc, _+_, _≤_, _<_, max}
 use mathlib.Core.Bool.{Bool, true, false, false≢true}
 use mathlib.Core.List.{List, [], _∷_}
@@ -65,7 +68,8 @@ module _ (program : Program) where
   none-tested : (w : ℕ) → false ≡ true → w < mostFrameWords
   none-tested w t = absurd (false≢true t)
 
-  -- words are tested at a Call of a number-valued function with no arguments: its value needs one more
+  -- words are tested at a Call of a number-valued function with no arguments: its value needs one
+  -- more
   call-tested : (w v b : ℕ) (f : Function) → nth (program .functions) b ≡ some f → wordsWithValue (f .sort) w ≤ mostFrameWords
       → wordsTested gs (Call v b) ≡ true
       → w < mostFrameWords

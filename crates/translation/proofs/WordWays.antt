@@ -1,11 +1,13 @@
--- Word counts along the code of an expression. `wordsOf` is the most words that stand while the expression is taken; in its code:
+-- Word counts along the code of an expression. `wordsOf` is the most words that stand while the
+-- expression is taken; in its code:
 --
 -- - a way leads through it, and leaves the word of a number (`finished`), so a count of `wordsOf` or more is reached (`most-reached`);
 -- - where `wordsOf` is at most 16, and so is every count on the ways from the address after it, every count on the ways from its first address is
 --   (`all-safe`).
 --
--- Both by induction on the expression's parts with their code. A jump leads after what it stands in, and a call to the address after it, so a way
--- through the code is made of ways through its parts.
+-- Both by induction on the expression's parts with their code. A jump leads after what it stands
+-- in, and a call to the address after it, so a way through the code is made of ways through its
+-- parts.
 use Prim.Native.Nat.{ℕ, suc, pred, _+_, _≤_, max}
 use mathlib.Core.Option.{some, Option·some-injective}
 use mathlib.Core.Path.{_≡_, refl, sym, _∙_}
@@ -47,7 +49,8 @@ module _ (program : Program) where
   call-leads n k a w f known =
       rw (← kept-value (f .sort) w) (by-call w (record { index = k; function = f; known = known; begins = refl; kept = refl }))
 
-  -- from the code's first address a way leads after it, with the value's word; after arguments, with a word for each
+  -- from the code's first address a way leads after it, with the value's word; after arguments,
+  -- with a word for each
   finished : {s : Sort} {e : Expr} {a b : ℕ} → Coded program s e a b → (w : ℕ) → WordsStand program a w → WordsStand program b (wordsWithValue s w)
   unfolding wordsWithValue countArgs
   finished d = elim d
@@ -194,7 +197,8 @@ module _ (program : Program) where
   abbrev SafeIfFew : (a w : ℕ) → Type 0
   SafeIfFew a w = w ≤ mostFrameWords → Safe a w
 
-  -- where the most words are few, and it is safe after the code, it is safe from its first address on
+  -- where the most words are few, and it is safe after the code, it is safe from its first address
+  -- on
   pub all-safe :
       {s : Sort} {e : Expr} {a b : ℕ}
       → Coded program s e a b

@@ -42,7 +42,8 @@ infix 70 Call_on_
 Call_on_ : ℕ → ℕ → Kind
 Call b on a = CallOf a b
 
--- The records of a program of one function, with its result and its nodes: the header, the function record, the nodes.
+-- The records of a program of one function, with its result and its nodes: the header, the function
+-- record, the nodes.
 one-function : Sort → List Kind → List Record
 one-function sort ks =
     headerRecord (record { edition = 1; functions = 1; nodes = length ks })
@@ -71,15 +72,16 @@ T = 2 ∷ 1 ∷ 5 ∷ 0 ∷ 0 ∷ 0 ∷ 1 ∷ 7 ∷ 0 ∷ 0 ∷ 0 ∷ []
 
 -- ---- calls
 
--- What is asked of a file: its listing as it is printed; its code, in a code buffer; its run on an input, with an output, a code buffer, fuel, value words and return
--- words; its source run.
+-- What is asked of a file: its listing as it is printed; its code, in a code buffer; its run on an
+-- input, with an output, a code buffer, fuel, value words and return words; its source run.
 data Asked : Type 0 where
   list : Asked
   translate : (code : List ℕ) → Asked
   runOn : (input output code : List ℕ) (fuel values returns : ℕ) → Asked
   sourceOn : (input output : List ℕ) (fuel : ℕ) → Asked
 
--- What is given, whole: every byte of the listing; the code or the refusal, and the code buffer; the answer, the output and the code buffer; the answer and the output.
+-- What is given, whole: every byte of the listing; the code or the refusal, and the code buffer;
+-- the answer, the output and the code buffer; the answer and the output.
 data Gives : Type 0 where
   aListing : List ℕ → Gives
   aCode : Result (List ℕ) → List ℕ → Gives
@@ -102,8 +104,8 @@ printed (l ∷ ls) = ascii l ++ (newline ∷ printed ls)
 nines : ℕ → List ℕ
 nines n = replicate n 9
 
--- All that a run answers: outcome (a refusal with its number and place), units, bytes read, bytes written, number. Then every byte of the output and of
--- the code buffer.
+-- All that a run answers: outcome (a refusal with its number and place), units, bytes read, bytes
+-- written, number. Then every byte of the output and of the code buffer.
 answers : Result (Unit {0}) → (units read wrote number : ℕ) (output code : List ℕ) → Gives
 answers outcome units read wrote number output code =
     aRun
@@ -113,7 +115,8 @@ answers outcome units read wrote number output code =
       code = code;
     })
 
--- All that a source run answers: outcome, expressions begun, bytes written, number. Then every byte of the output.
+-- All that a source run answers: outcome, expressions begun, bytes written, number. Then every byte
+-- of the output.
 source-answers : Result (Unit {0}) → (begun wrote number : ℕ) (output : List ℕ) → Gives
 source-answers outcome begun wrote number output =
     aSourceRun (record { answer = record { outcome = outcome; begun = begun; bytesWritten = wrote; number = number }; output = output })
@@ -252,12 +255,14 @@ not-bound = one-function treeValued (Case 0 ∷ Leaf ∷ Var 0 ∷ Node ∷ Call
 one-too-many : List Record
 one-too-many = one-function treeValued (Case 0 ∷ Leaf ∷ Var 0 ∷ Node ∷ Call 0 on 2 ∷ Call 0 on 3 ∷ Const 1 ∷ [])
 
--- A run of a file, with so much fuel, so many bytes of code buffer, value words and return words, and 12 bytes of output.
+-- A run of a file, with so much fuel, so many bytes of code buffer, value words and return words,
+-- and 12 bytes of output.
 running : (file input : List ℕ) (fuel room values returns : ℕ) → Gives → OnFile
 running file input fuel room values returns due =
     record { file = file; asked = runOn input (nines 12) (nines room) fuel values returns; due = due }
 
--- Refused before the run: 0 in every count, and both buffers, the code's of so many bytes, untouched.
+-- Refused before the run: 0 in every count, and both buffers, the code's of so many bytes,
+-- untouched.
 untouched : (why position room : ℕ) → Gives
 untouched why position room = answers (refusal why position) 0 0 0 0 (nines 12) (nines room)
 
@@ -269,8 +274,10 @@ translating file room due = record { file = file; asked = translate (nines room)
 listing-of : List ℕ → List String → OnFile
 listing-of file ls = record { file = file; asked = list; due = aListing (printed ls) }
 
--- The refusals in their order. Each row has all the faults of those below it: the file is a byte too short; prefix form; pass one; pass two; too short a
--- code buffer; too few value words; too few return words; no fuel; a byte that is no tag. Once nothing is too short, the code is in its buffer and stays.
+-- The refusals in their order. Each row has all the faults of those below it: the file is a byte
+-- too short; prefix form; pass one; pass two; too short a code buffer; too few value words; too few
+-- return words; no fuel; a byte that is no tag. Once nothing is too short, the code is in its
+-- buffer and stays.
 in-order : List OnFile
 in-order =
     running (take 511 (filed one-too-many)) (3 ∷ []) 0 3 16383 2047 (untouched 1 0 3)
@@ -298,7 +305,8 @@ lengths =
     ∷ running (filed grow) T 25 110 16385 2049 (grown 6)
     ∷ []
 
--- The translator's refusals in their order, and its code buffer too short, just long enough and longer.
+-- The translator's refusals in their order, and its code buffer too short, just long enough and
+-- longer.
 translations : List OnFile
 translations =
     translating (take 511 (filed one-too-many)) 3 (aCode (refusal 1 0) (nines 3))

@@ -1,5 +1,6 @@
--- What the translator and the runner give: from a program file to its code, and from a program file and token bytes to the run's answer. The runner is
--- checker, translator and stream run in one call.
+-- What the translator and the runner give: from a program file to its code, and from a program file
+-- and token bytes to the run's answer. The runner is checker, translator and stream run in one
+-- call.
 use Prim.Native.Nat.{ℕ, _≤_}
 use mathlib.Core.Bool.{_&&_}
 use mathlib.Core.List.{List}
@@ -38,7 +39,8 @@ pub record ProgramRan : Type 0 where
   pub output : List ℕ
   pub code : List ℕ
 
--- All that comes before the run, in this order: the rows of the file, both passes, then 13 for each lent buffer. The code.
+-- All that comes before the run, in this order: the rows of the file, both passes, then 13 for each
+-- lent buffer. The code.
 unfoldable pub prepared : (room values returns : ℕ) (file : List ℕ) → Result (List ℕ)
 prepared room values returns file =
     andThen (translateFile room file) (λ code. check (leb valueWords values && leb returnWords returns) spaceTooShort 0 code)
@@ -63,7 +65,8 @@ runFile file input output code fuel values returns =
       | refusal number position ↦ record { answer = refusedBefore number position; output = output; code = code }
     ]
 
--- A call that comes to its run: the file holds this program, both passes accept it, and every lent buffer is long enough.
+-- A call that comes to its run: the file holds this program, both passes accept it, and every lent
+-- buffer is long enough.
 pub record Ready (file code : List ℕ) (values returns : ℕ) (program : Program) : Type 0 where
   pub in-file : programIn file ≡ done program
   pub passes : bothPasses program ≡ done tt

@@ -28,9 +28,11 @@ pub record Leaves (program : Program) (entry words : ℕ) : Type 0 where
   pub begins : entryOf program index ≡ entry
   pub kept : wordsKept (function .sort) ≡ words
 
--- `MovesWords program op a w b v`: an instruction at address a, with w words above the base before it, leads to address b with v words. A test leads both
--- ways, as does a tag; a return leads to no other. A step of the machine within one frame leads so (`as-counted` below). A call's arguments leave the frame,
--- and its result is counted when it is back; the frame of the function that is called is counted from its own entry on.
+-- `MovesWords program op a w b v`: an instruction at address a, with w words above the base before
+-- it, leads to address b with v words. A test leads both ways, as does a tag; a return leads to no
+-- other. A step of the machine within one frame leads so (`as-counted` below). A call's arguments
+-- leave the frame, and its result is counted when it is back; the frame of the function that is
+-- called is counted from its own entry on.
 pub data MovesWords (program : Program) : Operation → (a w b v : ℕ) → Type 0 where
   by-push : {i a w : ℕ} → MovesWords program (Push i) a w (suc a) (suc w)
   by-get : {k a w : ℕ} → MovesWords program (Get k) a w (suc a) (suc w)
@@ -48,7 +50,8 @@ pub data MovesWords (program : Program) : Operation → (a w b v : ℕ) → Type
   by-read-number : {a w : ℕ} → MovesWords program ReadNumber a w (suc a) (suc w)
   by-call : {b n a k : ℕ} (w : ℕ) → Leaves program b k → MovesWords program (Call b n) a (n + w) (suc a) (k + w)
 
--- The word counts of a program's code: a function begins with its number parameters, and each instruction leads on.
+-- The word counts of a program's code: a function begins with its number parameters, and each
+-- instruction leads on.
 pub data WordsStand (program : Program) : ℕ → ℕ → Type 0 where
   at-entry : {f : Function} (b : ℕ) → nth (program .functions) b ≡ some f → WordsStand program (entryOf program b) (f .parameters)
   onward :
@@ -100,7 +103,8 @@ pub record CodeLimits (program : Program) : Type 0 where
       → operate m s op ≡ goes t
       → length (t .callers) ≡ length (s .callers)
       → MovesWords program op (s .address) (length (s .frame)) (t .address) (length (t .frame))
-  -- for a program with no 9 or 8, pass one says 10 exactly when some word count in its code exceeds 16 (at which record: rules, OrderChecker, `pass-one`)
+  -- for a program with no 9 or 8, pass one says 10 exactly when some word count in its code exceeds
+  -- 16 (at which record: rules, OrderChecker, `pass-one`)
   pub words :
       Every (Sound (signatures program)) (enteredAll (firstNode program) (program .functions))
       → RefusedFor10 program ↔ Exceeds program

@@ -1,4 +1,5 @@
--- Demand 3, sentence by sentence. The statement is `Demand3Holds`, at the end; `demand-3` in proofs/Demand3.antt is its proof.
+-- Demand 3, sentence by sentence. The statement is `Demand3Holds`, at the end; `demand-3` in
+-- proofs/Demand3.antt is its proof.
 --
 -- 01, The code and the evaluation: "Demand 3 runs the translator's code for a program both passes
 -- accept, work space lent; its 4n + 1 is meant where it fits 64 bits." Here fuel is any number.
@@ -48,13 +49,15 @@ pub record Given : Type 0 where
 abbrev pub runOn : Given → (input output : List ℕ) (fuel : ℕ) → Ran
 runOn given input output fuel = streamRun (codeOf (given .program) ++ given .after-code) input output fuel (given .values) (given .returns)
 
--- "When any checked program is run over the stream on any tree's tokens, with anything after them, any fuel and any output length:" `run` is the run of
--- the program's code on an input, with an output and a fuel.
+-- "When any checked program is run over the stream on any tree's tokens, with anything after them,
+-- any fuel and any output length:" `run` is the run of the program's code on an input, with an
+-- output and a fuel.
 pub record Demand3 (program : Program) (t : Tree) (run : (input output : List ℕ) (fuel : ℕ) → Ran) : Type 0 where
   -- "the bytes read are opening bytes of that tree, none or all included;"
   pub read-opening : (rest output : List ℕ) (fuel : ℕ) → Opens (readBy (run (tokens t ++ rest) output fuel) (tokens t ++ rest)) (tokens t)
   pub read-no-more : (rest output : List ℕ) (fuel : ℕ) → run (tokens t ++ rest) output fuel .answer .bytesRead ≤ length (tokens t)
-  -- "the bytes written are opening bytes of the source's result where it has one;" with however many calls open
+  -- "the bytes written are opening bytes of the source's result where it has one;" with however
+  -- many calls open
   pub written-opening :
       (rest output : List ℕ) (fuel o n : ℕ) (v : Value)
       → Ends program t o n v
@@ -70,8 +73,8 @@ pub record Demand3 (program : Program) (t : Tree) (run : (input output : List �
       ≡ untouchedBy (run (tokens t ++ rest) output fuel) output
   -- "and neither answers nor output depend on what stands after the tree."
   pub nothing-after : (rest rest′ output : List ℕ) (fuel : ℕ) → run (tokens t ++ rest) output fuel ≡ run (tokens t ++ rest′) output fuel
-  -- "If the source evaluation ends after n expressions with at most 1,024 calls open at once, every fuel from 4n + 1 up suffices, given output space for
-  -- the result:" the run is `Whole`.
+  -- "If the source evaluation ends after n expressions with at most 1,024 calls open at once, every
+  -- fuel from 4n + 1 up suffices, given output space for the result:" the run is `Whole`.
   pub suffices :
       (n : ℕ) (v : Value)
       → Ends program t mostCalls n v
@@ -79,7 +82,8 @@ pub record Demand3 (program : Program) (t : Tree) (run : (input output : List �
       → 4 * n + 1 ≤ fuel
       → length (resultBytes v) ≤ length output
       → Whole t v output (run (tokens t ++ rest) output fuel)
-  -- "For every other evaluation, endless ones included, no fuel suffices." Nor does any output space.
+  -- "For every other evaluation, endless ones included, no fuel suffices." Nor does any output
+  -- space.
   pub none-suffices :
       ((n : ℕ) (v : Value) → Ends program t mostCalls n v → ⊥)
       → (rest output : List ℕ) (fuel : ℕ)

@@ -1,4 +1,5 @@
--- What a run that ended gives: a whole result, what the program means, one whole tree for one whole tree.
+-- What a run that ended gives: a whole result, what the program means, one whole tree for one whole
+-- tree.
 use Prim.Native.Nat.{ℕ}
 use mathlib.Core.List.{List}
 use mathlib.Core.Path.{_≡_}
@@ -20,7 +21,8 @@ pub record Whole (t : Tree) (v : Value) (output : List ℕ) (ran : Ran) : Type 0
   pub whole-written : ran .answer .bytesWritten ≡ length (resultBytes v)
   pub result : writtenBy ran ≡ resultBytes v
   pub untouched : drop (length (resultBytes v)) (ran .output) ≡ drop (length (resultBytes v)) output
-  -- "or the same number given and nothing written." (A number's `resultBytes` are none; a tree's `resultNumber` is 0.)
+  -- "or the same number given and nothing written." (A number's `resultBytes` are none; a tree's
+  -- `resultNumber` is 0.)
   pub same-number : ran .answer .number ≡ resultNumber v
 
 -- An ended run was one on a tree, whose evaluation ends, and gave what that means.

@@ -1,4 +1,5 @@
--- What else holds of every run of a checked program's code, beside demand 3: the statements. They are proved in proofs/EveryRun.antt.
+-- What else holds of every run of a checked program's code, beside demand 3: the statements. They
+-- are proved in proofs/EveryRun.antt.
 use Prim.Native.Nat.{ℕ, suc, _≤_, _<_}
 use mathlib.Core.List.{List, _++_}
 use mathlib.Core.Logic.{_≢_}
@@ -50,7 +51,8 @@ pub record Refused18 (t : Tree) (run : (input output : List ℕ) (fuel : ℕ) �
 
 -- The runs of a checked program's code, each with its input, output and fuel.
 pub record EveryRun (program : Program) (run : (input output : List ℕ) (fuel : ℕ) → Ran) : Type 0 where
-  -- With space for the result, the units of the evaluation are spent, with every fuel from there up ..
+  -- With space for the result, the units of the evaluation are spent, with every fuel from there up
+  -- ..
   pub exact-units :
       (t : Tree) (n : ℕ) (v : Value) (ends : Ends program t mostCalls n v) (rest output : List ℕ) (fuel : ℕ)
       → Labelled t
@@ -71,7 +73,8 @@ pub record EveryRun (program : Program) (run : (input output : List ℕ) (fuel :
       → length output < length (resultBytes v)
       → evaluationUnits ends ≤ fuel
       → run (tokens t ++ rest) output fuel .answer .outcome ≡ refusal outputFull (run (tokens t ++ rest) output fuel .answer .bytesRead)
-  -- Where more than 1,024 calls would open (the evaluation does not end within 1,024 open calls), enough fuel and space give 18.
+  -- Where more than 1,024 calls would open (the evaluation does not end within 1,024 open calls),
+  -- enough fuel and space give 18.
   pub too-many-calls : (t : Tree) → Labelled t → ((n : ℕ) (v : Value) → Ends program t mostCalls n v → ⊥) → Refused18 t run
   -- 01, Instructions that cannot be performed: "19 never follows translated code." On any input,
   -- trees or not.

@@ -43,7 +43,8 @@ unfoldable pub listingOf : Result (List ℕ) → Listing
 listingOf (done code) = listed (instructionsIn code) (linesFrom code (instructionsIn code) 0)
 listingOf (refusal number position) = refusedListing number position
 
--- The listing of a program file, whatever its bytes. There is room for every program's code (`NeverShort` below), so 13 is never reported.
+-- The listing of a program file, whatever its bytes. There is room for every program's code
+-- (`NeverShort` below), so 13 is never reported.
 unfoldable pub listing : List ℕ → Listing
 listing file = listingOf (translateFile (instructionBytes * mostInstructions) file)
 

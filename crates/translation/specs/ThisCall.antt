@@ -1,7 +1,8 @@
--- Demand 3, and what holds on any input, about one call: what was answered, and the output at exit. The contracts of `runner: run`, `run_calls: run` and
--- `hogvax_run` carry both (`ProgramRun`).
+-- Demand 3, and what holds on any input, about one call: what was answered, and the output at exit.
+-- The contracts of `runner: run`, `run_calls: run` and `hogvax_run` carry both (`ProgramRun`).
 --
--- `before` is the output at entry and `after` the output at exit; `answer` is what the call answered. The words are those of Demand3.
+-- `before` is the output at entry and `after` the output at exit; `answer` is what the call
+-- answered. The words are those of Demand3.
 use Prim.Native.Nat.{ℕ, _+_, _*_, _≤_}
 use mathlib.Core.List.{List, _++_}
 use mathlib.Core.Logic.{_≢_}
@@ -27,13 +28,15 @@ use Rattle.translation.specs.Calls.{ProgramRan, runFile, Ready}
 abbrev pub ranWith : Answer → List ℕ → Ran
 ranWith answer after = record { answer = answer; output = after }
 
--- "When any checked program is run over the stream on any tree's tokens, with anything after them, any fuel and any output length:" a call on the
--- tokens of t and the rest after them. `alone` is what the definition gives on the tokens of t alone.
+-- "When any checked program is run over the stream on any tree's tokens, with anything after them,
+-- any fuel and any output length:" a call on the tokens of t and the rest after them. `alone` is
+-- what the definition gives on the tokens of t alone.
 pub record ThisCall (program : Program) (t : Tree) (rest before : List ℕ) (fuel : ℕ) (alone : ProgramRan) (answer : Answer) (after : List ℕ) : Type 0 where
   -- "the bytes read are opening bytes of that tree, none or all included;"
   pub read-opening : Opens (take (answer .bytesRead) (tokens t ++ rest)) (tokens t)
   pub read-no-more : answer .bytesRead ≤ length (tokens t)
-  -- "the bytes written are opening bytes of the source's result where it has one;" with however many calls open
+  -- "the bytes written are opening bytes of the source's result where it has one;" with however
+  -- many calls open
   pub written-opening : (o n : ℕ) (v : Value) → Ends program t o n v → Opens (take (answer .bytesWritten) after) (resultBytes v)
   pub written-no-more : (o n : ℕ) (v : Value) → Ends program t o n v → answer .bytesWritten ≤ length (resultBytes v)
   -- (no other byte of the output is written, whether the source has a result or not)
@@ -41,8 +44,8 @@ pub record ThisCall (program : Program) (t : Tree) (rest before : List ℕ) (fue
   -- "and neither answers nor output depend on what stands after the tree."
   pub same-answer : answer ≡ alone .answer
   pub same-output : after ≡ alone .output
-  -- "If the source evaluation ends after n expressions with at most 1,024 calls open at once, every fuel from 4n + 1 up suffices, given output space for
-  -- the result:" the run is `Whole`.
+  -- "If the source evaluation ends after n expressions with at most 1,024 calls open at once, every
+  -- fuel from 4n + 1 up suffices, given output space for the result:" the run is `Whole`.
   pub suffices :
       (n : ℕ) (v : Value)
       → Ends program t mostCalls n v
@@ -66,10 +69,12 @@ pub record AnyCall (program : Program) (input before : List ℕ) (answer : Answe
       → answer .outcome ≡ done tt
       → OneForOne input (ranWith answer after)
 
--- All that is promised of a run of a program file: what every call that checks, translates and runs carries, public or exported. The buffers are those at
--- entry; `answer` is what the call answered, `after` the output at exit.
+-- All that is promised of a run of a program file: what every call that checks, translates and runs
+-- carries, public or exported. The buffers are those at entry; `answer` is what the call answered,
+-- `after` the output at exit.
 pub record ProgramRun (file input output code : List ℕ) (fuel values returns : ℕ) (answer : Answer) (after : List ℕ) : Type 0 where
-  -- Demand 3: where the file's program is checked and the work space lent, for every tree that begins the input, whatever stands after it.
+  -- Demand 3: where the file's program is checked and the work space lent, for every tree that
+  -- begins the input, whatever stands after it.
   pub demand-3 :
       (program : Program)
       → Ready file code values returns program

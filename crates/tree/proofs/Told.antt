@@ -1,5 +1,6 @@
--- A law for each way out of the functions that find the end of a tree. What stands at a position where a tag is due says which refusal arises there;
--- as one number, an end is at most the buffer's length, and a refusal's number is larger, since a buffer has fewer than 2^63 bytes.
+-- A law for each way out of the functions that find the end of a tree. What stands at a position
+-- where a tag is due says which refusal arises there; as one number, an end is at most the buffer's
+-- length, and a refusal's number is larger, since a buffer has fewer than 2^63 bytes.
 use Prim.Native.Nat.{ℕ, suc, _+_, _-_, _^_, _≤_, _<_}
 use mathlib.Core.List.{List}
 use mathlib.Core.Logic.{_≢_}

@@ -25,14 +25,17 @@ pub enum TreeAnswer {
     Refused(Refusal, usize),
 }
 
-// Where the tree ends that begins at `at`, with room for at most `room` nodes above its leaves: a node's left tree first, then
-// its right tree, which begins where the left one ends. The bytes left fall at each call, and the calls nest no deeper than the room.
+// Where the tree ends that begins at `at`, with room for at most `room` nodes above its leaves: a
+// node's left tree first, then its right tree, which begins where the left one ends. The bytes left
+// fall at each call, and the calls nest no deeper than the room.
 //
-// The answer is one number (`endReported` says how), and the slice comes by a reference to it, so that all passes in
-// registers: with an enum for the answer and the slice itself the reader takes 1.6 to 2.2 times as long.
+// The answer is one number (`endReported` says how), and the slice comes by a reference to it, so
+// that all passes in registers: with an enum for the answer and the slice itself the reader takes
+// 1.6 to 2.2 times as long.
 fn tree_end(input: &&[u8], at: usize, room: usize) -> usize
     requires { ⌜ InBuffer (now (now input)) at ⌝ }
-    ensures { λ r. ⌜ endReported (now (now (input .entry))) r ≡ endAt room (now (now (input .entry))) at ⌝ }
+    ensures { λ r. ⌜ endReported (now (now (input .entry))) r ≡ endAt room
+        (now (now (input .entry))) at ⌝ }
 {
     if input.len() <= at {
         return usize::MAX - at;

@@ -13,10 +13,11 @@ pub fn tree_bytes(input: &[u8]) -> usize
     own.len()
 }
 
-// The refusal's number, 0 where there is a tree; the refusal's position and the tree's length go to the answer's first
-// two slots. With fewer slots: 13, and the answer is untouched.
+// The refusal's number, 0 where there is a tree; the refusal's position and the tree's length go to
+// the answer's first two slots. With fewer slots: 13, and the answer is untouched.
 pub fn tree(input: &[u8], answer: &mut [u64]) -> u32
-    ensures { λ r. ⌜ Answers (firstEnd (now (input .entry))) (now (answer .entry)) (now (answer .exit)) r ⌝ }
+    ensures { λ r. ⌜ Answers (firstEnd (now (input .entry))) (now (answer .entry))
+        (now (answer .exit)) r ⌝ }
 {
     let found = tree::tree_answer(input);
     match found {

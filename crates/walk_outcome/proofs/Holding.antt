@@ -25,7 +25,8 @@ use Rattle.result_bytes.specs.Inner.Bytes.{countLimit, counted}
 use Rattle.walk_outcome.specs.Inner.Outcomes.{Counts}
 use Rattle.source_walk.specs.Inner.Loop.{Run, run, stepped, weightOf, beginStep, riseStep, openStep, climbing, climbed, turned}
 
--- With `out` written, into a buffer that held output₀ before, as far as it fits, the run's turn comes to the outcome o.
+-- With `out` written, into a buffer that held output₀ before, as far as it fits, the run's turn
+-- comes to the outcome o.
 pub record Holding (T input output₀ : List ℕ) (p : Run) (o : Outcome Reported) : Type 0 where
   pub out : List ℕ
   pub comes : Comes T input out (turnOf (p .values) (p .returns) (p .stage)) o

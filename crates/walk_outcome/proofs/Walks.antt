@@ -1,4 +1,5 @@
--- The whole walk: what it answers, and what it leaves in the output, is what the outcome is reported as.
+-- The whole walk: what it answers, and what it leaves in the output, is what the outcome is
+-- reported as.
 use Prim.Native.Nat.{ℕ, zero, suc, _+_, _≤_}
 use mathlib.Core.Bool.{Bool, true, false}
 use mathlib.Core.List.{List, []}

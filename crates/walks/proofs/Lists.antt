@@ -1,4 +1,5 @@
--- Pass two over an expression: its parts one after the other, and the three kinds that do more: Call, Case, IfZero.
+-- Pass two over an expression: its parts one after the other, and the three kinds that do more:
+-- Call, Case, IfZero.
 use Prim.Native.Nat.{ℕ, suc, _+_}
 use mathlib.Core.List.{List, [], _∷_}
 use mathlib.Core.Path.{_≡_, refl, ap}

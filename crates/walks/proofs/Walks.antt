@@ -1,5 +1,6 @@
--- Laws of expressions in flat records, for functions that walk a program's records: an expression's own record, then its parts; the functions'
--- signatures; and what is known of a program that was read.
+-- Laws of expressions in flat records, for functions that walk a program's records: an expression's
+-- own record, then its parts; the functions' signatures; and what is known of a program that was
+-- read.
 use Prim.Native.Nat.{ℕ, zero, suc, _+_, _≤_, _<_}
 use mathlib.Core.List.{List, [], _∷_, _++_, map}
 use mathlib.Core.Option.{some}

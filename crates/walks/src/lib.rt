@@ -1,1 +1,2 @@
-// Definitions and theorems, and no code: what the functions share that walk a program's records. See specs/.
+// Definitions and theorems, and no code: what the functions share that walk a program's records.
+// See specs/.

@@ -1,5 +1,5 @@
-// Bytes and 16-bit words read from byte slices, low byte first. Nothing here asks anything of its caller: an offset may be anywhere, and a
-// number is read there whole or not at all.
+// Bytes and 16-bit words read from byte slices, low byte first. Nothing here asks anything of its
+// caller: an offset may be anywhere, and a number is read there whole or not at all.
 ghost use mathlib.Core.Path.{_≡_};
 ghost use mathlib.Core.List.{[], _∷_};
 ghost use lib.ListN.{getD};

@@ -1,5 +1,6 @@
-// 32-bit words in byte slices, low byte first, read and written. Nothing here asks anything of its caller: an offset may be anywhere, and
-// what is read or written there is read or written whole or not at all.
+// 32-bit words in byte slices, low byte first, read and written. Nothing here asks anything of its
+// caller: an offset may be anywhere, and what is read or written there is read or written whole or
+// not at all.
 ghost use mathlib.Core.Path.{_≡_};
 ghost use mathlib.Core.List.{[], _∷_};
 ghost use Rattle.formats.specs.Numbers.{bytesOf, numberOf, numberAt};

@@ -1,5 +1,6 @@
-// 16-bit words written into byte slices, low byte first, and bytes copied into them. Nothing here asks anything of its caller: an offset may
-// be anywhere, and what is written there is written whole or not at all.
+// 16-bit words written into byte slices, low byte first, and bytes copied into them. Nothing here
+// asks anything of its caller: an offset may be anywhere, and what is written there is written
+// whole or not at all.
 ghost use mathlib.Core.Path.{_≡_};
 ghost use Rattle.formats.specs.Numbers.{bytesOf};
 ghost use Rattle.formats.specs.Written.{written};

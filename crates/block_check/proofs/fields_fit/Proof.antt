@@ -1,4 +1,5 @@
--- `block_check::fields_fit` meets its contract: each test that fails is a case of `fieldsFit`, and the last one decides.
+-- `block_check::fields_fit` meets its contract: each test that fails is a case of `fieldsFit`, and
+-- the last one decides.
 use borrow.Author.Needs.{needs}
 use Rattle.block_check.proofs.Checks.{fields-reported}
 use Rattle.block_check.proofs.fields_fit.Statement.{statement}

@@ -1,4 +1,5 @@
--- `block_check::zero_between` meets its contract. Before each turn the bytes passed are zero, so that those left decide; they fall.
+-- `block_check::zero_between` meets its contract. Before each turn the bytes passed are zero, so
+-- that those left decide; they fall.
 use Prim.Native.Nat.{_-_}
 use borrow.Author.Needs.{needs}
 use Rattle.block_check.proofs.Checks.{Zeroed, zeroed}

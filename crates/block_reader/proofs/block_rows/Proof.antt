@@ -1,4 +1,5 @@
--- `block_reader::block_rows` meets its contract: each test of the length is a case of `lengthRow`, and then the blocks decide.
+-- `block_reader::block_rows` meets its contract: each test of the length is a case of `lengthRow`,
+-- and then the blocks decide.
 use borrow.Author.Needs.{needs}
 use Rattle.block_reader.proofs.Rows.{whole-reported}
 use Rattle.block_reader.proofs.block_rows.Statement.{statement}

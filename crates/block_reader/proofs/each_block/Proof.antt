@@ -1,4 +1,5 @@
--- `block_reader::each_block` meets its contract. Before each turn the blocks passed are right, so that those left decide; they fall.
+-- `block_reader::each_block` meets its contract. Before each turn the blocks passed are right, so
+-- that those left decide; they fall.
 use borrow.Author.Needs.{needs}
 use Prim.Native.Nat.{_-_}
 use Rattle.block_reader.proofs.Rows.{RowsLeft, rows-reported}

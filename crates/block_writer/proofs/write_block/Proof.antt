@@ -1,4 +1,5 @@
--- `block_writer::write_block` meets its contract: the bytes summed are the body just written, and the check goes right after it.
+-- `block_writer::write_block` meets its contract: the bytes summed are the body just written, and
+-- the check goes right after it.
 use borrow.Author.Needs.{needs}
 use Rattle.block_writer.proofs.Stored.{check-written}
 use Rattle.block_writer.proofs.write_block.Statement.{statement}

@@ -1,4 +1,5 @@
--- `block_writer::write_body` meets its contract: four writes, each right after the one before it, are one.
+-- `block_writer::write_body` meets its contract: four writes, each right after the one before it,
+-- are one.
 use borrow.Author.Needs.{needs}
 use Rattle.block_writer.proofs.Stored.{body-written}
 use Rattle.block_writer.proofs.write_body.Statement.{statement}

@@ -1,4 +1,5 @@
--- `code_scope::under_number` meets its contract: the name is on top of the others, or there is no room.
+-- `code_scope::under_number` meets its contract: the name is on top of the others, or there is no
+-- room.
 use borrow.Author.Needs.{needs, length-unmapped}
 use Rattle.code_scope.proofs.Scopes.{under}
 use Rattle.code_scope.proofs.under_number.Statement.{statement}

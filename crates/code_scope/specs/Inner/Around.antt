@@ -11,7 +11,8 @@ use Rattle.formats.specs.Programs.{Sort, numberValued, treeValued}
 use Rattle.translation.specs.Templates.{Words}
 use Rattle.code_scope.specs.declared.Scope.{Scope}
 
--- The sort of the value expected, the word that each number name stands on, the newest first, and how many words stand above the base.
+-- The sort of the value expected, the word that each number name stands on, the newest first, and
+-- how many words stand above the base.
 pub record Around : Type 0 where
   pub sort : Sort
   pub words : Words
@@ -20,8 +21,8 @@ pub record Around : Type 0 where
 abbrev pub around : Sort → Words → ℕ → Around
 around sort words standing = record { sort = sort; words = words; standing = standing }
 
--- On entering part i of a record, by what the part is (rules, Scopes: `partScope` has the same for pass one). A number that is named stands on the next
--- word.
+-- On entering part i of a record, by what the part is (rules, Scopes: `partScope` has the same for
+-- pass one). A number that is named stands on the next word.
 unfoldable pub partAround : Part → ℕ → Around → Around
 partAround aNumber i x = around numberValued (x .words) (x .standing + i)
 partAround aTree i x = around treeValued (x .words) (x .standing)
@@ -57,7 +58,8 @@ Binds asWhole = ⊥
 Binds underNumber = Unit {0}
 Binds underTrees = ⊥
 
--- Part i of a record can be entered: the counts fit their width, and there is a word for a number that it names.
+-- Part i of a record can be entered: the counts fit their width, and there is a word for a number
+-- that it names.
 pub record Enterable (p : Part) (i : ℕ) (c : Scope) : Type 0 where
   pub table : length (c .words) ≡ mostNames
   pub named : Named c
@@ -73,7 +75,8 @@ pub record Enters (p : Part) (i : ℕ) (c r : Scope) : Type 0 where
 
 -- ---- the scope on entering a part, of any scope
 
--- One more number is named, on the next word. With 16 names nothing changes. (A scope counts in 64 bits.)
+-- One more number is named, on the next word. With 16 names nothing changes. (A scope counts in 64
+-- bits.)
 unfoldable pub underScope : Scope → Scope
 underScope c =
     let n = min (c .names) mostNames in

@@ -1,4 +1,5 @@
--- `decode::decode` meets its contract: the checks refuse, the table is too short, or the rows of all functions are written.
+-- `decode::decode` meets its contract: the checks refuse, the table is too short, or the rows of
+-- all functions are written.
 use borrow.Author.Needs.{needs}
 use Rattle.decode.proofs.Calls.{ways}
 use Rattle.decode.proofs.decode.Statement.{statement}

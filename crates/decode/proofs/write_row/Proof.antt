@@ -1,5 +1,6 @@
--- `decode::write_row` meets its contract. Where the row fits, its words are set one after the other; a store keeps the length, so each is in range.
--- Elsewhere nothing is set, and nothing is to be written.
+-- `decode::write_row` meets its contract. Where the row fits, its words are set one after the
+-- other; a store keeps the length, so each is in range. Elsewhere nothing is set, and nothing is to
+-- be written.
 use mathlib.Core.Path.{sym}
 use native.Mathlib.Numerals.{towards-suc}
 use native.Mathlib.Omega.{arith}

@@ -17,8 +17,8 @@ use Rattle.stepwise.specs.Inner.Rows.{rowWords, tabled}
 abbrev pub tableWords : ℕ
 tableWords = rowWords * mostRecords
 
--- The table with the rows of a program that passes pass one; or the first refusal of the rows header to prefix form and pass one, and last 13 where the
--- table is too short.
+-- The table with the rows of a program that passes pass one; or the first refusal of the rows
+-- header to prefix form and pass one, and last 13 where the table is too short.
 unfoldable pub decoded : List ℕ → List ℕ → Result (List ℕ)
 decoded s table =
     andThen

@@ -1,5 +1,5 @@
--- What the functions answer that fill a table, over flat records s. `table` and `cases` hold at entry the words of the table and of the stack of Cases,
--- `table′` and `cases′` those at exit.
+-- What the functions answer that fill a table, over flat records s. `table` and `cases` hold at
+-- entry the words of the table and of the stack of Cases, `table′` and `cases′` those at exit.
 use Prim.Native.Nat.{ℕ, suc, _+_, _-_, _*_, _%_, _≤_, _<_}
 use mathlib.Core.List.{List, [], _∷_, _++_}
 use mathlib.Core.Path.{_≡_}
@@ -42,7 +42,8 @@ deeper asWhole depth = depth
 deeper underNumber depth = depth
 deeper underTrees depth = suc depth
 
--- Where part i of the record r stands, which has so many parts, where counts are small: `part_locations/specs/Inner/Locations: partIn` without its caps.
+-- Where part i of the record r stands, which has so many parts, where counts are small:
+-- `part_locations/specs/Inner/Locations: partIn` without its caps.
 unfoldable pub insideLocation : Part → Kind → (r i count : ℕ) → Location → Location
 insideLocation part kind r i count p =
     record {
@@ -62,7 +63,8 @@ pub record Grows (i : ℕ) (p : Location) : Type 0 where
 
 -- ---- a row's first half
 
--- Of the functions that there are, `entry` has the first records and `arity` the numbers of parameters.
+-- Of the functions that there are, `entry` has the first records and `arity` the numbers of
+-- parameters.
 pub record Agrees (s : List ℕ) (entry arity : ℕ → ℕ) : Type 0 where
   pub entries : (b : ℕ) → b < headerIn s .functions → entry b ≡ firstIn s b
   pub arities : (b : ℕ) → b < headerIn s .functions → arity b ≡ arityIn s b
@@ -97,7 +99,8 @@ pub record Small (k end : ℕ) (p : Location) : Type 0 where
   pub keeps : p .keeps + (end - k) ≤ mostCount
   pub depth : p .depth + (end - k) ≤ mostCount
 
--- Expression e of a program stands at record k and ends by the end, the table has rows up to the end, and the stack has room.
+-- Expression e of a program stands at record k and ends by the end, the table has rows up to the
+-- end, and the stack has room.
 pub record Entering (s table cases : List ℕ) (entry arity : ℕ → ℕ) (k end : ℕ) (p : Location) (e : Expr) : Type 0 where
   pub here : Here s end k e
   pub agrees : Agrees s entry arity
@@ -139,7 +142,8 @@ pub record SmallParts (r i k end : ℕ) (p : Location) : Type 0 where
 pub record Counted (arity : ℕ → ℕ) (kind : Kind) (count : ℕ) : Type 0 where
   pub is : partCount arity (partsOf kind) ≡ count
 
--- Parts of the record r from part i on stand one after the other, the next at record k and the last before record m.
+-- Parts of the record r from part i on stand one after the other, the next at record k and the last
+-- before record m.
 pub record EnteringParts (s table cases : List ℕ) (entry arity : ℕ → ℕ) (node : Record) (parts : Parts) (i count k end : ℕ) (p : Location) (ps : List Placed) (m : ℕ) : Type 0 where
   pub here : HereRow s end k ps m
   pub from : PartsFrom s (listed parts) (meant node) i count ps

@@ -13,8 +13,8 @@ use Rattle.code_scope.specs.Inner.Around.{Around, aroundOf}
 use Rattle.template.specs.Inner.Items.{entriesIn}
 use Rattle.emit_items.specs.declared.Instruction.{Instruction}
 
--- The instruction of an item, where functions have these entries and number parameters: `last` is where the last part begins, `beyond` is after the
--- whole.
+-- The instruction of an item, where functions have these entries and number parameters: `last` is
+-- where the last part begins, `beyond` is after the whole.
 unfoldable pub operationFor : (entries arity : ℕ → ℕ) → Around → (last beyond : ℕ) → Item → Operation
 operationFor entries arity x last beyond (pushNumber i) = Push i
 operationFor entries arity x last beyond (getName a) = Get (wordOf (x .words) a)
@@ -40,7 +40,8 @@ instructionFor s entries c last beyond item = instructionOf (operationFor (entri
 abbrev pub fieldsIn : Instruction → Record
 fieldsIn x = fields (x .opcode) (x .byte1) (x .operand) (x .number)
 
--- An instruction written at an address of a part of the code buffer; untouched where it does not fit.
+-- An instruction written at an address of a part of the code buffer; untouched where it does not
+-- fit.
 abbrev pub put : List ℕ → ℕ → Operation → List ℕ
 put code a op = written code (recordBytes * a) (bytesOfRecord (instructionOf op))
 

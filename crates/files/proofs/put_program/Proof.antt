@@ -1,4 +1,5 @@
--- `files::put_program` meets its contract: the rows refuse, the buffer is too short, or the records are copied.
+-- `files::put_program` meets its contract: the rows refuse, the buffer is too short, or the records
+-- are copied.
 use borrow.Author.Needs.{needs}
 use Rattle.files.proofs.Laws.{program-ways}
 use Rattle.files.proofs.put_program.Statement.{statement}

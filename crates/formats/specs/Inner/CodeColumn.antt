@@ -4,7 +4,8 @@ use Prim.Native.Nat.{ℕ, zero, suc}
 use mathlib.Core.List.{List, [], _∷_}
 use Rattle.formats.specs.Records.{Kind, Const, Var, Add, IfZero, Let, Leaf, Node, Case, Call}
 
--- An item of the column that is no part. Where the column goes to L, the last part begins there; M is after the whole.
+-- An item of the column that is no part. Where the column goes to L, the last part begins there; M
+-- is after the whole.
 pub data Item : Type 0 where
   -- "push i"
   pushNumber : ℕ → Item
@@ -28,7 +29,8 @@ pub data Item : Type 0 where
   -- "call", of function b
   callFunction : ℕ → Item
 
--- A kind's template: what stands before its first, second and third part, if it has them, and after them all.
+-- A kind's template: what stands before its first, second and third part, if it has them, and after
+-- them all.
 pub record Template : Type 0 where
   pub first : List Item
   pub second : List Item

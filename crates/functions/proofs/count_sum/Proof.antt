@@ -1,4 +1,5 @@
--- `functions::count_sum` meets its contract: the counts below j are summed, and those from j on are missing. What is left of them falls.
+-- `functions::count_sum` meets its contract: the counts below j are summed, and those from j on are
+-- missing. What is left of them falls.
 use Prim.Native.Nat.{_-_}
 use Rattle.functions.proofs.Functions.{Summed, summed}
 use borrow.Author.Needs.{needs}

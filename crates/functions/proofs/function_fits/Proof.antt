@@ -1,5 +1,5 @@
--- `functions::function_fits` meets its contract: each test that fails is a part of the check of the function's record, and where all hold the last field
--- decides.
+-- `functions::function_fits` meets its contract: each test that fails is a part of the check of the
+-- function's record, and where all hold the last field decides.
 use borrow.Author.Needs.{needs}
 use Rattle.functions.proofs.Functions.{function-fields}
 use Rattle.functions.proofs.function_fits.Statement.{statement}

@@ -1,4 +1,5 @@
--- `functions::function_row` meets its contract: a refused field is the row's refusal, and where all fields pass the sum of the counts decides.
+-- `functions::function_row` meets its contract: a refused field is the row's refusal, and where all
+-- fields pass the sum of the counts decides.
 use borrow.Author.Needs.{needs}
 use Rattle.functions.proofs.Functions.{function-said}
 use Rattle.functions.proofs.function_row.Statement.{statement}

@@ -1,4 +1,5 @@
--- `header::header_fits` meets its contract: each test that fails is a part of the header's check, and where all hold the record count decides.
+-- `header::header_fits` meets its contract: each test that fails is a part of the header's check,
+-- and where all hold the record count decides.
 use borrow.Author.Needs.{needs}
 use native.Mathlib.Omega.{arith}
 use Rattle.header.proofs.Header.{header-fields, many-functions, many-nodes}

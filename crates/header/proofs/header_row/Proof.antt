@@ -1,4 +1,5 @@
--- `header::header_row` meets its contract: the fields read are those of record 0, and what `header_fits` says of them is what the row says.
+-- `header::header_row` meets its contract: the fields read are those of record 0, and what
+-- `header_fits` says of them is what the row says.
 use borrow.Author.Needs.{needs}
 use Rattle.header.proofs.Header.{header-said}
 use Rattle.header.proofs.header_row.Statement.{statement}

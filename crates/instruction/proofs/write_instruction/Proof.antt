@@ -1,5 +1,6 @@
--- `instruction::write_instruction` meets its contract. Where the instruction fits, its bytes are set one after the other; a store keeps the length, so
--- each is in range. Elsewhere nothing is set, and nothing is to be written.
+-- `instruction::write_instruction` meets its contract. Where the instruction fits, its bytes are
+-- set one after the other; a store keeps the length, so each is in range. Elsewhere nothing is set,
+-- and nothing is to be written.
 use native.Mathlib.Numerals.{towards-suc}
 use native.Mathlib.Omega.{arith}
 use mathlib.Core.Path.{sym}

@@ -1,4 +1,5 @@
--- The proof of the cycle of calls {put_number}. The measure is the number, which falls to its tenth. Each way out is a law of proofs/Putting.antt.
+-- The proof of the cycle of calls {put_number}. The measure is the number, which falls to its
+-- tenth. Each way out is a law of proofs/Putting.antt.
 use Prim.Native.Nat.{ℕ, _<_}
 use native.Mathlib.Omega.{arith}
 use borrow.Author.Needs.{needs}

@@ -1,4 +1,5 @@
--- `listing::line_at` meets its contract: instruction k stands whole in the code, and its fields are read where the definition has them.
+-- `listing::line_at` meets its contract: instruction k stands whole in the code, and its fields are
+-- read where the definition has them.
 use native.Mathlib.Omega.{arith}
 use borrow.Author.Needs.{needs}
 use Rattle.translation.specs.Listing.{instructionsIn}

@@ -1,4 +1,5 @@
--- `listing::put_code` meets its contract: the word, the count and the lines are put one after the other.
+-- `listing::put_code` meets its contract: the word, the count and the lines are put one after the
+-- other.
 use borrow.Author.Needs.{needs}
 use Rattle.translation.specs.Listing.{instructionsIn}
 use Rattle.formats.specs.Characters.{ascii}

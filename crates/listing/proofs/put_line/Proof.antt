@@ -1,5 +1,5 @@
--- `listing::put_line` meets its contract: the five fields are put one after the other. What holds after each is handed to the laws, c₁ to c₄, since
--- `search` does not find it among so much.
+-- `listing::put_line` meets its contract: the five fields are put one after the other. What holds
+-- after each is handed to the laws, c₁ to c₄, since `search` does not find it among so much.
 use borrow.Author.Needs.{needs}
 use Rattle.listing.proofs.Putting.{line-ways}
 use Rattle.listing.proofs.put_line.Statement.{statement}

@@ -1,5 +1,5 @@
--- `listing::put_lines` meets its contract. The invariant: the first k lines are put, and there is room for all. The measure is the lines that are
--- left.
+-- `listing::put_lines` meets its contract. The invariant: the first k lines are put, and there is
+-- room for all. The measure is the lines that are left.
 use Prim.Native.Nat.{_-_}
 use native.Mathlib.Omega.{arith}
 use borrow.Author.Needs.{needs}

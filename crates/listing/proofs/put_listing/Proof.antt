@@ -1,5 +1,5 @@
--- `listing::put_listing` meets its contract: what the translator answers is what the definition asks for, and its code stands
--- at the start of its buffer.
+-- `listing::put_listing` meets its contract: what the translator answers is what the definition
+-- asks for, and its code stands at the start of its buffer.
 use borrow.Author.Needs.{needs}
 use lib.Seq.{length-take-le}
 use Rattle.listing.proofs.Texts.{listing-ways}

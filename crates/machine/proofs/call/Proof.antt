@@ -1,4 +1,5 @@
--- `machine::call` meets its contract: words are missing, too many calls are open, or the frame waits below the arguments.
+-- `machine::call` meets its contract: words are missing, too many calls are open, or the frame
+-- waits below the arguments.
 use native.Mathlib.Omega.{arith}
 use borrow.Author.Needs.{needs}
 use lib.ListN.{length-set}

@@ -1,4 +1,5 @@
--- `machine::drop` meets its contract. Where the frame has no word it is refused; else its words end one lower.
+-- `machine::drop` meets its contract. Where the frame has no word it is refused; else its words end
+-- one lower.
 use borrow.Author.Needs.{needs}
 use Rattle.machine.proofs.StackLaws.{drops}
 use Rattle.machine.proofs.drop.Statement.{statement}

@@ -1,4 +1,5 @@
--- `machine::fetch` meets its contract: the eight bytes are there, and hold the record at the address.
+-- `machine::fetch` meets its contract: the eight bytes are there, and hold the record at the
+-- address.
 use borrow.Author.Needs.{needs}
 use Rattle.machine.proofs.Fields.{fetched}
 use Rattle.machine.proofs.fetch.Statement.{statement}

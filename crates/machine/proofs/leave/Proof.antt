@@ -1,4 +1,5 @@
--- `machine::leave` meets its contract: the frame left is the first one, or its return place is the topmost.
+-- `machine::leave` meets its contract: the frame left is the first one, or its return place is the
+-- topmost.
 use borrow.Author.Needs.{needs}
 use Rattle.machine.proofs.CallLaws.{leaves}
 use Rattle.machine.proofs.leave.Statement.{statement}

@@ -1,4 +1,5 @@
--- `machine::operand_of` meets its contract: its two bytes are there, and stand for the number at their place.
+-- `machine::operand_of` meets its contract: its two bytes are there, and stand for the number at
+-- their place.
 use borrow.Author.Needs.{needs}
 use Rattle.machine.proofs.Fields.{operand-is}
 use Rattle.machine.proofs.operand_of.Statement.{statement}

@@ -1,5 +1,5 @@
--- `machine::push` meets its contract. As many words stand as the top says: at the limit the push is refused, else the word set there is the frame's
--- new top.
+-- `machine::push` meets its contract. As many words stand as the top says: at the limit the push is
+-- refused, else the word set there is the frame's new top.
 use borrow.Author.Needs.{needs}
 use Rattle.machine.proofs.StackLaws.{pushes}
 use Rattle.machine.proofs.push.Statement.{statement}

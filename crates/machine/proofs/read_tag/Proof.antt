@@ -1,4 +1,5 @@
--- `machine::read_tag` meets its contract: the input has ended, or its next byte is a leaf's tag, a node's, or neither.
+-- `machine::read_tag` meets its contract: the input has ended, or its next byte is a leaf's tag, a
+-- node's, or neither.
 use borrow.Author.Needs.{needs}
 use Rattle.machine.proofs.StreamLaws.{tags-in}
 use Rattle.machine.proofs.read_tag.Statement.{statement}

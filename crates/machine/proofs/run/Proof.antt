@@ -1,5 +1,6 @@
--- `machine::run` meets its contract. In front of each turn as many steps as units lead from the start to the machine's state; the fuel left falls.
--- So the turn that stops is the whole run's last, and where none does, the fuel is used up.
+-- `machine::run` meets its contract. In front of each turn as many steps as units lead from the
+-- start to the machine's state; the fuel left falls. So the turn that stops is the whole run's
+-- last, and where none does, the fuel is used up.
 use borrow.Author.Needs.{needs}
 use Prim.Native.Nat.{_-_}
 use Rattle.machine.proofs.RunLaws.{Running, running, turned-asks}

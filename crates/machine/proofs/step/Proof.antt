@@ -1,5 +1,5 @@
--- `machine::step` meets its contract: each arm performs the operation that its opcode names and leaves the buffers that it does not lend; an
--- opcode from 14 up names none.
+-- `machine::step` meets its contract: each arm performs the operation that its opcode names and
+-- leaves the buffers that it does not lend; an opcode from 14 up names none.
 use borrow.Author.Needs.{needs}
 use Rattle.machine.proofs.StepLaws.{pushes, gets, adds, ifnots, jumps, slides, drops, writes-leaf, writes-node, writes-number}
 use Rattle.machine.proofs.StepLaws.{reads-tag, reads-number, calls, returned-so, names-none}

@@ -1,4 +1,5 @@
--- `machine::write_number` meets its contract: no word is there, the output is full, or the word's four bytes are written after the others.
+-- `machine::write_number` meets its contract: no word is there, the output is full, or the word's
+-- four bytes are written after the others.
 use borrow.Author.Needs.{needs}
 use Rattle.machine.proofs.StreamLaws.{numbers-out}
 use Rattle.machine.proofs.write_number.Statement.{statement}

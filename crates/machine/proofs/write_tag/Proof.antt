@@ -1,4 +1,5 @@
--- `machine::write_tag` meets its contract: the output is full, or the byte is written after the others.
+-- `machine::write_tag` meets its contract: the output is full, or the byte is written after the
+-- others.
 use borrow.Author.Needs.{needs}
 use Rattle.machine.proofs.StreamLaws.{tags}
 use Rattle.machine.proofs.write_tag.Statement.{statement}

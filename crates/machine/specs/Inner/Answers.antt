@@ -23,7 +23,8 @@ runAnswer a =
 unfoldable pub refusalNumber : ℕ → ℕ
 refusalNumber stop = elim (leb inputEnded stop && leb stop tooManyCalls) [ true ↦ stop | false ↦ cannotPerform ]
 
--- The answer of a run that stops with these numbers, so many units before: the return of the first frame is one more.
+-- The answer of a run that stops with these numbers, so many units before: the return of the first
+-- frame is one more.
 unfoldable pub dueAt : List ℕ → ℕ → Machine → Due
 dueAt values units s =
     elim (eqb (s .stop) hasEnded) [
@@ -36,7 +37,8 @@ dueAt values units s =
 pub record Reports (values : List ℕ) (units : ℕ) (s : Machine) (r : Answer) : Type 0 where
   pub reports : runAnswer r ≡ dueAt values units s
 
--- A call of the stream run: its answer, every byte of the output, and the work words, which are free after a run.
+-- A call of the stream run: its answer, every byte of the output, and the work words, which are
+-- free after a run.
 pub record Performed (due : Ran) (output′ values values′ returns returns′ : List ℕ) (r : Answer) : Type 0 where
   pub answer : runAnswer r ≡ due .answer
   pub output : output′ ≡ due .output

@@ -17,8 +17,8 @@ pub record Still (output output′ : List ℕ) (s r : Machine) : Type 0 where
   pub written : r .written ≡ s .written
   pub same : output′ ≡ output
 
--- From buffers and a machine s to buffers and a machine r, the outcome of an instruction is `due`. The buffers keep their lengths, and the output
--- after what is written is untouched.
+-- From buffers and a machine s to buffers and a machine r, the outcome of an instruction is `due`.
+-- The buffers keep their lengths, and the output after what is written is untouched.
 pub record Does (m : Setting) (due : Step) (values returns output values′ returns′ output′ : List ℕ) (s r : Machine) : Type 0 where
   pub reported : stepOf values′ returns′ output′ r ≡ due
   pub held : Held m values′ returns′ output′ r

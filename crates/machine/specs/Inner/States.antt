@@ -15,7 +15,8 @@ unfoldable pub wordsFrom : List ℕ → ℕ → ℕ → List ℕ
 wordsFrom values base zero = []
 wordsFrom values base (suc n) = getD values (base + n) 0 ∷ wordsFrom values base n
 
--- The frames that wait, the nearest first, below a base: a return place has two words, the address to go on at and the frame's own base.
+-- The frames that wait, the nearest first, below a base: a return place has two words, the address
+-- to go on at and the frame's own base.
 unfoldable pub waiting : List ℕ → List ℕ → ℕ → ℕ → List Caller
 waiting values returns base zero = []
 waiting values returns base (suc zero) = []
@@ -46,7 +47,8 @@ goesOn = 0
 abbrev pub hasEnded : ℕ
 hasEnded = 1
 
--- What has become of an instruction: it goes on; it has ended, and the word kept, if one is, is the frame's top; or it is refused.
+-- What has become of an instruction: it goes on; it has ended, and the word kept, if one is, is the
+-- frame's top; or it is refused.
 unfoldable pub stepOf : (values returns output : List ℕ) → Machine → Step
 stepOf values returns output s =
     elim (eqb (s .stop) goesOn) [

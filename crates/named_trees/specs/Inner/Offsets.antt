@@ -1,4 +1,5 @@
--- The place of the tree that a code names, whatever a table and an input hold: 0 where there is none.
+-- The place of the tree that a code names, whatever a table and an input hold: 0 where there is
+-- none.
 use Prim.Native.Nat.{ℕ, zero, suc, _+_, _-_, _/_, _%_}
 use mathlib.Core.Bool.{true, false}
 use mathlib.Core.List.{List}
@@ -13,8 +14,8 @@ unfoldable pub afterTree : ℕ → Result ℕ → ℕ
 afterTree p (done bytes) = p + bytes
 afterTree p (refusal number offset) = 0
 
--- A tree of the node at offset p: the left one, for an even j, stands after the node's tag, the right one after the left one. The tree at `known` ends at
--- `end`.
+-- A tree of the node at offset p: the left one, for an even j, stands after the node's tag, the
+-- right one after the left one. The tree at `known` ends at `end`.
 unfoldable pub partAt : List ℕ → (known end p j : ℕ) → ℕ
 partAt input known end p j =
     elim (leb (length input) p) [
@@ -28,7 +29,8 @@ partAt input known end p j =
 
 -- In a frame whose own tree is at `own`.
 module _ (T input : List ℕ) (own known end : ℕ) where
-  -- Code 0 is the frame's own tree. Another's node is the tree that a Case looks at, which has a smaller code: so codes up to n take n steps.
+  -- Code 0 is the frame's own tree. Another's node is the tree that a Case looks at, which has a
+  -- smaller code: so codes up to n take n steps.
   unfoldable pub offsetWithin : (n code : ℕ) → ℕ
   offsetWithin zero code = own
   offsetWithin (suc n) code =

@@ -1,4 +1,5 @@
--- `nodes::node_row` meets its contract: the nodes below record k have passed, so those from k on say what all do. What is left of them falls.
+-- `nodes::node_row` meets its contract: the nodes below record k have passed, so those from k on
+-- say what all do. What is left of them falls.
 use Prim.Native.Nat.{_-_}
 use Rattle.formats.specs.Results.{verdict}
 use Rattle.formats.specs.Rows.{nodeRow}

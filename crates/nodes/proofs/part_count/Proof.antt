@@ -1,4 +1,5 @@
--- `nodes::part_count` meets its contract: the parts are counted in each case; a function has as many arguments as its record says.
+-- `nodes::part_count` meets its contract: the parts are counted in each case; a function has as
+-- many arguments as its record says.
 use borrow.Author.Needs.{needs}
 use Rattle.nodes.proofs.Nodes.{parts-counted}
 use Rattle.nodes.proofs.part_count.Statement.{statement}

@@ -1,4 +1,5 @@
--- `part_locations::note_case` meets its contract: only a part with two tree names more changes the stack.
+-- `part_locations::note_case` meets its contract: only a part with two tree names more changes the
+-- stack.
 use borrow.Author.Needs.{needs}
 use Rattle.part_locations.proofs.Parts.{notes}
 use Rattle.part_locations.proofs.note_case.Statement.{statement}

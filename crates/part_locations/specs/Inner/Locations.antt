@@ -1,4 +1,5 @@
--- Where the parts of a record stand, whatever its own place: what `stepwise/specs/Inner/Rows` says of them, with counts that are 64-bit numbers.
+-- Where the parts of a record stand, whatever its own place: what `stepwise/specs/Inner/Rows` says
+-- of them, with counts that are 64-bit numbers.
 use Prim.Native.Nat.{ℕ, zero, suc, _+_, _-_, _%_, _^_}
 use mathlib.Core.Bool.{Bool, true, false}
 use mathlib.Core.List.{List, []}
@@ -50,7 +51,8 @@ keepsInside Node i keeps = keeps
 keepsInside (Case a) i keeps = keeps
 keepsInside (Call a b) i keeps = capped (keeps + i)
 
--- Where part i of the record r stands, which has so many parts: by what the part is, and by the record's kind. (Of the functions only the arity counts, and of the place not its Cases.)
+-- Where part i of the record r stands, which has so many parts: by what the part is, and by the
+-- record's kind. (Of the functions only the arity counts, and of the place not its Cases.)
 unfoldable pub partIn : Part → Kind → (r i count : ℕ) → Location → Location
 partIn part kind r i count p =
     record {
@@ -74,7 +76,8 @@ argumentIn r keeps last names depth =
       depth = depth;
     }
 
--- On entering a part of the record r, which stands in so many node parts of Cases: the stack of these Cases.
+-- On entering a part of the record r, which stands in so many node parts of Cases: the stack of
+-- these Cases.
 unfoldable pub noted : Part → (r depth : ℕ) → List ℕ → List ℕ
 noted aNumber r depth cases = cases
 noted aTree r depth cases = cases

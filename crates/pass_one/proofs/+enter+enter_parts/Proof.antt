@@ -1,5 +1,6 @@
--- The proof of the cycle of calls {enter, enter_parts}. The measure is twice the records left up to the end, and one more for the parts: these begin
--- after their own record, each at the record that the one before it came to. Each way out is a law of proofs/Expressions.antt.
+-- The proof of the cycle of calls {enter, enter_parts}. The measure is twice the records left up to
+-- the end, and one more for the parts: these begin after their own record, each at the record that
+-- the one before it came to. Each way out is a law of proofs/Expressions.antt.
 use Prim.Native.Nat.{ℕ, _+_, _-_, _*_, _<_}
 use native.Mathlib.Omega.{arith}
 use borrow.Author.Needs.{needs}

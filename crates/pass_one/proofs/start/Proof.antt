@@ -1,4 +1,5 @@
--- `pass_one::start` meets its contract: the fields of the function's record give its parameters and its sort.
+-- `pass_one::start` meets its contract: the fields of the function's record give its parameters and
+-- its sort.
 use borrow.Author.Needs.{needs}
 use Rattle.pass_one.proofs.Functions.{started}
 use Rattle.pass_one.proofs.start.Statement.{statement}

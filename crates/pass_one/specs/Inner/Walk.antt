@@ -78,7 +78,8 @@ pub record Entered (s : List ℕ) (k end : ℕ) (c : Scope) (r : Walked) : Type 
   pub is : (e : Expr) (here : Here s end k e)
       → reported r ≡ onValue (λ u. k + size e) (passOver (here .signed) (entered (scopeOf c) k e))
 
--- The parts of a record from part i on, so many in all, the next of them at record k: for the kind whose parts these are.
+-- The parts of a record from part i on, so many in all, the next of them at record k: for the kind
+-- whose parts these are.
 pub record EnteredParts (s : List ℕ) (parts : Parts) (i count k end : ℕ) (c : Scope) (r : Walked) : Type 0 where
   pub went : (next : ℕ) → r ≡ To next → Went k end next
   pub is : (kind : Kind) (ps : List Placed) (m : ℕ) (here : HereRow s end k ps m)

@@ -1,4 +1,5 @@
--- `pass_two::pass` meets its contract: the functions below j have passed, so those from j on say what all do. What is left of them falls.
+-- `pass_two::pass` meets its contract: the functions below j have passed, so those from j on say
+-- what all do. What is left of them falls.
 use Prim.Native.Nat.{_-_}
 use borrow.Author.Needs.{needs}
 use denote.Ref.{now}

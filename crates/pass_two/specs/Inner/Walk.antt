@@ -31,7 +31,8 @@ pub record Stand : Type 0 where
 abbrev pub stand : ℕ → List ℕ → Stand
 stand next trees = record { trees = trees; next = next }
 
--- What was found: the trees then pending and the record come to, or the refusal's number and its record.
+-- What was found: the trees then pending and the record come to, or the refusal's number and its
+-- record.
 abbrev pub found : Checked → Result Stand
 found c = onValue (λ u. stand (c .next) (listOf (c .pending))) (verdictResult (c .verdict))
 

@@ -1,4 +1,5 @@
--- `pending::is_same` meets its contract: the names below i are the same, and i grows up to the length.
+-- `pending::is_same` meets its contract: the names below i are the same, and i grows up to the
+-- length.
 use Prim.Native.Nat.{_-_}
 use borrow.Author.Needs.{needs}
 use Rattle.pending.proofs.Laws.{Alike, compared}

@@ -1,4 +1,5 @@
--- `pending::put_two` meets its contract: two more do not fit, or the left tree's name is written last.
+-- `pending::put_two` meets its contract: two more do not fit, or the left tree's name is written
+-- last.
 use borrow.Author.Needs.{needs, length-unmapped}
 use Rattle.pending.proofs.Laws.{puts}
 use Rattle.pending.proofs.put_two.Statement.{statement}

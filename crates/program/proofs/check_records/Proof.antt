@@ -1,4 +1,5 @@
--- `program::check_records` meets its contract: the first row that refuses does so for all, and where the others pass the prefix form decides.
+-- `program::check_records` meets its contract: the first row that refuses does so for all, and
+-- where the others pass the prefix form decides.
 use borrow.Author.Needs.{needs}
 use Rattle.program.proofs.Rows.{rows-said}
 use Rattle.program.proofs.check_records.Statement.{statement}

@@ -1,5 +1,5 @@
--- `program::prefix_row` meets its contract: the functions below j are one expression each, so those from j on, whose records begin at
--- the first, say what all do. What is left of them falls.
+-- `program::prefix_row` meets its contract: the functions below j are one expression each, so those
+-- from j on, whose records begin at the first, say what all do. What is left of them falls.
 use Prim.Native.Nat.{_-_}
 use Rattle.program.proofs.Bodies.{Bodied, bodies-checked}
 use borrow.Author.Needs.{needs}

@@ -14,7 +14,8 @@ use Rattle.formats.specs.Inner.Fields.{headerIn, arityIn, nodeIn}
 abbrev pub Arities : List ℕ → (ℕ → ℕ) → Type 0
 Arities s arity = (b : ℕ) → b < headerIn s .functions → arity b ≡ arityIn s b
 
--- Whether the records from the first up to the end, where they are nodes, are exactly one expression.
+-- Whether the records from the first up to the end, where they are nodes, are exactly one
+-- expression.
 pub record IsOne (s : List ℕ) (first end : ℕ) (one : Bool) : Type 0 where
   pub is : (arity : ℕ → ℕ) (ks : List Kind) → Arities s arity → each (nodeIn s) (end - first) first ≡ done ks
       → check one prefixForm first tt ≡ verdict (exactlyOne first (exprsOf arity ks))

@@ -1,4 +1,5 @@
--- `record_rows::first_record` meets its contract: the counts below j are summed. What is left of them falls.
+-- `record_rows::first_record` meets its contract: the counts below j are summed. What is left of
+-- them falls.
 use Prim.Native.Nat.{_-_}
 use borrow.Author.Needs.{needs}
 use Rattle.record_rows.proofs.Halves.{Counting, firsts}

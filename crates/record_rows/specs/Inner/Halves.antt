@@ -1,4 +1,5 @@
--- The first half of the row of a record, over flat records s, whatever these are: what `stepwise/specs/Inner/Rows` says of it, as 16-bit words.
+-- The first half of the row of a record, over flat records s, whatever these are: what
+-- `stepwise/specs/Inner/Rows` says of it, as 16-bit words.
 use Prim.Native.Nat.{ℕ, _+_, _%_}
 use mathlib.Core.List.{List}
 use lib.ListN.{take}
@@ -12,7 +13,8 @@ use Rattle.record_rows.specs.declared.Own.{Own}
 unfoldable pub firstIn : List ℕ → ℕ → ℕ
 firstIn s b = 1 + headerIn s .functions + countsFrom b s 0
 
--- Const's number modulo 2^16, Var's word, the word of a label that a Case names, the first record of the function that a Call calls.
+-- Const's number modulo 2^16, Var's word, the word of a label that a Case names, the first record
+-- of the function that a Call calls.
 unfoldable pub operandIn : List ℕ → (names : ℕ) → Kind → ℕ
 operandIn s names (Const i) = i % 65536
 operandIn s names (Var a) = a

@@ -1,5 +1,6 @@
--- `refusal::number_of` meets its contract. In each arm the refusal is known to be the arm's, and the arm's numeral is what `number` computes to there.
--- `tie.spec` asks of each arm first that the refusal is the arm's, and then, again arm by arm, for the number.
+-- `refusal::number_of` meets its contract. In each arm the refusal is known to be the arm's, and
+-- the arm's numeral is what `number` computes to there. `tie.spec` asks of each arm first that the
+-- refusal is the arm's, and then, again arm by arm, for the number.
 use Prim.Native.Nat.{ℕ}
 use mathlib.Core.Path.{_≡_, sym, ap, _∙_}
 use borrow.Author.Needs.{needs}

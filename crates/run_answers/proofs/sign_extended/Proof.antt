@@ -1,4 +1,5 @@
--- `run_answers::sign_extended` meets its contract: a law of proofs/Extended.antt for each half of the words.
+-- `run_answers::sign_extended` meets its contract: a law of proofs/Extended.antt for each half of
+-- the words.
 use borrow.Author.Needs.{needs}
 use Rattle.run_answers.proofs.Extended.{extended-ways}
 use Rattle.run_answers.proofs.sign_extended.Statement.{statement}

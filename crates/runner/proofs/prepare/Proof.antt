@@ -1,4 +1,5 @@
--- `runner::prepare` meets its contract: work words are missing, or the translator says what comes before the run.
+-- `runner::prepare` meets its contract: work words are missing, or the translator says what comes
+-- before the run.
 use borrow.Author.Needs.{needs}
 use Rattle.runner.proofs.Laws.{prepare-ways}
 use Rattle.runner.proofs.prepare.Statement.{statement}

@@ -1,4 +1,5 @@
--- `runner::run` meets its contract: the call is refused before its run, or the code that was prepared is run.
+-- `runner::run` meets its contract: the call is refused before its run, or the code that was
+-- prepared is run.
 use borrow.Author.Needs.{needs}
 use denote.Ref.{now}
 use native.Mathlib.Omega.{arith}

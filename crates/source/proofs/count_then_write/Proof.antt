@@ -1,4 +1,5 @@
--- `source::count_then_write` meets its contract: the first walk gives the answer, and the second one writes the result.
+-- `source::count_then_write` meets its contract: the first walk gives the answer, and the second
+-- one writes the result.
 use borrow.Author.Needs.{needs}
 use Rattle.source.proofs.Runs.{evaluates}
 use Rattle.source.proofs.count_then_write.Statement.{statement}

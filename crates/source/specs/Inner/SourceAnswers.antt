@@ -27,7 +27,8 @@ use Rattle.source.specs.declared.SourceAnswer.{SourceAnswer}
 abbrev pub sourceAnswer : SourceAnswer → Due
 sourceAnswer a = record { outcome = verdictResult (a .verdict); begun = a .begun; bytesWritten = a .written; number = a .number }
 
--- An evaluation that should give this: its answer, and every byte of the output. Its refusals are none of those that come before it.
+-- An evaluation that should give this: its answer, and every byte of the output. Its refusals are
+-- none of those that come before it.
 pub record Gave (due : SourceRan) (output′ : List ℕ) (r : SourceAnswer) : Type 0 where
   pub answer : sourceAnswer r ≡ due .answer
   pub output : output′ ≡ due .output
@@ -44,7 +45,8 @@ pub record Room (l : List ℕ) (r : ℕ) : Type 0 where
 
 -- ---- The outcome of the steps
 
--- The result's bytes written from the output's start, its number reported; 17 where they do not fit.
+-- The result's bytes written from the output's start, its number reported; 17 where they do not
+-- fit.
 unfoldable pub reportedResult : ℕ → Reported → List ℕ → SourceRan
 reportedResult begun t output =
     elim (leb (length (t .bytes)) (length output)) [
@@ -75,7 +77,8 @@ pub record Evaluates (T input : List ℕ) (first fuel : ℕ) (output output′ v
 
 -- ---- the call
 
--- A call: its answer, every byte of the output, and the work words, which are free after a run and untouched where the call is refused before it.
+-- A call: its answer, every byte of the output, and the work words, which are free after a run and
+-- untouched where the call is refused before it.
 pub record Sourced (due : SourceRan) (output′ values values′ returns returns′ : List ℕ) (r : SourceAnswer) : Type 0 where
   pub answer : sourceAnswer r ≡ due .answer
   pub output : output′ ≡ due .output

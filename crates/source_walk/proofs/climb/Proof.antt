@@ -1,4 +1,5 @@
--- `source_walk::climb` meets its contract: what holds before a turn of the loop holds after it, and the weight falls.
+-- `source_walk::climb` meets its contract: what holds before a turn of the loop holds after it, and
+-- the weight falls.
 use borrow.Author.Needs.{needs}
 use Rattle.source_walk.specs.Inner.Loop.{weightOf}
 use Rattle.source_walk.proofs.Loop.{Climbing, climbs, climb-lengths}

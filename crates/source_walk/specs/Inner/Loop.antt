@@ -1,4 +1,5 @@
--- The walk of the source run as a function of table, input, fuel and the lent buffers, whatever these hold.
+-- The walk of the source run as a function of table, input, fuel and the lent buffers, whatever
+-- these hold.
 use Prim.Native.Nat.{ℕ, zero, suc, _+_, _*_, _<_}
 use mathlib.Core.Bool.{true, false}
 use mathlib.Core.List.{List}
@@ -78,7 +79,8 @@ module _ (T input : List ℕ) where
 
 -- ---- the whole walk
 
--- What a walk that stops at this stage answers. A program's rows lead to no stage that is stuck, so what has not ended is a call too many.
+-- What a walk that stops at this stage answers. A program's rows lead to no stage that is stuck, so
+-- what has not ended is a call too many.
 unfoldable pub finished : Stage → ℕ → Walked
 finished s begun =
     elim (eqb (s .mode) hasEnded) [
@@ -132,7 +134,8 @@ pub record OpensOne (T input values values′ returns returns′ : List ℕ) (s 
 pub record Turns (T input output output′ values values′ returns returns′ : List ℕ) (s r : Stage) : Type 0 where
   pub moves : Moves (turned T input (run output values returns s)) output output′ values values′ returns returns′ r
 
--- The walk: its answer, and every byte and word of the lent buffers. An output is shorter than 2^63.
+-- The walk: its answer, and every byte and word of the lent buffers. An output is shorter than
+-- 2^63.
 pub record Walks (T input : List ℕ) (first fuel : ℕ) (output output′ values values′ returns returns′ : List ℕ) (r : Walked) : Type 0 where
   pub answer : r ≡ walked T input first fuel output values returns .answer
   pub output-is : output′ ≡ walked T input first fuel output values returns .last .output

@@ -66,7 +66,8 @@ abbrev pub inState : State → (mode r number written : ℕ) → Stage
 inState t mode r number written =
     record { mode = mode; node = r; number = number; calls = t .calls; tree = t .tree; known = t .known; end = t .end; written = written }
 
--- The stage of a turn that follows the stage s. A turn without a state leaves the frame as it was, and one without a record the record.
+-- The stage of a turn that follows the stage s. A turn without a state leaves the frame as it was,
+-- and one without a record the record.
 unfoldable pub stageOf : Stage → Turn → Stage
 stageOf s (begin r t) = inState t toBegin r 0 (s .written)
 stageOf s (finished r x t) = inState t isFinished r x (s .written)
@@ -93,7 +94,8 @@ returnsOf returns (ended x) = returns
 returnsOf returns (deep r) = returns
 returnsOf returns stuck = returns
 
--- A step from the stage s to the turn t: the stage r and the words after it (primed). The words keep their number.
+-- A step from the stage s to the turn t: the stage r and the words after it (primed). The words
+-- keep their number.
 pub record Reaches (t : Turn) (values values′ returns returns′ : List ℕ) (s r : Stage) : Type 0 where
   pub stage : r ≡ stageOf s t
   pub words : values′ ≡ wordsOf values t

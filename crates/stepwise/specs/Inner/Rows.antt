@@ -1,7 +1,9 @@
--- A table with a row for each record of a program: what the source run looks at when a record begins, and when it is finished.
+-- A table with a row for each record of a program: what the source run looks at when a record
+-- begins, and when it is finished.
 --
--- A frame of the source run has 16 words: its named numbers stand from the first word up, numbers kept for later (an Add's left number, a Call's
--- earlier arguments) from the last word down. So the word of each number is known for each record.
+-- A frame of the source run has 16 words: its named numbers stand from the first word up, numbers
+-- kept for later (an Add's left number, a Call's earlier arguments) from the last word down. So the
+-- word of each number is known for each record.
 use Prim.Native.Nat.{ℕ, zero, suc, _+_, _-_, _*_, _/_, _%_}
 use mathlib.Core.Bool.{true, false}
 use mathlib.Core.List.{List, [], _∷_, _++_}
@@ -18,7 +20,8 @@ use Rattle.meaning.specs.OpenCalls.{firstRecord}
 abbrev pub whole : ℕ
 whole = 0
 
--- Its number is put on a word, and the next part begins: Add's first part, Let's, an argument but the last.
+-- Its number is put on a word, and the next part begins: Add's first part, Let's, an argument but
+-- the last.
 abbrev pub kept : ℕ
 kept = 1
 
@@ -101,8 +104,9 @@ actionOf Node = tagsNode
 actionOf (Case a) = looksAtTree
 actionOf (Call a b) = callsFunction
 
--- What stands in place of a tree name: 0 for the frame's own tree, 2c + 1 for the left tree and 2c + 2 for the right one of the tree that the Case at
--- record c looks at. Names count along the path: the frame's tree, then two for each Case in whose node part the record stands.
+-- What stands in place of a tree name: 0 for the frame's own tree, 2c + 1 for the left tree and 2c
+-- + 2 for the right one of the tree that the Case at record c looks at. Names count along the path:
+-- the frame's tree, then two for each Case in whose node part the record stands.
 unfoldable pub codeOf : List ℕ → ℕ → ℕ
 codeOf cases zero = 0
 codeOf cases (suc j) = suc (2 * getD cases (j / 2) 0 + j % 2)
@@ -190,7 +194,8 @@ module _ (entry arity : ℕ → ℕ) where
 
   -- ---- rows
 
-  -- Const's number modulo 2^16, Var's word, the word of a label that a Case names, the first record of the function that a Call calls.
+  -- Const's number modulo 2^16, Var's word, the word of a label that a Case names, the first record
+  -- of the function that a Call calls.
   unfoldable pub operandOf : Location → Kind → ℕ
   operandOf p (Const i) = i % 65536
   operandOf p (Var a) = a

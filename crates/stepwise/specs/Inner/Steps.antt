@@ -1,7 +1,9 @@
 -- The steps of the source evaluation over the rows of a program.
 --
--- A record begins; it is finished, with its number (0 for a tree); or a call opens. A frame's tree is known by its offset in the input, and every other tree
--- that is named by the way from there. A frame's numbers stand on 16 words; a call that waits has two return words, its record and its frame's tree.
+-- A record begins; it is finished, with its number (0 for a tree); or a call opens. A frame's tree
+-- is known by its offset in the input, and every other tree that is named by the way from there. A
+-- frame's numbers stand on 16 words; a call that waits has two return words, its record and its
+-- frame's tree.
 use Prim.Native.Nat.{ℕ, zero, suc, _+_, _-_, _*_, _/_, _%_, _<_}
 use mathlib.Core.Bool.{Bool, true, false, _&&_}
 use mathlib.Core.List.{List, [], _∷_}
@@ -28,8 +30,9 @@ mostWaiting = 1023
 abbrev pub recordLimit : ℕ
 recordLimit = 2048
 
--- The lent words, how many calls wait, and the offset of the frame's tree. Of one tree that was passed the end is known: it begins at `known` and ends at
--- `end` (both 0 as long as there is none: no tree that is looked for begins at 0).
+-- The lent words, how many calls wait, and the offset of the frame's tree. Of one tree that was
+-- passed the end is known: it begins at `known` and ends at `end` (both 0 as long as there is none:
+-- no tree that is looked for begins at 0).
 pub record State : Type 0 where
   pub words : List ℕ
   pub returns : List ℕ
@@ -83,8 +86,9 @@ afterAt T r = field T r 7
 
 -- ---- the offset of a named tree
 
--- `Found T input s code p`: in the frame of s, the tree of this code is at offset p of the input. A left tree stands after its node's tag, a right tree
--- after the left one, whose end is known or is to be found. The Case that looks at the node is an earlier record, so its own code is smaller.
+-- `Found T input s code p`: in the frame of s, the tree of this code is at offset p of the input. A
+-- left tree stands after its node's tag, a right tree after the left one, whose end is known or is
+-- to be found. The Case that looks at the node is an earlier record, so its own code is smaller.
 pub data Found (T input : List ℕ) (s : State) : ℕ → ℕ → Type 0 where
   the-own : Found T input s 0 (s .tree)
   the-left : (c p : ℕ) → treeAt T c < suc (2 * c) → p < length input → Found T input s (treeAt T c) p → Found T input s (suc (2 * c)) (suc p)
@@ -124,7 +128,8 @@ withWord s slot x =
 abbrev pub withEnd : State → ℕ → ℕ → State
 withEnd s known end = record { words = s .words; returns = s .returns; calls = s .calls; tree = s .tree; known = known; end = end }
 
--- The first n arguments of a call, on words from `slot` down of the frame at word `base`, put on the first words of the next frame.
+-- The first n arguments of a call, on words from `slot` down of the frame at word `base`, put on
+-- the first words of the next frame.
 unfoldable pub copied : List ℕ → ℕ → ℕ → ℕ → List ℕ
 copied words base slot zero = words
 copied words base slot (suc n) =
@@ -133,7 +138,8 @@ copied words base slot (suc n) =
 
 -- ---- a record begins
 
--- By the tag of the tree at offset p: a label is put on its word, and the leaf part begins; or the node part does.
+-- By the tag of the tree at offset p: a label is put on its word, and the leaf part begins; or the
+-- node part does.
 unfoldable pub looking : List ℕ → List ℕ → ℕ → ℕ → State → Turn
 looking T input p r s =
     elim (ltb p (length input)) [
@@ -145,7 +151,8 @@ looking T input p r s =
       | false ↦ stuck
     ]
 
--- By the record's action: a number is given; a tree is looked at, at offset p; a call without arguments opens; else the first part begins.
+-- By the record's action: a number is given; a tree is looked at, at offset p; a call without
+-- arguments opens; else the first part begins.
 unfoldable pub beginning : List ℕ → List ℕ → ℕ → ℕ → State → Turn
 beginning T input p r s =
     elim (eqb (actionAt T r) givesConstant) [
@@ -171,12 +178,14 @@ emittedFirst T r = elim (eqb (actionAt T r) tagsNode) [ true ↦ nodeTag ∷ [] 
 
 -- ---- a record is finished
 
--- Whether the Call at record r is on the right tree of a node that is its frame's own tree, at offset own.
+-- Whether the Call at record r is on the right tree of a node that is its frame's own tree, at
+-- offset own.
 unfoldable pub onRight : List ℕ → List ℕ → ℕ → ℕ → Bool
 onRight T input r own =
     eqb (treeAt T r % 2) 0 && (ltb 0 (treeAt T r) && (eqb (treeAt T ((treeAt T r - 1) / 2)) 0 && (ltb own (length input) && eqb (getD input own 0) nodeTag)))
 
--- Where that node begins, if the end of the right tree, at offset `tree`, is known, and so the node's end is: else what is known stays.
+-- Where that node begins, if the end of the right tree, at offset `tree`, is known, and so the
+-- node's end is: else what is known stays.
 unfoldable pub knownAfter : List ℕ → List ℕ → ℕ → ℕ → State → ℕ
 knownAfter T input r own s = elim (eqb (s .known) (s .tree) && onRight T input r own) [ true ↦ own | false ↦ s .known ]
 
@@ -237,7 +246,8 @@ rising T input r x s =
 unfoldable pub emittedLast : List ℕ → ℕ → ℕ → List ℕ
 emittedLast T r x = elim (eqb (roleAt T r) labelled) [ true ↦ tokens (leaf x) | false ↦ [] ]
 
--- While records are finished this falls: the parent is an earlier record, and a call that closes leaves fewer that wait.
+-- While records are finished this falls: the parent is an earlier record, and a call that closes
+-- leaves fewer that wait.
 unfoldable pub weight : Turn → ℕ
 weight (begin r s) = 0
 weight (finished r x s) = suc (65536 * s .calls + r)

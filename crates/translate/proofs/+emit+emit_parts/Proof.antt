@@ -1,5 +1,6 @@
--- The proof of the cycle of calls {lay, lay_parts}. The measure is the records left, doubled, so that at the same record the parts are above the first
--- of them. Each way out is a law of proofs/Walk.
+-- The proof of the cycle of calls {lay, lay_parts}. The measure is the records left, doubled, so
+-- that at the same record the parts are above the first of them. Each way out is a law of
+-- proofs/Walk.
 use Prim.Native.Nat.{ℕ, _+_, _-_, _*_, _<_}
 use borrow.Author.Needs.{needs}
 use borrow.Fn.Kinds.{In}

@@ -1,4 +1,5 @@
--- `translate::start` meets its contract: the fields of the function's record give its parameters and its sort.
+-- `translate::start` meets its contract: the fields of the function's record give its parameters
+-- and its sort.
 use borrow.Author.Needs.{needs}
 use Rattle.translate.proofs.Functions.{started}
 use Rattle.translate.proofs.start.Statement.{statement}

@@ -1,4 +1,5 @@
--- `translate::translate_file` meets its contract: what the blocks gave stands at the start of the space, and the translator goes over it.
+-- `translate::translate_file` meets its contract: what the blocks gave stands at the start of the
+-- space, and the translator goes over it.
 use borrow.Author.Needs.{needs}
 use lib.Seq.{length-take-le}
 use Rattle.translate.proofs.Calls.{file-ways}

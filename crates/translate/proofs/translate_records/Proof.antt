@@ -1,4 +1,5 @@
--- `translate::translate_records` meets its contract: the checks refuse, the buffer is too short, or all functions are emitted.
+-- `translate::translate_records` meets its contract: the checks refuse, the buffer is too short, or
+-- all functions are emitted.
 use borrow.Author.Needs.{needs}
 use Rattle.translate.proofs.Calls.{records-ways}
 use Rattle.translate.proofs.translate_records.Statement.{statement}

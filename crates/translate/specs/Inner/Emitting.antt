@@ -1,4 +1,5 @@
--- How an expression's code is emitted: by the column "code" as data (formats, CodeColumn). It comes to Templates' code: proofs/Column.
+-- How an expression's code is emitted: by the column "code" as data (formats, CodeColumn). It comes
+-- to Templates' code: proofs/Column.
 use Prim.Native.Nat.{ℕ, suc, _*_}
 use mathlib.Core.List.{List, [], _∷_, _++_, map}
 use Rattle.formats.specs.Inner.CodeColumn.{Item, Template, itemsBefore}
@@ -10,7 +11,8 @@ use Rattle.translation.specs.Templates.{code, codeEnd}
 use Rattle.code_scope.specs.Inner.Around.{Around, partAround}
 use Rattle.emit_items.specs.Inner.Operations.{operationFor}
 
--- Instructions written from an address of a part of the code buffer on; untouched where they do not all fit.
+-- Instructions written from an address of a part of the code buffer on; untouched where they do not
+-- all fit.
 unfoldable pub emittedAt : List ℕ → ℕ → List Operation → List ℕ
 emittedAt s a ops = written s (recordBytes * a) (flat (map instructionOf ops))
 
@@ -19,8 +21,9 @@ unfoldable pub past : List Item → ℕ → ℕ
 past [] a = a
 past (x ∷ xs) a = past xs (suc a)
 
--- The code of a record with these parts and this template from part i on, with what stands before each part and after them all, the next of it at
--- address a. `last` is where the last part begins, `whole` is after the whole.
+-- The code of a record with these parts and this template from part i on, with what stands before
+-- each part and after them all, the next of it at address a. `last` is where the last part begins,
+-- `whole` is after the whole.
 unfoldable pub partsCode : (entries arity : ℕ → ℕ) → Parts → Template → Around → (last whole i a : ℕ) → List Placed → List Operation
 partsCode entries arity parts t x last whole i a [] = map (operationFor entries arity x last whole) (t .last)
 partsCode entries arity parts t x last whole i a (p ∷ ps) =

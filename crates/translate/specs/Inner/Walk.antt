@@ -1,5 +1,6 @@
--- What the functions answer that lay code down, over flat records s, a table of entries, and a part of the code buffer that begins at address `base`:
--- `code` holds its bytes at entry and `after` those at exit.
+-- What the functions answer that lay code down, over flat records s, a table of entries, and a part
+-- of the code buffer that begins at address `base`: `code` holds its bytes at entry and `after`
+-- those at exit.
 use Prim.Native.Nat.{ℕ, _+_, _-_, _*_, _≤_, _<_}
 use mathlib.Core.List.{List}
 use mathlib.Core.Path.{_≡_}
@@ -27,7 +28,8 @@ use Rattle.translate.specs.declared.Shape.{Shape}
 use Rattle.translate.specs.declared.Table.{Table}
 use Rattle.translate.specs.Inner.Emitting.{emittedAt, partsCode, lastPart, beyondParts}
 
--- Addresses stay small up to the end, by the instructions that a record emits at most. Those still due at this record are `due`.
+-- Addresses stay small up to the end, by the instructions that a record emits at most. Those still
+-- due at this record are `due`.
 pub record Small (k end base at due : ℕ) : Type 0 where
   pub inside : Inside k end
   pub base-small : base ≤ mostEmitted
@@ -75,7 +77,8 @@ pub record Emits (s entries code′ after : List ℕ) (base at k end : ℕ) (c :
 
 -- ---- parts
 
--- Parts of a record from number i on stand one after the other, the next at record k and the last before record m, and pass pass one.
+-- Parts of a record from number i on stand one after the other, the next at record k and the last
+-- before record m, and pass pass one.
 pub record EnteringParts (s : List ℕ) (shape : Shape) (i k end : ℕ) (c : Scope) (ps : List Placed) (m : ℕ) : Type 0 where
   pub kind : Kind
   pub here : HereRow s end k ps m
@@ -135,7 +138,8 @@ pub record Tabled (s : List ℕ) (t : Table) : Type 0 where
   pub count : (program : Program) → checkedRecords s ≡ done program → t .count ≡ length (operationsOf program)
   pub small : t .count ≤ mostEmitted
 
--- The records are a program that both passes accept, the table has its entries, and its code has room.
+-- The records are a program that both passes accept, the table has its entries, and its code has
+-- room.
 pub record Ready (s entries code′ : List ℕ) : Type 0 where
   pub checked : verdict (checkedRecords s) ≡ done tt
   pub entered : (program : Program) → checkedRecords s ≡ done program → (b : ℕ) → b < length (program .functions) → entriesIn entries b ≡ entryOf program b

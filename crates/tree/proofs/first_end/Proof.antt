@@ -1,4 +1,5 @@
--- `tree::first_end` meets its contract: the first tree begins at the start of the buffer, with room for the most nodes.
+-- `tree::first_end` meets its contract: the first tree begins at the start of the buffer, with room
+-- for the most nodes.
 use borrow.Author.Needs.{needs}
 use Rattle.formats.proofs.Endings.{end-first}
 use Rattle.tree.proofs.first_end.Statement.{statement}

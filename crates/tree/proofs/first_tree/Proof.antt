@@ -1,5 +1,5 @@
--- `tree::first_tree` meets its contract: what `first_end` reports is the first tree's end, and the bytes up to it are its own, since each element of
--- the input is a byte.
+-- `tree::first_tree` meets its contract: what `first_end` reports is the first tree's end, and the
+-- bytes up to it are its own, since each element of the input is a byte.
 use borrow.Author.Needs.{needs}
 use native.Mathlib.Omega.{arith}
 use denote.Ref.{now}

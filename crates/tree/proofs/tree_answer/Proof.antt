@@ -1,4 +1,5 @@
--- `tree::tree_answer` meets its contract: what `first_end` reports is the first tree's end, or where it is refused.
+-- `tree::tree_answer` meets its contract: what `first_end` reports is the first tree's end, or
+-- where it is refused.
 use borrow.Author.Needs.{needs}
 use Rattle.tree.proofs.Laws.{first-reported}
 use Rattle.tree.proofs.tree_answer.Statement.{statement}

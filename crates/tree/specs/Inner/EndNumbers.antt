@@ -8,7 +8,8 @@ use Rattle.formats.specs.Refusals.{inputEnded, notATag, tooDeep}
 use Rattle.formats.specs.Tokens.{noByte, aLeaf, aNode, other, tagAt}
 use Rattle.formats.specs.Results.{Result, done, refusal}
 
--- A tree is refused where a tag is due, and what stands there says why: nothing, a leaf whose label is cut, a node too deep, or no tag.
+-- A tree is refused where a tag is due, and what stands there says why: nothing, a leaf whose label
+-- is cut, a node too deep, or no tag.
 unfoldable pub refusalAt : List ℕ → ℕ → Result ℕ
 refusalAt s p =
     elim (tagAt s p) [
@@ -27,6 +28,7 @@ pub record InBuffer (s : List ℕ) (p : ℕ) : Type 0 where
 abbrev pub allOnes : ℕ
 allOnes = 2 ^ 64 - 1
 
--- A number up to the buffer's length is an end. A larger one is all ones less the position of the tag where the tree is refused.
+-- A number up to the buffer's length is an end. A larger one is all ones less the position of the
+-- tag where the tree is refused.
 unfoldable pub endReported : List ℕ → ℕ → Result ℕ
 endReported s r = elim (leb r (length s)) [ true ↦ done r | false ↦ refusalAt s (allOnes - r) ]

@@ -16,7 +16,8 @@ pub record Counts (at : ℕ) (out : List ℕ) : Type 0 where
   pub few : at < countLimit → at ≡ length out
   pub many : countLimit ≤ at → countLimit ≤ length out
 
--- The walk's answer and the output after it: the value's number and its bytes, as far as they fit; or the number that the evaluation stops with.
+-- The walk's answer and the output after it: the value's number and its bytes, as far as they fit;
+-- or the number that the evaluation stops with.
 pub data Reports (o : Outcome Reported) (output output′ : List ℕ) (r : Walked) : Type 0 where
   reports-value :
       (out : List ℕ)

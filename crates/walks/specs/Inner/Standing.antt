@@ -28,13 +28,15 @@ headOf (nodeOf p q) = Node
 headOf (caseOf a p q) = Case a
 headOf (call a b xs) = Call a b
 
--- The records of e stand in s from record k on, and it is an expression of a program with these signatures.
+-- The records of e stand in s from record k on, and it is an expression of a program with these
+-- signatures.
 pub record Holds (s : List ℕ) (gs : List Signature) (k : ℕ) (e : Expr) : Type 0 where
   pub stands : Stands s k (prefix e)
   pub in-range : Every (InRange (headerIn s .functions)) (prefix e)
   pub applied : Applied (arityOf gs) e
 
--- Expressions stand one after the other, the first from record k on, and the last ends before record m.
+-- Expressions stand one after the other, the first from record k on, and the last ends before
+-- record m.
 pub data Row (s : List ℕ) (gs : List Signature) : ℕ → List Placed → ℕ → Type 0 where
   end : {k : ℕ} → Row s gs k [] k
   next : {k m : ℕ} {e : Expr} {ps : List Placed} → Holds s gs k e → Row s gs (k + size e) ps m → Row s gs k (placedAt k e ∷ ps) m
@@ -50,7 +52,8 @@ unfoldable pub walkParts : ℕ → List ℕ → List Placed → Result (List ℕ
 walkParts n Δ [] = done Δ
 walkParts n Δ (p ∷ ps) = andThen (walk n (p .at-record) Δ (p .expr)) (λ Δ′. walkParts n Δ′ ps)
 
--- The bodies of functions from number j on stand in s, the first from record k on, with these signatures.
+-- The bodies of functions from number j on stand in s, the first from record k on, with these
+-- signatures.
 pub data Bodies (s : List ℕ) (gs : List Signature) : ℕ → ℕ → List Function → Type 0 where
   no-more : {j k : ℕ} → Bodies s gs j k []
   one-more :

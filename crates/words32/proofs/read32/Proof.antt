@@ -1,5 +1,5 @@
--- `words32::read32` meets its contract. Where the number is whole, the bytes read are those from the offset on, and they stand for the number there.
--- Elsewhere it reads as 0.
+-- `words32::read32` meets its contract. Where the number is whole, the bytes read are those from
+-- the offset on, and they stand for the number there. Elsewhere it reads as 0.
 use native.Mathlib.Nat.{add-zero}
 use native.Mathlib.Omega.{arith}
 use borrow.Author.Needs.{needs}

@@ -1,4 +1,5 @@
--- `words32::word32` meets its contract: the sum is the one by which `numberOf` is defined, and bytes are small enough for it to fit.
+-- `words32::word32` meets its contract: the sum is the one by which `numberOf` is defined, and
+-- bytes are small enough for it to fit.
 use Rattle.formats.specs.Numbers.{numberOf}
 use native.Mathlib.Omega.{arith}
 use borrow.Author.Needs.{needs}

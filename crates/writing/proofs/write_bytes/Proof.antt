@@ -1,4 +1,5 @@
--- `writing::write_bytes` meets its contract. Before each turn as many bytes as were passed stand where they belong; what is left of them falls.
+-- `writing::write_bytes` meets its contract. Before each turn as many bytes as were passed stand
+-- where they belong; what is left of them falls.
 use Prim.Native.Nat.{_-_}
 use lib.ListN.{length}
 use Rattle.writing.proofs.Copied.{Copied, copied}

@@ -20,8 +20,9 @@ pub fn page(project: &Project, closure: &Closure) -> String {
     page += &wrapped("", "", INTRODUCTION);
     page += &totals(project, closure);
     page += &promises();
+    let calls = Closure::of_calls(project);
     for place in &project.crates {
-        page += &section(project, closure, place);
+        page += &section(project, closure, &calls, place);
     }
     page += &declared(closure);
     page += &kit(closure);
@@ -55,7 +56,19 @@ fn totals(project: &Project, closure: &Closure) -> String {
         counted(lines, "line"),
         number(believed),
     );
-    format!("\n{}", wrapped("", "", &said))
+    let [files, lines, believed, definitions] =
+        figures(project, &Closure::of_calls(project).files());
+    let calls = format!(
+        "Whoever calls Hogvax, and asks no more than what the contracts of the calls and of the \
+         listing program say, need believe {} in {} with {}, of which {} are theirs: the column \
+         \"calls\" has how many of a file's definitions these are. The rest is what the \
+         statements of the demands say besides.",
+        counted(definitions, "definition"),
+        counted(files, "file"),
+        counted(lines, "line"),
+        number(believed),
+    );
+    format!("\n{}\n{}", wrapped("", "", &said), wrapped("", "", &calls))
 }
 
 fn promises() -> String {
@@ -107,12 +120,13 @@ fn follow<'a>(closure: &'a Closure, files: &[&'a str], file: &'a str, ordered: &
     ordered.push(file);
 }
 
-fn section(project: &Project, closure: &Closure, place: &str) -> String {
+fn section(project: &Project, closure: &Closure, calls: &Closure, place: &str) -> String {
     let files = reading_order(project, closure, place);
     if files.is_empty() {
         return String::new();
     }
-    let mut table = "| file | lines | believed | definitions |\n|---|---|---|---|\n".to_owned();
+    let mut table =
+        "| file | lines | believed | definitions | calls |\n|---|---|---|---|---|\n".to_owned();
     let mut list = String::new();
     for name in files {
         let (file, items) = (&project.files[name], &closure.files()[name]);
@@ -122,7 +136,8 @@ fn section(project: &Project, closure: &Closure, place: &str) -> String {
             .unwrap()
             .trim_start_matches("/specs/");
         let (lines, definitions) = (file.lines, items.len());
-        table += &format!("| `{short}` | {lines} | {believed} | {definitions} |\n");
+        let called = calls.files().get(name).map_or(0, BTreeSet::len);
+        table += &format!("| `{short}` | {lines} | {believed} | {definitions} | {called} |\n");
         let names = quoted(items.iter().map(|item| &file.items[*item].name));
         let said = format!("**{short}.** {} {names}", sentence(&file.about));
         list += &wrapped("- ", "  ", &said);

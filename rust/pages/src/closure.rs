@@ -32,18 +32,16 @@ pub struct Closure {
 impl Closure {
     /// What the promises of the project rest on.
     pub fn new(project: &Project) -> Closure {
-        let mut roots = Vec::new();
-        for contracts in &CONTRACTS {
-            roots.extend(contract_roots(
-                project,
-                contracts.place,
-                contracts.functions,
-            ));
-        }
+        let mut roots = all_contracts(project);
         for (place, name) in STATEMENTS {
             roots.extend(definitions(project, place, name));
         }
         Closure::from(project, roots)
+    }
+
+    /// What the contracts of the calls and of the listing program alone rest on.
+    pub fn of_calls(project: &Project) -> Closure {
+        Closure::from(project, all_contracts(project))
     }
 
     pub fn from(project: &Project, roots: Vec<Believed>) -> Closure {
@@ -98,6 +96,12 @@ pub fn contract_roots(project: &Project, place: &str, functions: &[&str]) -> Vec
         }
     }
     roots
+}
+
+fn all_contracts(project: &Project) -> Vec<Believed> {
+    let contracts = CONTRACTS.iter();
+    let roots = contracts.map(|one| contract_roots(project, one.place, one.functions));
+    roots.flatten().collect()
 }
 
 /// The definitions of this name in a file: one, if the name is not a constructor's or a field's.

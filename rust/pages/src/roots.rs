@@ -23,7 +23,7 @@ pub const CONTRACTS: [Contracts; 2] = [
 ];
 
 /// The statements of the demands: file and name.
-pub const STATEMENTS: [(&str, &str); 10] = [
+pub const STATEMENTS: [(&str, &str); 12] = [
     ("formats/specs/Reader", "TreeReader"),
     ("formats/specs/ProgramFiles", "ProgramFiles"),
     ("rules/specs/OrderChecker", "OrderChecker"),
@@ -34,4 +34,6 @@ pub const STATEMENTS: [(&str, &str); 10] = [
     ("translation/specs/CodeLimits", "CodeLimitsHold"),
     ("translation/specs/ThisCall", "AllRunnable"),
     ("translation/specs/Listing", "NeverShort"),
+    ("formats/specs/Written", "Wrote"),
+    ("run_answers/specs/RunAnswer", "Extends"),
 ];

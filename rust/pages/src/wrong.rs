@@ -21,40 +21,40 @@ pub const BESIDE: [Beside; 7] = [
     Beside {
         function: "decode: decode",
         others: &[
-            "part_places: inside",
-            "part_places: note_case",
+            "part_locations: inside",
+            "part_locations: note_case",
             "record_rows: own_of",
         ],
         why: "a row of its table is what these give for a record",
     },
     Beside {
         function: "file_calls: pack",
-        others: &["files: write_file", "answers: tell"],
+        others: &["files: write_file", "answers: report"],
         why: ANSWERS,
     },
     Beside {
         function: "file_calls: unpack",
-        others: &["files: read_file", "answers: tell"],
+        others: &["files: read_file", "answers: report"],
         why: ANSWERS,
     },
     Beside {
         function: "check_calls: check",
-        others: &["order: check_file", "answers: tell_verdict"],
+        others: &["order: check_file", "answers: report_verdict"],
         why: ANSWERS,
     },
     Beside {
         function: "check_calls: check_records",
-        others: &["pass_two: check_order", "answers: tell_verdict"],
+        others: &["pass_two: check_all_rows", "answers: report_verdict"],
         why: ANSWERS,
     },
     Beside {
         function: "translate_calls: translate",
-        others: &["translate: translate_file", "answers: tell"],
+        others: &["translate: translate_file", "answers: report"],
         why: ANSWERS,
     },
     Beside {
         function: "run_calls: run",
-        others: &["runner: run", "run_answers: tell_run"],
+        others: &["runner: run", "run_answers: report_run"],
         why: ANSWERS,
     },
 ];

@@ -24,26 +24,13 @@ const CHECKS: [(&str, Check); 5] = [
     ),
 ];
 
-/// The checks that do not hold yet: invariants and inner contracts are to move to specs/Inner/.
-const NOT_YET: [&str; 2] = [
-    "every file outside specs/Inner/ has something believed",
-    "every definition of a believed file is believed",
-];
-
 #[test]
 fn what_is_believed_stands_in_its_place() {
     let project = Project::here();
     let closure = Closure::new(&project);
     for (name, check) in CHECKS {
         let faults = check(&project, &closure);
-        if NOT_YET.contains(&name) {
-            assert_ne!(
-                faults, [""; 0],
-                "this holds now, so NOT_YET is too long: {name}"
-            );
-        } else {
-            assert_eq!(faults, [""; 0], "{name}");
-        }
+        assert_eq!(faults, [""; 0], "{name}");
     }
 }
 

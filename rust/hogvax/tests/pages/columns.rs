@@ -1,17 +1,12 @@
 //! The documents' lines are short enough to be read in a terminal: prose has at
 //! most 100 columns, and a table's row at most 180.
 
-use std::path::PathBuf;
-
 use crate::names::documents;
 use crate::trial::text;
 
 const PROSE: usize = 100;
 
 const ROW: usize = 180;
-
-/// These are not held to it.
-const FREE: [&str; 1] = ["PROMISES.md"];
 
 /// The numbers of the lines that are too long, fenced blocks aside.
 fn too_long(text: &str) -> Vec<usize> {
@@ -33,8 +28,7 @@ fn too_long(text: &str) -> Vec<usize> {
 #[test]
 fn no_line_of_a_document_is_too_long() {
     let mut wrong = Vec::new();
-    let is_held = |path: &PathBuf| !FREE.iter().any(|name| path.ends_with(name));
-    for path in documents().into_iter().filter(is_held) {
+    for path in documents() {
         let page = text(path.to_str().unwrap());
         wrong.extend(
             too_long(&page)

@@ -104,7 +104,8 @@ fn the_list_for_a_new_kind_is_whole() {
     let (mut missing, mut found) = (Vec::new(), 0);
     for entry in fs::read_dir(repository("crates")).unwrap() {
         let path = entry.unwrap().path();
-        for file in [files(&path, "specs"), files(&path, "src")].concat() {
+        let folders = ["specs", "specs/Inner", "src"];
+        for file in folders.iter().flat_map(|folder| files(&path, folder)) {
             if goes_by_kind(&fs::read_to_string(&file).unwrap()) {
                 found += 1;
                 let cited = cited(&file);

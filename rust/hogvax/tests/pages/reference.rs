@@ -114,7 +114,7 @@ fn limits_of(place: &str) -> Vec<(String, u64)> {
     let folder = format!("crates/{place}/specs");
     let entries = fs::read_dir(repository(&folder)).unwrap();
     let paths = entries.map(|entry| entry.unwrap().path());
-    let limits = paths.flat_map(|path| {
+    let limits = paths.filter(|path| path.is_file()).flat_map(|path| {
         let file = path.file_stem().unwrap().to_str().unwrap().to_owned();
         let numbers = numbers(&fs::read_to_string(&path).unwrap());
         let limits = numbers

@@ -41,9 +41,19 @@ impl Function<'_> {
             if used.insert(&one.name[..]) {
                 let names = one.body_names();
                 open.extend(names.iter().filter_map(|name| self.source.find(name)));
+                open.extend(self.constants_of(one));
             }
         }
         used
+    }
+
+    /// The constants of its file that the types of a function's parameters name.
+    fn constants_of(&self, one: &Declaration) -> Vec<&Declaration> {
+        let text = one.contract.join(" ");
+        let is_name = |letter: char| letter.is_ascii_uppercase() || letter == '_';
+        let words = text.split(|letter: char| !is_name(letter) && !letter.is_ascii_digit());
+        let long = words.filter(|word| word.len() > 1);
+        long.filter_map(|word| self.source.find(word)).collect()
     }
 
     /// The edits that change it, or what it uses of its own crate.

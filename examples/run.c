@@ -62,7 +62,7 @@ static void print_answer(uint32_t number, const uint64_t *answer) {
     if (number == 0) {
         printf("ended");
     } else {
-        printf("refused %" PRIu32 " %" PRIu64, number, answer[HOGVAX_PLACE]);
+        printf("refused %" PRIu32 " %" PRIu64, number, answer[HOGVAX_POSITION]);
     }
     printf(" units %" PRIu64 " read %" PRIu64 " written %" PRIu64 " number %" PRId64 "\n",
            answer[HOGVAX_UNITS], answer[HOGVAX_READ], answer[HOGVAX_WRITTEN],
@@ -79,12 +79,12 @@ static void print_bytes(const uint8_t *bytes, uint64_t length) {
 /* Runs the program over the tree that begins the tokens, and gives the bytes
  * read; 0 if the run was refused. */
 static uint64_t run(struct bytes program, const uint8_t *tokens, size_t length) {
-    uint64_t answer[HOGVAX_RUN_PLACES] = {0};
+    uint64_t answer[HOGVAX_RUN_SLOTS] = {0};
     uint32_t number = hogvax_run(
         program.start, program.length, tokens, length, UINT64_MAX,
         output, sizeof output, code, sizeof code,
         values, HOGVAX_VALUE_WORDS, returns, HOGVAX_RETURN_WORDS,
-        answer, HOGVAX_RUN_PLACES);
+        answer, HOGVAX_RUN_SLOTS);
     print_answer(number, answer);
     print_bytes(output, answer[HOGVAX_WRITTEN]);
     return number == 0 ? answer[HOGVAX_READ] : 0;
@@ -92,7 +92,7 @@ static uint64_t run(struct bytes program, const uint8_t *tokens, size_t length) 
 
 int main(int count, char **words) {
     struct bytes program, tokens;
-    size_t place = 0;
+    size_t offset = 0;
     if (count != 3) {
         fprintf(stderr, "usage: run PROGRAM TOKENS\n");
         return 2;
@@ -100,11 +100,11 @@ int main(int count, char **words) {
     program = read_file(words[1]);
     tokens = read_file(words[2]);
     do {
-        uint64_t read = run(program, tokens.start + place, tokens.length - place);
+        uint64_t read = run(program, tokens.start + offset, tokens.length - offset);
         if (read == 0) {
             return 1;
         }
-        place += (size_t)read;
-    } while (place < tokens.length);
+        offset += (size_t)read;
+    } while (offset < tokens.length);
     return 0;
 }

@@ -79,7 +79,7 @@ static uint32_t source(struct bytes program, struct bytes tokens,
             program.start, program.length, tokens.start, tokens.length, FUEL,
             output->start, output->length,
             values, HOGVAX_VALUE_WORDS, returns, HOGVAX_RETURN_WORDS,
-            answer, HOGVAX_SOURCE_PLACES);
+            answer, HOGVAX_SOURCE_SLOTS);
         if (number != HOGVAX_OUTPUT_FULL || room == MOST_BYTES) {
             return number;
         }
@@ -91,7 +91,7 @@ static void print_answer(uint32_t number, const uint64_t *answer) {
     if (number == 0) {
         printf("ended");
     } else {
-        printf("refused %" PRIu32 " %" PRIu64, number, answer[HOGVAX_PLACE]);
+        printf("refused %" PRIu32 " %" PRIu64, number, answer[HOGVAX_POSITION]);
     }
     printf(" begun %" PRIu64 " written %" PRIu64 " number %" PRId64 "\n",
            answer[HOGVAX_SOURCE_BEGUN], answer[HOGVAX_SOURCE_WRITTEN],
@@ -107,7 +107,7 @@ static void print_bytes(const uint8_t *bytes, uint64_t length) {
 
 int main(int count, char **words) {
     struct bytes program, tokens, output = {NULL, 0};
-    uint64_t answer[HOGVAX_SOURCE_PLACES] = {0};
+    uint64_t answer[HOGVAX_SOURCE_SLOTS] = {0};
     uint32_t number;
     if (count != 3) {
         fprintf(stderr, "usage: source PROGRAM TOKENS\n");

@@ -1,7 +1,7 @@
 /* Hogvax: small tree programs over token streams. The calls of libhogvax_c.a.
  *
- * docs/CALLING.md shows C programs that use them. docs/REFERENCE.md says what
- * trees, programs, code and refusals are.
+ * docs/CALLING.md shows C programs that use them. docs/REFERENCE.md, the
+ * specification, says what trees, programs, code and refusals are.
  *
  * What is proved: every function of the library meets its contract, which is in
  * crates/hogvax_c/src/lib.rt. Whatever the buffers lent to it hold, a call gives
@@ -33,14 +33,14 @@
  * What each call answers, hogvax_tree_bytes aside:
  *
  * - It returns 0, or the number of the refusal, one of enum hogvax_refusal.
- * - The rest of the answer goes to the first places of `answer`: as many as
- *   HOGVAX_ANSWER_PLACES, HOGVAX_RUN_PLACES or HOGVAX_SOURCE_PLACES says, which
- *   the comment on the call names. Places after them are untouched.
- * - With fewer places the call returns HOGVAX_SPACE_TOO_SHORT, whatever else is
+ * - The rest of the answer goes to the first slots of `answer`: as many as
+ *   HOGVAX_ANSWER_SLOTS, HOGVAX_RUN_SLOTS or HOGVAX_SOURCE_SLOTS says, which
+ *   the comment on the call names. Slots after them are untouched.
+ * - With fewer slots the call returns HOGVAX_SPACE_TOO_SHORT, whatever else is
  *   wrong, and touches no buffer.
- * - Later versions may append places, and these constants then grow; no place
+ * - Later versions may append slots, and these constants then grow; no slot
  *   gets another meaning. So use the constants, and compile again for another
- *   version of the library: one that needs more places than it is lent returns
+ *   version of the library: one that needs more slots than it is lent returns
  *   HOGVAX_SPACE_TOO_SHORT, as above.
  *
  * Numbers of several bytes have their low byte first in every buffer of bytes.
@@ -82,17 +82,17 @@ extern "C" {
 #define HOGVAX_VALUE_WORDS 16384
 #define HOGVAX_RETURN_WORDS 2048
 
-/* The places of an answer: of a stream run (hogvax_perform, hogvax_run), of a
+/* The slots of an answer: of a stream run (hogvax_perform, hogvax_run), of a
  * source run (hogvax_source), and of every other call. */
-#define HOGVAX_RUN_PLACES 5
-#define HOGVAX_SOURCE_PLACES 4
-#define HOGVAX_ANSWER_PLACES 2
+#define HOGVAX_RUN_SLOTS 5
+#define HOGVAX_SOURCE_SLOTS 4
+#define HOGVAX_ANSWER_SLOTS 2
 
-/* ---- Places of an answer */
+/* ---- Slots of an answer */
 
-/* The place of the refusal, 0 if there is none. What it counts depends on the
- * number; see enum hogvax_refusal. */
-#define HOGVAX_PLACE 0
+/* The position of the refusal, 0 if there is none. What it counts depends on
+ * the number; see enum hogvax_refusal. */
+#define HOGVAX_POSITION 0
 
 /* Of a call that is no run: the length in bytes of the tree, or of what was
  * written; 0 on a refusal, and for a check. */
@@ -117,11 +117,11 @@ extern "C" {
 
 /* ---- Refusals */
 
-/* The numbers of docs/REFERENCE.md. Where several apply, the call reports the
- * first in the order that its comment gives. */
+/* The numbers of docs/REFERENCE.md, "The table of refusals". Where several
+ * apply, the call reports the first in the order that its comment gives. */
 enum hogvax_refusal {
-    /* The program file. For 2 and 3 the place is the block, counted from 0; for
-     * 5 to 7 it is the record, counted from 0, which is the header. */
+    /* The program file. For 2 and 3 the position is the block, counted from 0;
+     * for 5 to 7 it is the record, counted from 0, which is the header. */
     HOGVAX_FILE_LENGTH = 1,       /* not 1 to 17 whole blocks; at 0 */
     HOGVAX_BLOCK_CHECK = 2,       /* a block's check does not hold */
     HOGVAX_BLOCK_FIELD = 3,       /* another field of it, or an unused record */
@@ -129,16 +129,17 @@ enum hogvax_refusal {
     HOGVAX_FUNCTION_FIELD = 5,    /* a field, or the sum of the node counts */
     HOGVAX_NODE_FIELD = 6,        /* the kind, an unused field, or b */
     HOGVAX_PREFIX_FORM = 7,       /* a function is not one expression */
-    /* The two passes. The place is a record. */
+    /* The two passes. The position is a record. */
     HOGVAX_WRONG_TYPE = 8,        /* a number for a tree, or a tree for a number */
     HOGVAX_NOT_BOUND = 9,         /* a name is not bound */
     HOGVAX_TOO_MANY_WORDS = 10,   /* more than 16 words in a function */
     HOGVAX_OUT_OF_ORDER = 11,     /* trees not taken in order, or left over */
     HOGVAX_TOO_MANY_PENDING = 12, /* a Case with 16 trees pending */
-    /* A lent buffer. The place is 0. */
+    /* A lent buffer. The position is 0. */
     HOGVAX_SPACE_TOO_SHORT = 13,  /* code, file, records, work or answer */
-    /* A stream run: the place is the bytes read. A source run: for 14, 17 and 18
-     * the place is 0. The tree reader: 15, 16 and 20, at a byte of the input. */
+    /* A stream run: the position is the bytes read. A source run: for 14, 17
+     * and 18 the position is 0. The tree reader: 15, 16 and 20, at a byte of the
+     * input. */
     HOGVAX_FUEL_USED_UP = 14,     /* units, or expressions begun, are the fuel */
     HOGVAX_INPUT_ENDED = 15,      /* a tag or a whole label is not there */
     HOGVAX_NOT_A_TAG = 16,        /* a byte is not 1 or 2 */
@@ -159,7 +160,7 @@ size_t hogvax_tree_bytes(const uint8_t *input, size_t input_len);
  * Refused with 15 at the start of the tag or label that is not whole, or with 16
  * or 20 at the tag. Bytes after the tree do not matter.
  *
- * The answer has HOGVAX_ANSWER_PLACES places. */
+ * The answer has HOGVAX_ANSWER_SLOTS slots. */
 uint32_t hogvax_tree(const uint8_t *input, size_t input_len,
                      uint64_t *answer, size_t answer_len);
 
@@ -172,7 +173,7 @@ uint32_t hogvax_tree(const uint8_t *input, size_t input_len,
  * blocks; `file` is then untouched. HOGVAX_LONGEST_FILE bytes are always
  * enough.
  *
- * The answer has HOGVAX_ANSWER_PLACES places. */
+ * The answer has HOGVAX_ANSWER_SLOTS slots. */
 uint32_t hogvax_pack(const uint8_t *records, size_t records_len,
                      uint8_t *file, size_t file_len,
                      uint64_t *answer, size_t answer_len);
@@ -185,7 +186,7 @@ uint32_t hogvax_pack(const uint8_t *records, size_t records_len,
  * program's; `records` is then untouched. HOGVAX_LONGEST_RECORDS bytes are
  * always enough.
  *
- * The answer has HOGVAX_ANSWER_PLACES places. */
+ * The answer has HOGVAX_ANSWER_SLOTS slots. */
 uint32_t hogvax_unpack(const uint8_t *file, size_t file_len,
                        uint8_t *records, size_t records_len,
                        uint64_t *answer, size_t answer_len);
@@ -198,7 +199,7 @@ uint32_t hogvax_unpack(const uint8_t *file, size_t file_len,
  * Refused with 1 to 7; then, record by record, with 9, 8 or 10; then with 11 or
  * 12.
  *
- * The answer has HOGVAX_ANSWER_PLACES places. */
+ * The answer has HOGVAX_ANSWER_SLOTS slots. */
 uint32_t hogvax_check(const uint8_t *file, size_t file_len,
                       uint64_t *answer, size_t answer_len);
 
@@ -217,7 +218,7 @@ uint32_t hogvax_check_records(const uint8_t *records, size_t records_len,
  * program's code; `code` is then untouched. HOGVAX_LONGEST_CODE bytes are always
  * enough.
  *
- * The answer has HOGVAX_ANSWER_PLACES places. */
+ * The answer has HOGVAX_ANSWER_SLOTS slots. */
 uint32_t hogvax_translate(const uint8_t *file, size_t file_len,
                           uint8_t *code, size_t code_len,
                           uint64_t *answer, size_t answer_len);
@@ -229,14 +230,14 @@ uint32_t hogvax_translate(const uint8_t *file, size_t file_len,
  * at the return of its first frame.
  *
  * Refused with 13 where `values` or `returns` are too few, HOGVAX_VALUE_WORDS
- * and HOGVAX_RETURN_WORDS; all places of the answer are then 0, and `output` is
+ * and HOGVAX_RETURN_WORDS; all slots of the answer are then 0, and `output` is
  * untouched. Otherwise refused with 14 to 19 at an instruction: with 14 first,
  * then 19, then the others. That instruction is not counted and changes nothing.
  *
  * What the run wrote stays at the start of `output`, also if it was refused; the
  * rest of `output` is untouched.
  *
- * The answer has HOGVAX_RUN_PLACES places. */
+ * The answer has HOGVAX_RUN_SLOTS slots. */
 uint32_t hogvax_perform(const uint8_t *code, size_t code_len,
                         const uint8_t *input, size_t input_len,
                         uint64_t fuel,
@@ -252,8 +253,8 @@ uint32_t hogvax_perform(const uint8_t *code, size_t code_len,
  *
  * Refused as by hogvax_check; then with 13 where `code` is shorter than this
  * program's code, or `values` or `returns` are too few, HOGVAX_VALUE_WORDS and
- * HOGVAX_RETURN_WORDS. All places of the answer after HOGVAX_PLACE are then 0,
- * and `output` and `code` are untouched.
+ * HOGVAX_RETURN_WORDS. All slots of the answer after HOGVAX_POSITION are then
+ * 0, and `output` and `code` are untouched.
  *
  * Otherwise the code goes to the start of `code` and stays there, whatever the
  * run answers; the rest of `code` is untouched. The run ends or is refused with
@@ -267,7 +268,7 @@ uint32_t hogvax_perform(const uint8_t *code, size_t code_len,
  * or HOGVAX_NUMBER is the number. For several trees, one after another, begin the
  * next call's input HOGVAX_READ bytes further on.
  *
- * The answer has HOGVAX_RUN_PLACES places. */
+ * The answer has HOGVAX_RUN_SLOTS slots. */
 uint32_t hogvax_run(const uint8_t *file, size_t file_len,
                     const uint8_t *input, size_t input_len,
                     uint64_t fuel,
@@ -288,18 +289,18 @@ uint32_t hogvax_run(const uint8_t *file, size_t file_len,
  * Refused with 1 to 7, then with 9, 8 or 10, as by hogvax_check; then with 13
  * where `values` or `returns` are too few, HOGVAX_VALUE_WORDS and
  * HOGVAX_RETURN_WORDS; then with 15, 16 or 20 where no tree begins `input`, as
- * by hogvax_tree. All places of the answer after HOGVAX_PLACE are then 0.
+ * by hogvax_tree. All slots of the answer after HOGVAX_POSITION are then 0.
  * Otherwise refused with 14 before an expression, or with 18 at a call, after its
  * arguments; last with 17 where the evaluation ended and `output` is shorter than
- * the result. For these three HOGVAX_PLACE is 0, and HOGVAX_SOURCE_BEGUN counts
- * the expressions begun.
+ * the result. For these three HOGVAX_POSITION is 0, and HOGVAX_SOURCE_BEGUN
+ * counts the expressions begun.
  *
  * A tree goes to the start of `output`, as tokens; the rest of `output` is
  * untouched. All of it is untouched where the result is a number, and on every
  * refusal. 17 does not say how long the result is: call again with a longer
  * output.
  *
- * The answer has HOGVAX_SOURCE_PLACES places. */
+ * The answer has HOGVAX_SOURCE_SLOTS slots. */
 uint32_t hogvax_source(const uint8_t *file, size_t file_len,
                        const uint8_t *input, size_t input_len,
                        uint64_t fuel,

@@ -1,10 +1,10 @@
-//! The header's constants for places and work words beside the library: each
-//! call needs as many places as its constant says, fills them and no more, and
+//! The header's constants for slots and work words beside the library: each
+//! call needs as many slots as its constant says, fills them and no more, and
 //! touches nothing where it has fewer.
 
 use super::*;
 
-/// Makes each call with a place less than its constant, then with all. Last,
+/// Makes each call with a slot less than its constant, then with all. Last,
 /// calls that are refused before their run leave the work words as they were.
 /// The exit status is 0, or 1 with the test that failed on standard error.
 const TEXT: &str = r#"
@@ -38,39 +38,39 @@ static struct lent {
 static size_t code_length = sizeof lent.code;
 static size_t value_words = HOGVAX_VALUE_WORDS, return_words = HOGVAX_RETURN_WORDS;
 
-static uint32_t tree(size_t places) {
-    return hogvax_tree(input, input_length, lent.answer, places);
+static uint32_t tree(size_t slots) {
+    return hogvax_tree(input, input_length, lent.answer, slots);
 }
-static uint32_t pack(size_t places) {
-    return hogvax_pack(grow, sizeof grow, lent.file, sizeof lent.file, lent.answer, places);
+static uint32_t pack(size_t slots) {
+    return hogvax_pack(grow, sizeof grow, lent.file, sizeof lent.file, lent.answer, slots);
 }
-static uint32_t unpack(size_t places) {
+static uint32_t unpack(size_t slots) {
     return hogvax_unpack(program, program_length, lent.records, sizeof lent.records,
-                         lent.answer, places);
+                         lent.answer, slots);
 }
-static uint32_t check(size_t places) {
-    return hogvax_check(program, program_length, lent.answer, places);
+static uint32_t check(size_t slots) {
+    return hogvax_check(program, program_length, lent.answer, slots);
 }
-static uint32_t check_records(size_t places) {
-    return hogvax_check_records(grow, sizeof grow, lent.answer, places);
+static uint32_t check_records(size_t slots) {
+    return hogvax_check_records(grow, sizeof grow, lent.answer, slots);
 }
-static uint32_t translate(size_t places) {
-    return hogvax_translate(program, program_length, lent.code, code_length, lent.answer, places);
+static uint32_t translate(size_t slots) {
+    return hogvax_translate(program, program_length, lent.code, code_length, lent.answer, slots);
 }
-static uint32_t perform(size_t places) {
+static uint32_t perform(size_t slots) {
     return hogvax_perform(stream, stream_length, input, input_length, 100,
                           lent.output, sizeof lent.output, lent.values, value_words,
-                          lent.returns, return_words, lent.answer, places);
+                          lent.returns, return_words, lent.answer, slots);
 }
-static uint32_t run(size_t places) {
+static uint32_t run(size_t slots) {
     return hogvax_run(program, program_length, input, input_length, 100,
                       lent.output, sizeof lent.output, lent.code, code_length,
-                      lent.values, value_words, lent.returns, return_words, lent.answer, places);
+                      lent.values, value_words, lent.returns, return_words, lent.answer, slots);
 }
-static uint32_t source(size_t places) {
+static uint32_t source(size_t slots) {
     return hogvax_source(program, program_length, input, input_length, 100,
                          lent.output, sizeof lent.output, lent.values, value_words,
-                         lent.returns, return_words, lent.answer, places);
+                         lent.returns, return_words, lent.answer, slots);
 }
 
 /* Fills what is lent. */
@@ -81,67 +81,67 @@ static void refill(void) {
 
 /* The program with these records, and this tree. */
 static void prepare(const uint8_t *records, size_t length, const uint8_t *bytes, size_t count) {
-    uint64_t answer[HOGVAX_ANSWER_PLACES] = {0};
-    TEST(hogvax_pack(records, length, program, sizeof program, answer, HOGVAX_ANSWER_PLACES) == 0);
+    uint64_t answer[HOGVAX_ANSWER_SLOTS] = {0};
+    TEST(hogvax_pack(records, length, program, sizeof program, answer, HOGVAX_ANSWER_SLOTS) == 0);
     program_length = (size_t)answer[HOGVAX_BYTES];
     memcpy(input, bytes, count);
     input_length = count;
 }
 
-/* A call that needs so many places. */
-static void needs(uint32_t (*call)(size_t), size_t places) {
+/* A call that needs so many slots. */
+static void needs(uint32_t (*call)(size_t), size_t slots) {
     size_t k;
     refill();
-    TEST(call(places - 1) == HOGVAX_SPACE_TOO_SHORT);
+    TEST(call(slots - 1) == HOGVAX_SPACE_TOO_SHORT);
     TEST(memcmp(&lent, &before, sizeof lent) == 0);
-    TEST(call(places) == 0);
+    TEST(call(slots) == 0);
     for (k = 0; k < 8; k++) {
-        TEST((lent.answer[k] == before.answer[k]) == (k >= places));
+        TEST((lent.answer[k] == before.answer[k]) == (k >= slots));
     }
 }
 
 /* A call with this refusal leaves all but its answer as it was. */
-static void leaves(uint32_t (*call)(size_t), size_t places, uint32_t number) {
+static void leaves(uint32_t (*call)(size_t), size_t slots, uint32_t number) {
     refill();
-    TEST(call(places) == number);
+    TEST(call(slots) == number);
     memset(lent.answer, FILLER, sizeof lent.answer);
     TEST(memcmp(&lent, &before, sizeof lent) == 0);
 }
 
 /* Either run, refused with this number. */
 static void both_leave(uint32_t number) {
-    leaves(run, HOGVAX_RUN_PLACES, number);
-    leaves(source, HOGVAX_SOURCE_PLACES, number);
+    leaves(run, HOGVAX_RUN_SLOTS, number);
+    leaves(source, HOGVAX_SOURCE_SLOTS, number);
 }
 
 /* Every run with so many work words is refused with 13. */
 static void too_few(size_t values, size_t returns) {
     value_words = values, return_words = returns;
     both_leave(HOGVAX_SPACE_TOO_SHORT);
-    leaves(perform, HOGVAX_RUN_PLACES, HOGVAX_SPACE_TOO_SHORT);
+    leaves(perform, HOGVAX_RUN_SLOTS, HOGVAX_SPACE_TOO_SHORT);
     value_words = HOGVAX_VALUE_WORDS, return_words = HOGVAX_RETURN_WORDS;
 }
 
 int main(void) {
-    uint64_t answer[HOGVAX_ANSWER_PLACES] = {0};
+    uint64_t answer[HOGVAX_ANSWER_SLOTS] = {0};
     prepare(grow, sizeof grow, tokens, sizeof tokens);
     TEST(hogvax_translate(program, program_length, stream, sizeof stream,
-                          answer, HOGVAX_ANSWER_PLACES) == 0);
+                          answer, HOGVAX_ANSWER_SLOTS) == 0);
     stream_length = (size_t)answer[HOGVAX_BYTES];
-    needs(tree, HOGVAX_ANSWER_PLACES);
-    needs(pack, HOGVAX_ANSWER_PLACES);
-    needs(unpack, HOGVAX_ANSWER_PLACES);
-    needs(check, HOGVAX_ANSWER_PLACES);
-    needs(check_records, HOGVAX_ANSWER_PLACES);
-    needs(translate, HOGVAX_ANSWER_PLACES);
-    needs(perform, HOGVAX_RUN_PLACES);
-    needs(run, HOGVAX_RUN_PLACES);
-    needs(source, HOGVAX_SOURCE_PLACES);
+    needs(tree, HOGVAX_ANSWER_SLOTS);
+    needs(pack, HOGVAX_ANSWER_SLOTS);
+    needs(unpack, HOGVAX_ANSWER_SLOTS);
+    needs(check, HOGVAX_ANSWER_SLOTS);
+    needs(check_records, HOGVAX_ANSWER_SLOTS);
+    needs(translate, HOGVAX_ANSWER_SLOTS);
+    needs(perform, HOGVAX_RUN_SLOTS);
+    needs(run, HOGVAX_RUN_SLOTS);
+    needs(source, HOGVAX_SOURCE_SLOTS);
     too_few(HOGVAX_VALUE_WORDS - 1, HOGVAX_RETURN_WORDS);
     too_few(HOGVAX_VALUE_WORDS, HOGVAX_RETURN_WORDS - 1);
     code_length = stream_length - 1;
-    leaves(run, HOGVAX_RUN_PLACES, HOGVAX_SPACE_TOO_SHORT);
-    leaves(translate, HOGVAX_ANSWER_PLACES, HOGVAX_SPACE_TOO_SHORT);
+    leaves(run, HOGVAX_RUN_SLOTS, HOGVAX_SPACE_TOO_SHORT);
+    leaves(translate, HOGVAX_ANSWER_SLOTS, HOGVAX_SPACE_TOO_SHORT);
     code_length = sizeof lent.code;
     program_length--;
     both_leave(HOGVAX_FILE_LENGTH);
@@ -150,14 +150,14 @@ int main(void) {
     both_leave(HOGVAX_BLOCK_CHECK);
     program[0]--;
     input_length--;
-    leaves(source, HOGVAX_SOURCE_PLACES, HOGVAX_INPUT_ENDED);
+    leaves(source, HOGVAX_SOURCE_SLOTS, HOGVAX_INPUT_ENDED);
     input[0] = 3;
-    leaves(source, HOGVAX_SOURCE_PLACES, HOGVAX_NOT_A_TAG);
+    leaves(source, HOGVAX_SOURCE_SLOTS, HOGVAX_NOT_A_TAG);
     memset(input, 2, sizeof input);
     input_length = sizeof input;
-    leaves(source, HOGVAX_SOURCE_PLACES, HOGVAX_TOO_DEEP);
+    leaves(source, HOGVAX_SOURCE_SLOTS, HOGVAX_TOO_DEEP);
     prepare(swap, sizeof swap, tokens, sizeof tokens);
-    leaves(run, HOGVAX_RUN_PLACES, HOGVAX_OUT_OF_ORDER);
+    leaves(run, HOGVAX_RUN_SLOTS, HOGVAX_OUT_OF_ORDER);
     return 0;
 }
 "#;

@@ -73,15 +73,15 @@ const LENGTHS: [(&str, usize); 12] = [
     ("HOGVAX_LONGEST_CODE", hogvax::LONGEST_CODE),
     ("HOGVAX_VALUE_WORDS", VALUE_WORDS),
     ("HOGVAX_RETURN_WORDS", RETURN_WORDS),
-    ("HOGVAX_RUN_PLACES", 5),
-    ("HOGVAX_SOURCE_PLACES", 4),
-    ("HOGVAX_ANSWER_PLACES", 2),
+    ("HOGVAX_RUN_SLOTS", 5),
+    ("HOGVAX_SOURCE_SLOTS", 4),
+    ("HOGVAX_ANSWER_SLOTS", 2),
 ];
 
-/// "place, units, bytes read, bytes written, the number"; "place, begun, bytes
-/// written, the number"; or "place, bytes".
-const PLACES: [(&str, usize); 9] = [
-    ("HOGVAX_PLACE", 0),
+/// "position, units, bytes read, bytes written, the number"; "position, begun, bytes
+/// written, the number"; or "position, bytes".
+const SLOTS: [(&str, usize); 9] = [
+    ("HOGVAX_POSITION", 0),
     ("HOGVAX_BYTES", 1),
     ("HOGVAX_UNITS", 1),
     ("HOGVAX_READ", 2),
@@ -97,7 +97,7 @@ const PLACES: [(&str, usize); 9] = [
 fn the_constants_are_right() {
     let refusals = refusals();
     assert_eq!(refusals.len(), 20);
-    let others = LENGTHS.iter().chain(&PLACES);
+    let others = LENGTHS.iter().chain(&SLOTS);
     let others = others.map(|&(name, value)| (name.to_owned(), value));
     let expected: BTreeMap<String, usize> = others.chain(refusals).collect();
     assert_eq!(values(), expected);

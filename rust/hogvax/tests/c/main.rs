@@ -7,7 +7,7 @@ mod compiler;
 mod constants;
 mod declarations;
 mod example;
-mod places;
+mod slots;
 mod stack;
 
 use std::fs;

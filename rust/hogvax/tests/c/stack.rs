@@ -3,7 +3,7 @@
 
 use super::*;
 
-/// On a thread with 1 MiB of stack, for each call its number and its place.
+/// On a thread with 1 MiB of stack, for each call its number and its position.
 /// Nested Calls use most in both passes and in the source run; in the translator
 /// nested IfZero use most of the shapes that were measured (`docs/DECISIONS.md`).
 const TEXT: &str = r#"
@@ -20,11 +20,11 @@ static uint8_t records[HOGVAX_LONGEST_RECORDS], input[10000], output[10000];
 static uint8_t file[HOGVAX_LONGEST_FILE], code[HOGVAX_LONGEST_CODE];
 static uint32_t values[HOGVAX_VALUE_WORDS];
 static uint64_t returns[HOGVAX_RETURN_WORDS];
-static uint64_t answer[HOGVAX_RUN_PLACES];
+static uint64_t answer[HOGVAX_RUN_SLOTS];
 static size_t records_length, input_length, file_length;
 
 static void print(const char *call, uint32_t number) {
-    printf(" %s %d %d", call, (int)number, (int)answer[HOGVAX_PLACE]);
+    printf(" %s %d %d", call, (int)number, (int)answer[HOGVAX_POSITION]);
 }
 
 /* Appends a record: bytes 0 and 1, bytes 2 to 3, byte 4. */
@@ -85,30 +85,30 @@ static void deep_tree(int depth) {
 static void calls(const char *name) {
     printf("%s:", name);
     print("pack", hogvax_pack(records, records_length, file, sizeof file,
-                              answer, HOGVAX_ANSWER_PLACES));
+                              answer, HOGVAX_ANSWER_SLOTS));
     file_length = (size_t)answer[HOGVAX_BYTES];
     print("unpack", hogvax_unpack(file, file_length, records, sizeof records,
-                                  answer, HOGVAX_ANSWER_PLACES));
-    print("check", hogvax_check(file, file_length, answer, HOGVAX_ANSWER_PLACES));
+                                  answer, HOGVAX_ANSWER_SLOTS));
+    print("check", hogvax_check(file, file_length, answer, HOGVAX_ANSWER_SLOTS));
     print("check_records", hogvax_check_records(records, records_length,
-                                                answer, HOGVAX_ANSWER_PLACES));
+                                                answer, HOGVAX_ANSWER_SLOTS));
     print("translate", hogvax_translate(file, file_length, code, sizeof code,
-                                        answer, HOGVAX_ANSWER_PLACES));
+                                        answer, HOGVAX_ANSWER_SLOTS));
     print("run", hogvax_run(file, file_length, input, input_length, 1000000,
                             output, sizeof output, code, sizeof code,
                             values, HOGVAX_VALUE_WORDS, returns, HOGVAX_RETURN_WORDS,
-                            answer, HOGVAX_RUN_PLACES));
+                            answer, HOGVAX_RUN_SLOTS));
     print("source", hogvax_source(file, file_length, input, input_length, 1000000,
                                   output, sizeof output,
                                   values, HOGVAX_VALUE_WORDS, returns, HOGVAX_RETURN_WORDS,
-                                  answer, HOGVAX_SOURCE_PLACES));
+                                  answer, HOGVAX_SOURCE_SLOTS));
     printf("\n");
 }
 
 static void tree(int depth) {
     deep_tree(depth);
     printf("depth %d:", depth);
-    print("tree", hogvax_tree(input, input_length, answer, HOGVAX_ANSWER_PLACES));
+    print("tree", hogvax_tree(input, input_length, answer, HOGVAX_ANSWER_SLOTS));
     printf(" bytes %d %d\n", (int)answer[HOGVAX_BYTES],
            (int)hogvax_tree_bytes(input, input_length));
 }

@@ -18,9 +18,9 @@ mod plain {
 
     const MOST_DEPTH: usize = 1024;
 
-    fn refuse(number: u32, place: usize) -> Result<usize, Refused> {
-        let place = place as u64;
-        Err(Refused { number, place })
+    fn refuse(number: u32, position: usize) -> Result<usize, Refused> {
+        let position = position as u64;
+        Err(Refused { number, position })
     }
 
     pub fn tree(input: &[u8]) -> Result<usize, Refused> {

@@ -38,19 +38,19 @@ pub use source::{source, source_in, source_into, Sourced};
 pub use translate::{translate, translate_into};
 pub use tree::{first_tree, tree, tree_into};
 
-/// A refusal: its number in document 01's table, and its position, `place`.
+/// A refusal: its number in document 01's table, and its position.
 /// What that counts depends on the number: the tree reader's is a byte of the
 /// input, a program file's is a block or a record, a stream run's is the bytes
 /// read; a source run's own refusals are at 0.
 #[derive(Clone, Copy, Debug, PartialEq, Eq)]
 pub struct Refused {
     pub number: u32,
-    pub place: u64,
+    pub position: u64,
 }
 
 impl fmt::Display for Refused {
     fn fmt(&self, f: &mut fmt::Formatter<'_>) -> fmt::Result {
-        write!(f, "refused {} {}", self.number, self.place)
+        write!(f, "refused {} {}", self.number, self.position)
     }
 }
 
@@ -58,8 +58,8 @@ impl Error for Refused {}
 
 impl Refused {
     /// What a call reported by a number, 0 or the refusal's, and the position.
-    fn told(number: u32, place: u64) -> Option<Refused> {
-        (number != 0).then_some(Refused { number, place })
+    fn told(number: u32, position: u64) -> Option<Refused> {
+        (number != 0).then_some(Refused { number, position })
     }
 }
 

@@ -34,9 +34,9 @@ pub struct Ran {
 impl Ran {
     /// What a call reported by a number, 0 or the refusal's, and in five slots.
     pub(crate) fn told(number: u32, answer: [u64; 5]) -> Ran {
-        let [place, units, read, written, word] = answer;
+        let [position, units, read, written, word] = answer;
         Ran {
-            refused: Refused::told(number, place),
+            refused: Refused::told(number, position),
             units,
             read: read as usize,
             written: written as usize,
@@ -258,10 +258,10 @@ mod tests {
     }
 
     #[test]
-    fn a_refusal_is_told_with_its_place() {
+    fn a_refusal_is_reported_with_its_position() {
         let ran = Ran::told(17, [11, 20, 11, 7, 0]);
-        let (number, place) = (17, 11);
-        assert_eq!(ran.refused, Some(Refused { number, place }));
+        let (number, position) = (17, 11);
+        assert_eq!(ran.refused, Some(Refused { number, position }));
         let line = "refused 17 11 units 20 read 11 written 7 number 0";
         assert_eq!(ran.to_string(), line);
     }

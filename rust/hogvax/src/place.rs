@@ -3,7 +3,9 @@
 use std::error::Error;
 use std::fmt;
 
-/// A place in a text. Lines and columns count from 1; a column is a character.
+/// A place in a text, by line and column. Both count from 1; a column is a
+/// character. It is not the position of a refusal, which is a number: see
+/// [`Refused`](crate::Refused).
 #[derive(Clone, Copy, Debug, PartialEq, Eq, PartialOrd, Ord)]
 pub struct Place {
     pub line: usize,

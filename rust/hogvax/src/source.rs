@@ -22,9 +22,9 @@ pub struct Sourced {
 impl Sourced {
     /// What a call reported by a number, 0 or the refusal's, and in four slots.
     fn told(number: u32, answer: [u64; 4]) -> Sourced {
-        let [place, begun, written, word] = answer;
+        let [position, begun, written, word] = answer;
         Sourced {
-            refused: Refused::told(number, place),
+            refused: Refused::told(number, position),
             begun,
             written: written as usize,
             // 32 bits, sign-extended to 64.
@@ -222,10 +222,10 @@ mod tests {
     }
 
     #[test]
-    fn a_refusal_is_told_with_its_place() {
+    fn a_refusal_is_reported_with_its_position() {
         let sourced = Sourced::told(9, [5, 0, 0, 0]);
-        let (number, place) = (9, 5);
-        assert_eq!(sourced.refused, Some(Refused { number, place }));
+        let (number, position) = (9, 5);
+        assert_eq!(sourced.refused, Some(Refused { number, position }));
         let line = "refused 9 5 begun 0 written 0 number 0";
         assert_eq!(sourced.to_string(), line);
     }

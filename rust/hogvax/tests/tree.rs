@@ -14,15 +14,15 @@ const T: [u8; 11] = [2, 1, 5, 0, 0, 0, 1, 7, 0, 0, 0];
 
 type Answer = Result<usize, Refused>;
 
-fn refused(number: u8, place: usize) -> Answer {
+fn refused(number: u8, position: usize) -> Answer {
     Err(Refused {
         number: number.into(),
-        place: place as u64,
+        position: position as u64,
     })
 }
 
 fn reference_answer(input: &[u8]) -> Answer {
-    reference::tree_end(input).or_else(|refusal| refused(refusal.number, refusal.place))
+    reference::tree_end(input).or_else(|refusal| refused(refusal.number, refusal.position))
 }
 
 /// Both calls give this answer.
@@ -142,9 +142,9 @@ fn every_shape_of_up_to_nine_tips_and_every_cut_of_it() {
 
 #[test]
 fn every_cut_of_tree_t_is_refused_where_it_ends() {
-    let places = [0, 1, 2, 2, 2, 2, 6, 7, 7, 7, 7];
-    for (length, place) in places.into_iter().enumerate() {
-        assert_answer(&T[..length], refused(15, place));
+    let positions = [0, 1, 2, 2, 2, 2, 6, 7, 7, 7, 7];
+    for (length, position) in positions.into_iter().enumerate() {
+        assert_answer(&T[..length], refused(15, position));
     }
     assert_answer(&T, Ok(11));
 }
@@ -254,11 +254,11 @@ fn a_hundred_megabytes() {
 // The answer as numbers
 
 #[test]
-fn an_answer_takes_two_places() {
-    for places in 0..2 {
+fn an_answer_takes_two_slots() {
+    for slots in 0..2 {
         for input in [&T[..], &[], &[3]] {
             let mut answer = [77; 2];
-            assert_eq!(tree_into(input, &mut answer[..places]), 13);
+            assert_eq!(tree_into(input, &mut answer[..slots]), 13);
             assert_eq!(answer, [77; 2]);
         }
     }
@@ -267,7 +267,7 @@ fn an_answer_takes_two_places() {
 #[test]
 fn an_answer_fills_two_places_and_leaves_the_rest() {
     for length in [2, 3, 100] {
-        for (input, number, place, bytes) in [
+        for (input, number, position, bytes) in [
             (&T[..], 0, 0, 11),
             (&T[..8], 15, 7, 0),
             (&[2, 1, 0, 0, 0, 0, 9], 16, 6, 0),
@@ -275,14 +275,14 @@ fn an_answer_fills_two_places_and_leaves_the_rest() {
         ] {
             let mut answer = vec![u64::MAX; length];
             assert_eq!(tree_into(input, &mut answer), number);
-            assert_eq!(answer[..2], [place, bytes]);
+            assert_eq!(answer[..2], [position, bytes]);
             assert!(answer[2..].iter().all(|&word| word == u64::MAX));
         }
     }
 }
 
 #[test]
-fn a_refusal_shows_its_number_and_place() {
+fn a_refusal_shows_its_number_and_position() {
     assert_eq!(tree(&[]).unwrap_err().to_string(), "refused 15 0");
     let refused = tree(&[NODE_TAG; 2_000]).unwrap_err();
     assert_eq!(refused.to_string(), "refused 20 1024");

@@ -86,7 +86,7 @@ fn refused_13() -> (Ran, Trace) {
     let ran = Ran {
         refusal: Some(Refusal {
             number: 13,
-            place: 0,
+            position: 0,
         }),
         units: 0,
         read: 0,

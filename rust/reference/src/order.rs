@@ -103,14 +103,14 @@ impl Fault {
 #[derive(Clone, Copy, Debug, PartialEq, Eq)]
 pub struct Found {
     pub fault: Fault,
-    pub place: usize,
+    pub position: usize,
 }
 
 impl Found {
     pub fn refusal(self) -> Refusal {
         Refusal {
             number: self.fault.number(),
-            place: self.place,
+            position: self.position,
         }
     }
 }

@@ -32,7 +32,7 @@ pub fn run(
     if code.len() < bytes.len() || value_words < VALUE_WORDS || return_words < RETURN_WORDS {
         return refused(Refusal {
             number: BUFFER_TOO_SHORT,
-            place: 0,
+            position: 0,
         });
     }
     code[..bytes.len()].copy_from_slice(&bytes);

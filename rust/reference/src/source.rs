@@ -51,12 +51,12 @@ impl Sourced {
     }
 }
 
-/// `ended` or `refused NUMBER PLACE`, then the counts and the number.
+/// `ended` or `refused NUMBER POSITION`, then the counts and the number.
 impl fmt::Display for Sourced {
     fn fmt(&self, f: &mut fmt::Formatter<'_>) -> fmt::Result {
         match self.refused {
             None => write!(f, "ended")?,
-            Some(Refusal { number, place }) => write!(f, "refused {number} {place}")?,
+            Some(Refusal { number, position }) => write!(f, "refused {number} {position}")?,
         }
         let (begun, written, number) = (self.begun, self.written, self.number);
         write!(f, " begun {begun} written {written} number {number}")

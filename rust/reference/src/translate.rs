@@ -44,7 +44,7 @@ pub fn translate_program(program: &Program) -> Vec<Instruction> {
 /// file gives one line: refused, number, position)".
 pub fn listing(file: &[u8]) -> String {
     match instructions(file) {
-        Err(Refusal { number, place }) => format!("refused {number} {place}\n"),
+        Err(Refusal { number, position }) => format!("refused {number} {position}\n"),
         Ok(instructions) => {
             let heading = format!("code {}\n", instructions.len());
             let lines = instructions.iter().enumerate();

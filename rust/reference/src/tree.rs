@@ -186,16 +186,16 @@ fn take_nodes(tree: &mut Tree, pending: &mut Vec<Tree>) {
     }
 }
 
-/// A refusal: its number and the place, which is a byte for the tree reader,
+/// A refusal: its number and the position, which is a byte for the tree reader,
 /// a block or a record for the rows of a program file.
 #[derive(Clone, Copy, Debug, PartialEq, Eq)]
 pub struct Refusal {
     pub number: u8,
-    pub place: usize,
+    pub position: usize,
 }
 
-pub(crate) fn refuse<T>(number: u8, place: usize) -> Result<T, Refusal> {
-    Err(Refusal { number, place })
+pub(crate) fn refuse<T>(number: u8, position: usize) -> Result<T, Refusal> {
+    Err(Refusal { number, position })
 }
 
 /// "The tree reader takes the first tree of a buffer": the tree and its end,
@@ -266,7 +266,7 @@ pub fn tree_bytes(input: &[u8]) -> &[u8] {
     }
 }
 
-/// "a refusal, which a call beside it names with its place"; none for an
+/// "a refusal, which a call beside it names with its position"; none for an
 /// input that is read.
 pub fn tree_refusal(input: &[u8]) -> Option<Refusal> {
     tree_end(input).err()

@@ -235,10 +235,10 @@ impl<'a> Machine<'a> {
     }
 
     fn answer(&self, units: u64, stop: Stop) -> Ran {
-        let place = self.read as u64;
+        let position = self.read as u64;
         let (refused, units, word) = match stop {
             Stop::Ended(word) => (None, units + 1, word),
-            Stop::Refused(number) => (Some(Refused { number, place }), units, 0),
+            Stop::Refused(number) => (Some(Refused { number, position }), units, 0),
         };
         Ran {
             refused,

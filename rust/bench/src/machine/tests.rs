@@ -28,7 +28,7 @@ fn answer(ran: reference::Ran) -> Ran {
     Ran {
         refused: ran.refusal.map(|refusal| Refused {
             number: refusal.number.into(),
-            place: refusal.place as u64,
+            position: refusal.position as u64,
         }),
         units: ran.units,
         read: ran.read,

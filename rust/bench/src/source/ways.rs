@@ -56,7 +56,7 @@ pub fn sourced(
 fn answer(sourced: reference::Sourced) -> Sourced {
     let refused = sourced.refused.map(|refusal| Refused {
         number: refusal.number.into(),
-        place: refusal.place as u64,
+        position: refusal.position as u64,
     });
     Sourced {
         refused,

@@ -103,7 +103,7 @@ impl Found {
     fn general(number: u32, record: usize) -> Found {
         let refused = Refused {
             number,
-            place: record as u64,
+            position: record as u64,
         };
         Found::new(number, record, general(refused).message)
     }
@@ -129,7 +129,7 @@ impl Found {
     fn refused(&self) -> Refused {
         Refused {
             number: self.number,
-            place: self.explanation.record as u64,
+            position: self.explanation.record as u64,
         }
     }
 }
@@ -166,7 +166,7 @@ fn general(refused: Refused) -> Explanation {
         _ => "the program is refused",
     };
     Explanation {
-        record: usize::try_from(refused.place).unwrap_or(usize::MAX),
+        record: usize::try_from(refused.position).unwrap_or(usize::MAX),
         message: message.to_owned(),
         details: Vec::new(),
     }

@@ -115,7 +115,7 @@ mod tests {
             sizes.push(output.len());
             let full = Refused {
                 number: OUTPUT_FULL,
-                place: 0,
+                position: 0,
             };
             Ran {
                 refused: (output.len() < need).then_some(full),
@@ -184,10 +184,10 @@ mod tests {
         let answer = space(&[]).run(0, |output| {
             sizes.push(output.len());
             output[0] = 7;
-            let (number, place) = (OUTPUT_FULL, 0);
+            let (number, position) = (OUTPUT_FULL, 0);
             let short = output.len() < 3 * MIB;
             Sourced {
-                refused: short.then_some(Refused { number, place }),
+                refused: short.then_some(Refused { number, position }),
                 begun: 9,
                 written: usize::from(!short),
                 number: 0,
@@ -207,7 +207,10 @@ mod tests {
                 runs += 1;
                 output[..3].copy_from_slice(&[7, 8, 9]);
                 Ran {
-                    refused: Some(Refused { number, place: 0 }),
+                    refused: Some(Refused {
+                        number,
+                        position: 0,
+                    }),
                     units: 0,
                     read: 0,
                     written: 2,

@@ -6,7 +6,7 @@ pub struct Refusal {
     pub name: &'static str,
     pub meaning: &'static str,
     /// What the position counts.
-    pub place: &'static str,
+    pub position: &'static str,
     /// An input that is refused so, and the line that reports it. Where a line
     /// with a command stands before it, that command prints it.
     pub example: &'static str,
@@ -21,7 +21,7 @@ pub const REFUSALS: &[Refusal] = &[
         meaning: "\
 A program file has 1 to 17 whole blocks of 512 bytes. This one is empty, longer
 than 8,704 bytes, or ends inside a block.",
-        place: "always 0.",
+        position: "always 0.",
         example: "\
 an empty program file:
   refused 1 0",
@@ -32,7 +32,7 @@ an empty program file:
         meaning: "\
 The 256 16-bit words of a block, low byte first, do not sum to 65,535 modulo
 65,536: some byte of the block is not as it was written.",
-        place: "the block, counted from 0 at the start of the file.",
+        position: "the block, counted from 0 at the start of the file.",
         example: "\
 a file of two blocks, with one byte of the second changed:
   refused 2 1",
@@ -45,7 +45,7 @@ A block's check is right and another field is not. Its block number is not its
 place in the file, its number of blocks is not the file's, its records used are
 not 1 to 63 (in all blocks but the last: not 63), or a record that it does not
 use is not zero.",
-        place: "the block, counted from 0 at the start of the file.",
+        position: "the block, counted from 0 at the start of the file.",
         example: "\
 a file of one block that says there are two, its check being right:
   refused 3 0",
@@ -57,7 +57,7 @@ a file of one block that says there are two, its check being right:
 In record 0 the edition is not 1, the functions are not 1 to 32, the nodes are
 not 1 to 1,024, or bytes 4 to 7 are not zero; or there are not exactly
 1 + functions + nodes records of 8 bytes.",
-        place: "always 0, the header's record.",
+        position: "always 0, the header's record.",
         example: "\
 a header of 1 function and 8 nodes, with 7 node records in all:
   refused 4 0",
@@ -69,7 +69,7 @@ a header of 1 function and 8 nodes, with 7 node records in all:
 A function's result is not 0 or 1, its number parameters are more than 4 (or
 any, in function 0), its node count is 0, or bytes 4 to 7 are not zero; or the
 node counts of all functions do not sum to the header's.",
-        place: "\
+        position: "\
 the record; the header is record 0, function 0 has record 1. A wrong sum
 is told at the last function record.",
         example: "\
@@ -82,7 +82,7 @@ a header of 1 function and 8 nodes, and a function that counts 7:
         meaning: "\
 A node's kind is above 8, a field that its kind does not use is not zero, or a
 Call's function is not below the number of functions.",
-        place: "the record; the header is record 0.",
+        position: "the record; the header is record 0.",
         example: "\
 one function, its first node of kind 9:
   refused 6 2",
@@ -93,7 +93,7 @@ one function, its first node of kind 9:
         meaning: "\
 The node records of a function are not exactly one expression: parts are
 missing, or records are left over.",
-        place: "the record of the function's first node; the header is record 0.",
+        position: "the record of the function's first node; the header is record 0.",
         example: "\
 one function, whose only node is Add:
   refused 7 2",
@@ -103,7 +103,7 @@ one function, whose only node is Add:
         name: "type",
         meaning: "\
 A number stands where a tree is expected, or a tree where a number is.",
-        place: "the record; the header is record 0.",
+        position: "the record; the header is record 0.",
         example: "\
 one function, which gives a tree and has the only node Const 1:
   refused 8 2",
@@ -114,7 +114,7 @@ one function, which gives a tree and has the only node Const 1:
         meaning: "\
 A Var names a number, or a Case or Call names a tree, that is not bound where
 it stands.",
-        place: "the record; the header is record 0.",
+        position: "the record; the header is record 0.",
         example: "\
 one function, whose only node is Var 0:
   refused 9 2",
@@ -125,7 +125,7 @@ one function, whose only node is Var 0:
         meaning: "\
 The function holds 16 words already where a Const, a Var, a Case, or a Call
 that gives a number and has no arguments needs one more. 16 is the most.",
-        place: "the record; the header is record 0.",
+        position: "the record; the header is record 0.",
         example: "\
 one function, which gives a number: 16 times Let with Const 1 as its
 number, each the body of the one before, and Const 1 as the last body:
@@ -140,7 +140,7 @@ Case or Call names a tree that is not the head of the pending ones, or none is
 pending; the branches of a Case or IfZero leave different trees pending; or a
 function leaves a tree. The source run does not need this order: 'source' never
 tells it.",
-        place: "\
+        position: "\
 the record of that Case or Call, of the Case or IfZero with those
 branches, or of the first node of that function; the header is record 0.",
         example: "\
@@ -160,7 +160,7 @@ Node, Call 0 on 2, Call 0 on 1; run, listing and check refuse it:
 A Case stands where 16 trees are pending. It would take one and put two in
 front, and 16 is the most. The source run has no pending trees: 'source' never
 tells it.",
-        place: "the record of the Case; the header is record 0.",
+        position: "the record of the Case; the header is record 0.",
         example: "\
 one function, which gives a number: 16 times Case with Const 1 as its
 leaf part, each the node part of the one before and on its left tree, and
@@ -178,7 +178,7 @@ and 2,048 return words. A short answer is told before all else, the others
 after all faults of the program and before the input is looked at or anything
 is written. This command lends enough; a program that calls the library may
 meet it.",
-        place: "always 0.",
+        position: "always 0.",
         example: "\
 a stream run that is lent 16,383 value words:
   refused 13 0 units 0 read 0 written 0 number 0",
@@ -190,7 +190,7 @@ a stream run that is lent 16,383 value words:
 The run is not at its end, and its fuel is spent. The stream run spends a unit
 on each instruction performed, the source run on each expression begun; before
 each, the fuel is looked at first.",
-        place: "in the stream run the bytes read, in the source run 0.",
+        position: "in the stream run the bytes read, in the source run 0.",
         example: "\
 document 01's program Grow on its tree T, a stream run of 25 units,
 with fuel 24, and the same of its code; its source run begins 14 expressions:
@@ -208,7 +208,7 @@ with fuel 24, and the same of its code; its source run begins 14 expressions:
 The input ends where a tag is to be read, or fewer than 4 bytes are left where
 a label is. The tree reader reads to the end of one tree, and so does the
 source run before it begins; a stream run reads as far as its code goes.",
-        place: "\
+        position: "\
 the byte at which that tag or label begins, counted from 0; in the
 stream run this is the bytes read.",
         example: "\
@@ -227,7 +227,7 @@ reader, in a stream run and in a source run:
         meaning: "\
 A tag is to be read, 1 for a leaf or 2 for a node, and another byte stands
 there. Newick text is refused so: 'hogvax tokens' turns it into tokens.",
-        place: "\
+        position: "\
 that byte, counted from 0; in the stream run this is the bytes read.",
         example: "\
 the input 03, for the tree reader, in a stream run and in a source run:
@@ -245,7 +245,7 @@ the input 03, for the tree reader, in a stream run and in a source run:
 In the stream run the output has no room for the next tag or label; what was
 written before stays, and --partial hands it out. In the source run the output
 is shorter than the result; nothing is written.",
-        place: "in the stream run the bytes read, in the source run 0.",
+        position: "in the stream run the bytes read, in the source run 0.",
         example: "\
 document 01's program Grow on its tree T, a stream run with an output
 of 10 bytes, of which it writes 7, and the same of its code; its source run
@@ -266,7 +266,7 @@ writes none:
 A call is to be made and 1,024 are open, the run's own first one counted. The
 tree is too deep for the program, or the program calls itself without end; more
 fuel or space does not help.",
-        place: "in the stream run the bytes read, in the source run 0.",
+        position: "in the stream run the bytes read, in the source run 0.",
         example: "\
 one function, whose only node is Call 0 on 0. Its source run begins
 1,024 expressions. Its stream run has fuel 1,024 here; its first instruction
@@ -283,7 +283,7 @@ An opcode is above 13; an address is above 4,127 or has no 8 whole bytes of
 code; a return's byte 1 is not 0 or 1; words are missing above the frame's
 base; or more than 16,384 words would stand. It comes before 15 to 18. 'perform'
 may meet it, with code that is no program's; 'run' never does.",
-        place: "the bytes read.",
+        position: "the bytes read.",
         example: "\
 an empty code buffer, fuel 1:
   $ printf '' | ./hogvax perform - samples/small.tokens --fuel 1
@@ -296,7 +296,7 @@ an empty code buffer, fuel 1:
 A node tag stands under 1,024 other nodes. A leaf may stand there, so a tree of
 depth 1,024 is read. The tree reader tells it, and so does the source run; a
 stream run has no such limit.",
-        place: "the byte of that tag, counted from 0.",
+        position: "the byte of that tag, counted from 0.",
         example: "\
 1,025 times the byte 02:
   refused 20 1024

@@ -30,7 +30,7 @@ pub fn is_too_short(refused: &Refused) -> bool {
 pub fn tell_of_newick(input: &Opening, refused: Option<Refused>) -> Result<(), Trouble> {
     let first = Refused {
         number: NOT_A_TAG,
-        place: 0,
+        position: 0,
     };
     let begins = |byte: &u8| b"([".contains(byte);
     if refused != Some(first) || !input.bytes().first().is_some_and(begins) {
@@ -129,7 +129,7 @@ impl Trees {
             }
             Err(_) if start == self.opening.bytes().len() => Next::End,
             Err(refused) => Next::Refused(Refused {
-                place: start as u64 + refused.place,
+                position: start as u64 + refused.position,
                 ..refused
             }),
         })

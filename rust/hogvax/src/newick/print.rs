@@ -21,7 +21,7 @@ pub fn print(tokens: &[u8]) -> Result<String, Refused> {
     while !rest.is_empty() {
         let start = (tokens.len() - rest.len()) as u64;
         let length = tree(rest).map_err(|refused| Refused {
-            place: start + refused.place,
+            position: start + refused.position,
             ..refused
         })?;
         let (tree, behind) = rest.split_at(length);

@@ -13,7 +13,7 @@ fn grow() -> Vec<u8> {
 fn line(answer: Result<(), reference::Refusal>) -> String {
     match answer {
         Ok(()) => "passed\n".to_owned(),
-        Err(refusal) => format!("refused {} {}\n", refusal.number, refusal.place),
+        Err(refusal) => format!("refused {} {}\n", refusal.number, refusal.position),
     }
 }
 

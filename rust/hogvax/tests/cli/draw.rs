@@ -226,9 +226,9 @@ fn draw_prints_refusals() {
     ] {
         assert_says(&draw_on(&[], input), 1, line);
         let input = [&T, input].concat();
-        let (number, place) = line.trim_end().rsplit_once(' ').unwrap();
-        let place: usize = place.parse().unwrap();
-        let line = format!("{number} {}\n", place + T.len());
+        let (number, position) = line.trim_end().rsplit_once(' ').unwrap();
+        let position: usize = position.parse().unwrap();
+        let line = format!("{number} {}\n", position + T.len());
         assert_says(&draw_on(&["--tree", "2"], &input), 1, &line);
         // A later tree is not reached.
         assert_says(&draw_on(&["--tree", "3"], &input), 1, &line);

@@ -48,9 +48,9 @@ fn newick_text_is_noticed_where_tokens_are_expected() {
 /// Other bytes, or one further on, are damage.
 #[test]
 fn other_bytes_are_not_noticed() {
-    for (input, place) in [(&b"3;"[..], 0), (b"\n(5,7);", 0), (b"\x02(5,7);", 1)] {
+    for (input, position) in [(&b"3;"[..], 0), (b"\n(5,7);", 0), (b"\x02(5,7);", 1)] {
         for verb in ["tree", "newick", "draw"] {
-            let line = format!("refused 16 {place}\n");
+            let line = format!("refused 16 {position}\n");
             assert_says(&run_on(&[verb], input), 1, &line);
         }
         for (words, _) in runs() {

@@ -90,15 +90,15 @@ fn refused_programs() -> Vec<(Vec<u8>, usize, usize)> {
 /// with --partial, too, there is no data.
 #[test]
 fn programs_that_are_refused_are_told() {
-    for (program, number, place) in refused_programs() {
+    for (program, number, position) in refused_programs() {
         for verb in OF_PROGRAMS {
-            let line = verb.refused(number, place);
+            let line = verb.refused(number, position);
             assert_gives(&verb.run_first(&program, &[]), 1, &[], &line);
             let output = verb.run_first(&program, &["--fuel", "0", "--space", "0"]);
             assert_gives(&output, 1, &[], &line);
         }
         let output = RUN.run_first(&program, &["--fuel", "0", "--partial"]);
-        assert_gives(&output, 1, &[], &RUN.refused(number, place));
+        assert_gives(&output, 1, &[], &RUN.refused(number, position));
     }
 }
 
@@ -210,7 +210,7 @@ struct Known {
 fn line_of(ran: &reference::Ran) -> String {
     let start = match ran.refusal {
         None => "ended".to_owned(),
-        Some(refusal) => format!("refused {} {}", refusal.number, refusal.place),
+        Some(refusal) => format!("refused {} {}", refusal.number, refusal.position),
     };
     let (units, read, written, number) = (ran.units, ran.read, ran.written, ran.number);
     format!("{start} units {units} read {read} written {written} number {number}\n")

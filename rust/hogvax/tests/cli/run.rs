@@ -19,8 +19,8 @@ fn a_refused_number_is_not_given() {
 #[test]
 fn programs_out_of_order_are_told() {
     let records = with(&bytes("programs/grow.records"), 65, 2);
-    for (program, place) in [(lay_out(&records), 8), (bytes("programs/swap.program"), 6)] {
-        let line = RUN.refused(11, place);
+    for (program, position) in [(lay_out(&records), 8), (bytes("programs/swap.program"), 6)] {
+        let line = RUN.refused(11, position);
         assert_gives(&RUN.run_first(&program, &[]), 1, &[], &line);
         let output = RUN.run_first(&program, &["--fuel", "0", "--partial"]);
         assert_gives(&output, 1, &[], &line);

@@ -118,8 +118,8 @@ impl Verb {
     }
 
     /// What is said of a program or an input that is refused before the run.
-    pub fn refused(&self, number: usize, place: usize) -> String {
-        format!("refused {number} {place} {}", self.not_begun)
+    pub fn refused(&self, number: usize, position: usize) -> String {
+        format!("refused {number} {position} {}", self.not_begun)
     }
 
     /// A new and empty folder, for one test of this verb.

@@ -4,8 +4,8 @@ use super::run_verbs::{small, GROWN, SOURCE};
 use super::*;
 
 /// What is said of a run that is refused after so many expressions begun.
-fn refused(number: u32, place: usize, begun: u64) -> String {
-    format!("refused {number} {place} begun {begun} written 0 number 0\n")
+fn refused(number: u32, position: usize, begun: u64) -> String {
+    format!("refused {number} {position} begun {begun} written 0 number 0\n")
 }
 
 /// There is no number after a refusal.
@@ -41,11 +41,11 @@ fn programs_out_of_order_are_evaluated() {
 // Inputs
 
 /// "The source run applies the tree reader before it evaluates": its refusals
-/// come before fuel, with their own place.
+/// come before fuel, with their own position.
 #[test]
 fn inputs_that_are_no_tree_are_told() {
     let deep = [2; 1_025];
-    for (input, number, place) in [
+    for (input, number, position) in [
         (&[][..], 15, 0),
         (&[1, 5, 0, 0], 15, 1),
         (&T[..8], 15, 7),
@@ -53,7 +53,7 @@ fn inputs_that_are_no_tree_are_told() {
         (&with(&T, 6, 3), 16, 6),
         (&deep, 20, 1_024),
     ] {
-        let line = refused(number, place, 0);
+        let line = refused(number, position, 0);
         for options in [&[][..], &["--fuel", "0"], &["--space", "0"]] {
             let output = SOURCE.run_grow_on(input, options);
             assert_gives(&output, 1, &[], &line);
@@ -63,7 +63,7 @@ fn inputs_that_are_no_tree_are_told() {
 
 // Fuel
 
-/// Document 01: "Source run: fuel 14 ends, 13 gives 14." Its place is 0.
+/// Document 01: "Source run: fuel 14 ends, 13 gives 14." Its position is 0.
 #[test]
 fn every_fuel_is_told() {
     for fuel in 0..14 {

@@ -4,7 +4,7 @@
 use super::run_verbs::{Verb, ENDED, GROWN, PERFORM, RUN, SPENT};
 use super::*;
 
-/// What is said of a run that is refused. Its place is the bytes read.
+/// What is said of a run that is refused. Its position is the bytes read.
 pub fn refused(number: u32, units: usize, read: usize, written: usize) -> String {
     format!("refused {number} {read} units {units} read {read} written {written} number 0\n")
 }

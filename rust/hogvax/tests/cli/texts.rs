@@ -43,11 +43,11 @@ pub fn explained(name: &str, text: &str, line: &str) -> String {
     let numbers: Vec<&str> = line.split_whitespace().skip(1).collect();
     let refused = Refused {
         number: numbers[0].parse().unwrap(),
-        place: numbers[1].parse().unwrap(),
+        position: numbers[1].parse().unwrap(),
     };
     let explanation = assembly::explain(&text.records, refused);
     let number = explanation.record;
-    assert_eq!(number as u64, refused.place);
+    assert_eq!(number as u64, refused.position);
     let record = match text.line(number) {
         Some(line) => format!("'{line}'"),
         None => "the header".to_owned(),

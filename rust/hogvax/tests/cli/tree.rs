@@ -47,7 +47,7 @@ fn tree_reads_long_trees() {
     assert_says(&run_on(&["tree"], &tree), 0, &answer);
     let behind = [&tree[..], &[3; 3]].concat();
     assert_says(&run_on(&["tree"], &behind), 0, &answer);
-    let (short, place) = (&tree[..length - 1], length - 4);
-    let refused = format!("refused 15 {place}\n");
+    let (short, position) = (&tree[..length - 1], length - 4);
+    let refused = format!("refused 15 {position}\n");
     assert_says(&run_on(&["tree"], short), 1, &refused);
 }

@@ -10,7 +10,7 @@ fn why_explains_the_numbers_1_to_20() {
     for number in 1..=20 {
         let text = printed(run(&["why", &number.to_string()]));
         assert!(text.starts_with(&format!("{number}: ")), "{text}");
-        assert!(text.contains("\nPlace: "), "{text}");
+        assert!(text.contains("\nPosition: "), "{text}");
         assert!(text.contains("\nExample: "), "{text}");
         assert!(text.contains(&format!("\n  refused {number} ")), "{text}");
     }

@@ -24,17 +24,20 @@ fn any_bytes(random: &mut Random) -> Vec<u8> {
 }
 
 fn any_refusal(random: &mut Random, records: &[u8]) -> Refused {
-    let place = random.pick(&[0, 1, 2, records.len() / 8, usize::MAX]) as u64;
+    let position = random.pick(&[0, 1, 2, records.len() / 8, usize::MAX]) as u64;
     let any = random.below(records.len() / 8 + 2) as u64;
     Refused {
         number: random.below(22) as u32,
-        place: random.pick(&[place, any, any, any]),
+        position: random.pick(&[position, any, any, any]),
     }
 }
 
 /// The number's own sentence.
 fn general(number: u32) -> Explanation {
-    let refused = Refused { number, place: 0 };
+    let refused = Refused {
+        number,
+        position: 0,
+    };
     explain(&[], refused)
 }
 
@@ -50,7 +53,7 @@ fn any_records_and_any_refusal_have_an_explanation() {
         let any = any_refusal(&mut random, &records);
         let refused = random.pick(&[Some(any), own]).unwrap_or(any);
         let explanation = explain(&records, refused);
-        assert_eq!(explanation.record as u64, refused.place);
+        assert_eq!(explanation.record as u64, refused.position);
         if Some(refused) == own {
             right += 1;
         } else {
@@ -69,8 +72,8 @@ fn a_refusal_of_another_program_has_the_general_sentence() {
     for checked in programs().iter().step_by(6) {
         let records = &checked.records;
         for number in 4..=12 {
-            let place = random.below(records.len() / 8 + 2) as u64;
-            let refused = Refused { number, place };
+            let position = random.below(records.len() / 8 + 2) as u64;
+            let refused = Refused { number, position };
             if Some(refused) != checked.refused {
                 let explanation = explain(records, refused);
                 assert_eq!(explanation.message, general(number).message);

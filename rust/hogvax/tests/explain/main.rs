@@ -80,7 +80,7 @@ fn add_random_programs(random: &mut Random, all: &mut Vec<Vec<u8>>) {
 /// record, and its texts are lines without a full stop.
 fn explained(records: &[u8], refused: Refused) -> Explanation {
     let explanation = explain(records, refused);
-    assert_eq!(explanation.record as u64, refused.place);
+    assert_eq!(explanation.record as u64, refused.position);
     let message = &explanation.message;
     assert!(message.starts_with(|c: char| c.is_ascii_lowercase()));
     for detail in &explanation.details {

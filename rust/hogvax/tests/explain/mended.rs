@@ -43,10 +43,10 @@ fn each_refused(number: u32, mut each: impl FnMut(&[Record], &Explanation)) {
 
 /// The explanation of these records, if they are refused with this number at
 /// this record.
-fn still_refused(records: &[Record], number: u32, place: usize) -> Option<Explanation> {
+fn still_refused(records: &[Record], number: u32, position: usize) -> Option<Explanation> {
     let records = Record::bytes(records);
     let refused = hogvax::check_records(&records).err()?;
-    let same = refused.number == number && refused.place == place as u64;
+    let same = refused.number == number && refused.position == position as u64;
     same.then(|| explained(&records, refused))
 }
 

@@ -86,7 +86,7 @@ fn the_call_that_is_refused() {
         let gave = refused(&mut lent, listing, tree);
         let read = DEEPEST * each_read + 1;
         let units = (DEEPEST * each + last) as u64;
-        assert_eq!((gave.read(), gave.place()), (read, read as u64));
+        assert_eq!((gave.read(), gave.position()), (read, read as u64));
         assert_eq!(gave.units(), units, "{gave:?}");
     }
 }

@@ -16,9 +16,9 @@ fn every_smaller_fuel_gives_14() {
         let mut before = lent.answer(&case.with_fuel(0));
         for fuel in 0..whole.units() {
             let gave = lent.answer(&case.with_fuel(fuel));
-            let place = gave.read() as u64;
-            let told = (gave.number, gave.place(), gave.units(), gave.word());
-            assert_eq!(told, (14, place, fuel, 0), "{case:?}");
+            let position = gave.read() as u64;
+            let told = (gave.number, gave.position(), gave.units(), gave.word());
+            assert_eq!(told, (14, position, fuel, 0), "{case:?}");
             assert!(gave.opens(&whole), "fuel {fuel}: {case:?}");
             let steps = [
                 gave.read() - before.read(),

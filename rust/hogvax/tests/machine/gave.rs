@@ -6,7 +6,7 @@ use super::stream_gave::Gave;
 
 impl Gave {
     /// The refusal's position.
-    pub fn place(&self) -> u64 {
+    pub fn position(&self) -> u64 {
         self.slots[0]
     }
 

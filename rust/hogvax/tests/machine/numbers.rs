@@ -5,7 +5,7 @@ use reference::machine::mnemonic::{push, ret};
 
 use super::*;
 
-/// In the answer's place for it, the number is sign-extended to 64 bits.
+/// In the answer's slot for it, the number is sign-extended to 64 bits.
 #[test]
 fn the_number_is_sign_extended() {
     let mut lent = Lent::new();

@@ -58,7 +58,7 @@ fn work_words_that_are_enough() {
 
 /// Whatever else is lent.
 #[test]
-fn an_answer_takes_five_places() {
+fn an_answer_takes_five_slots() {
     for case in cases() {
         for words in [ENOUGH[0], SHORT[2]] {
             assert_takes_slots(&case, lengths(&case, words));

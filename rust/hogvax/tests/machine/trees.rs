@@ -76,7 +76,7 @@ fn worked_programs_on_trees_of_many_tips() {
 }
 
 /// Where the input ends or has no tag, Grow is refused with the number and the
-/// place of the tree reader.
+/// position of the tree reader.
 #[test]
 fn broken_trees_are_refused_where_the_tree_reader_refuses() {
     let mut random = Random::new(243);

@@ -57,7 +57,7 @@ fn a_long_tree_is_printed_and_read_back() {
     assert!(read.tokens == tree.tokens());
 }
 
-/// The refusal of the first tree that is refused, its place counted from the
+/// The refusal of the first tree that is refused, its position counted from the
 /// start of the tokens.
 fn first_refusal(tokens: &[u8]) -> Option<Refused> {
     let mut start = 0;
@@ -67,7 +67,7 @@ fn first_refusal(tokens: &[u8]) -> Option<Refused> {
             Err(refusal) => {
                 return Some(Refused {
                     number: refusal.number.into(),
-                    place: (start + refusal.place) as u64,
+                    position: (start + refusal.position) as u64,
                 })
             }
         }
@@ -88,7 +88,7 @@ fn refusals_count_from_the_start() {
         assert_eq!(print(&tokens).err(), refused);
         match refused {
             None => whole += 1,
-            Some(refused) if refused.place < first => in_first += 1,
+            Some(refused) if refused.position < first => in_first += 1,
             Some(_) => later += 1,
         }
         match refused.map(|refused| refused.number) {

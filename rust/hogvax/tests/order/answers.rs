@@ -1,4 +1,4 @@
-//! The places of a lent answer.
+//! The slots of a lent answer.
 
 use reference::generate::{FileDamage, RecordDamage};
 use reference::order::known;
@@ -6,7 +6,7 @@ use reference::Random;
 
 use super::*;
 
-/// What stands in each place of an answer before the call.
+/// What stands in each slot of an answer before the call.
 const UNTOUCHED: u64 = 0x0123_4567_89ab_cdef;
 
 /// Inputs of a call with its answers.
@@ -47,12 +47,12 @@ fn calls() -> [(Call, Inputs); 2] {
 
 /// Before all other refusals.
 #[test]
-fn an_answer_takes_two_places() {
+fn an_answer_takes_two_slots() {
     for (call, inputs) in calls() {
         for (input, _) in inputs {
-            for places in 0..2 {
+            for slots in 0..2 {
                 let mut answer = [UNTOUCHED; 2];
-                assert_eq!((call.into)(&input, &mut answer[..places]), 13);
+                assert_eq!((call.into)(&input, &mut answer[..slots]), 13);
                 assert_eq!(answer, [UNTOUCHED; 2]);
             }
         }
@@ -63,10 +63,10 @@ fn an_answer_takes_two_places() {
 fn an_answer_fills_two_places_and_leaves_the_rest() {
     for (call, inputs) in calls() {
         for (input, expected) in inputs {
-            for places in [2, 3, 5, 100] {
-                let mut answer = vec![UNTOUCHED; places];
+            for slots in [2, 3, 5, 100] {
+                let mut answer = vec![UNTOUCHED; slots];
                 let number = (call.into)(&input, &mut answer);
-                let told = expected.map_or_else(|r| (r.number, r.place), |()| (0, 0));
+                let told = expected.map_or_else(|r| (r.number, r.position), |()| (0, 0));
                 assert_eq!((number, answer[0], answer[1]), (told.0, told.1, 0));
                 assert!(answer[2..].iter().all(|&word| word == UNTOUCHED));
             }

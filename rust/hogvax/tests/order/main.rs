@@ -11,7 +11,7 @@ use reference::{lay_out, order, shown, Program, Refusal};
 
 type Answer = Result<(), Refused>;
 
-/// A call of the library: as a safe function and with lent places. Beside them
+/// A call of the library: as a safe function and with lent slots. Beside them
 /// the reference's.
 struct Call {
     safe: fn(&[u8]) -> Answer,
@@ -34,12 +34,12 @@ const CHECK_RECORDS: Call = Call {
 fn told(refusal: Refusal) -> Refused {
     Refused {
         number: refusal.number.into(),
-        place: refusal.place as u64,
+        position: refusal.position as u64,
     }
 }
 
-fn refused(number: u8, place: usize) -> Answer {
-    Err(told(Refusal { number, place }))
+fn refused(number: u8, position: usize) -> Answer {
+    Err(told(Refusal { number, position }))
 }
 
 /// 0 where the program passes, or the refusal's number.

@@ -1,4 +1,4 @@
-//! Lent buffers of every length, and the places of the answer.
+//! Lent buffers of every length, and the slots of the answer.
 
 use reference::generate::{programs, FileDamage, RecordDamage};
 use reference::{lay_out, Random};
@@ -88,10 +88,10 @@ fn a_buffer_may_be_much_longer() {
 // Answers
 
 #[test]
-fn an_answer_takes_two_places() {
+fn an_answer_takes_two_slots() {
     for call in [&PACK, &UNPACK] {
         for (input, _) in one_of_each(call) {
-            call.assert_takes_two_places(&input);
+            call.assert_takes_two_slots(&input);
         }
     }
 }
@@ -100,7 +100,7 @@ fn an_answer_takes_two_places() {
 fn an_answer_fills_two_places_and_leaves_the_rest() {
     for call in [&PACK, &UNPACK] {
         for (input, answer) in one_of_each(call) {
-            call.assert_fills_two_places(&input, &answer);
+            call.assert_fills_two_slots(&input, &answer);
         }
     }
 }

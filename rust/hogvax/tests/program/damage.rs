@@ -162,7 +162,11 @@ fn block_tests_go_together_block_by_block() {
             let (damaged, three) = damage.apply(&mut random, &file).unwrap();
             for _ in 0..5 {
                 let (damaged, two) = FileDamage::Check.apply(&mut random, &damaged).unwrap();
-                let first = if two.place <= three.place { two } else { three };
+                let first = if two.position <= three.position {
+                    two
+                } else {
+                    three
+                };
                 unpack.check_refused(&damaged, first);
             }
         }

@@ -102,7 +102,7 @@ fn one_of_each() -> Vec<(RunCase, Gave)> {
 }
 
 #[test]
-fn an_answer_takes_five_places() {
+fn an_answer_takes_five_slots() {
     for (case, _) in one_of_each() {
         assert_takes_slots(&case, case.lengths());
     }

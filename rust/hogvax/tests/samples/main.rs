@@ -20,7 +20,7 @@ fn verdict(name: &str) -> Result<(), Refused> {
     match name {
         "swap" => Err(Refused {
             number: 11,
-            place: 6,
+            position: 6,
         }),
         _ => Ok(()),
     }

@@ -1,5 +1,5 @@
 //! Calls that turn bytes into others, held against the reference: with lent
-//! buffers of every length, and with more or fewer places for the answer.
+//! buffers of every length, and with more or fewer slots for the answer.
 
 use hogvax::Refused;
 use reference::{shown, Refusal};
@@ -20,10 +20,10 @@ pub struct Call {
     pub long: usize,
 }
 
-pub fn refused(number: u8, place: usize) -> Answer {
+pub fn refused(number: u8, position: usize) -> Answer {
     Err(Refused {
         number: number.into(),
-        place: place as u64,
+        position: position as u64,
     })
 }
 
@@ -49,26 +49,26 @@ const fn before() -> [u8; LONGEST] {
     bytes
 }
 
-/// What stands in each place of an answer before the call.
+/// What stands in each slot of an answer before the call.
 const UNTOUCHED: u64 = 0x0123_4567_89ab_cdef;
 
 impl Call {
     pub fn reference_answer(&self, input: &[u8]) -> Answer {
-        (self.reference)(input).or_else(|refusal| refused(refusal.number, refusal.place))
+        (self.reference)(input).or_else(|refusal| refused(refusal.number, refusal.position))
     }
 
-    /// With a lent buffer of this length and so many places for the answer, at
+    /// With a lent buffer of this length and so many slots for the answer, at
     /// least two, the call gives this answer and touches nothing else.
-    fn assert_told(&self, input: &[u8], length: usize, places: usize, answer: &Answer) {
+    fn assert_told(&self, input: &[u8], length: usize, slots: usize, answer: &Answer) {
         let mut buffer = BEFORE[..length].to_vec();
-        let mut told = vec![UNTOUCHED; places];
+        let mut told = vec![UNTOUCHED; slots];
         let number = (self.into)(input, &mut buffer, &mut told);
-        let (expected, place, bytes) = match answer {
+        let (expected, position, bytes) = match answer {
             Ok(bytes) => (0, 0, &bytes[..]),
-            Err(refused) => (refused.number, refused.place, &[][..]),
+            Err(refused) => (refused.number, refused.position, &[][..]),
         };
         let length_told = bytes.len() as u64;
-        let expected = (expected, place, length_told);
+        let expected = (expected, position, length_told);
         assert_eq!((number, told[0], told[1]), expected, "{}", shown(input));
         assert!(told[2..].iter().all(|&word| word == UNTOUCHED));
         let (written, rest) = buffer.split_at(bytes.len());
@@ -77,7 +77,7 @@ impl Call {
         assert!(untouched, "not left as they were: {}", shown(input));
     }
 
-    /// As `assert_told`, with one place more than the answer takes.
+    /// As `assert_told`, with one slot more than the answer takes.
     pub fn assert_lent(&self, input: &[u8], length: usize, answer: &Answer) {
         self.assert_told(input, length, 3, answer);
     }
@@ -112,14 +112,14 @@ impl Call {
         assert!(buffer[bytes.len()..].iter().all(|&byte| byte == 0xaa));
     }
 
-    /// With fewer than two places for the answer it is 13, before all other
+    /// With fewer than two slots for the answer it is 13, before all other
     /// refusals and whatever the buffer, and nothing is touched.
-    pub fn assert_takes_two_places(&self, input: &[u8]) {
+    pub fn assert_takes_two_slots(&self, input: &[u8]) {
         for length in [0, 512, self.long] {
-            for places in 0..2 {
+            for slots in 0..2 {
                 let mut buffer = BEFORE[..length].to_vec();
                 let mut told = [UNTOUCHED; 2];
-                let number = (self.into)(input, &mut buffer, &mut told[..places]);
+                let number = (self.into)(input, &mut buffer, &mut told[..slots]);
                 assert_eq!(number, 13);
                 assert_eq!(told, [UNTOUCHED; 2]);
                 assert!(buffer == BEFORE[..length]);
@@ -127,12 +127,12 @@ impl Call {
         }
     }
 
-    /// Places behind the first two are left, also where the buffer is short.
-    pub fn assert_fills_two_places(&self, input: &[u8], answer: &Answer) {
-        for places in [2, 3, 100] {
-            self.assert_told(input, self.long, places, answer);
+    /// Slots after the first two are left, also where the buffer is short.
+    pub fn assert_fills_two_slots(&self, input: &[u8], answer: &Answer) {
+        for slots in [2, 3, 100] {
+            self.assert_told(input, self.long, slots, answer);
             let short = answer.clone().and(refused(13, 0));
-            self.assert_told(input, 0, places, &short);
+            self.assert_told(input, 0, slots, &short);
         }
     }
 }
@@ -185,7 +185,7 @@ impl Checked {
 
     /// As `answer`, which is known to be this refusal.
     pub fn check_refused(&mut self, input: &[u8], refusal: Refusal) {
-        let known = refused(refusal.number, refusal.place);
+        let known = refused(refusal.number, refusal.position);
         assert_eq!(self.answer(input), known, "{}", shown(input));
     }
 

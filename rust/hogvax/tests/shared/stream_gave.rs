@@ -12,12 +12,12 @@ pub const WRITTEN: usize = 3;
 impl Gave {
     /// What the reference's run gives.
     pub fn told(ran: reference::Ran, output: Vec<u8>, code: Vec<u8>) -> Gave {
-        let place = ran.refusal.map_or(0, |refusal| refusal.place as u64);
+        let position = ran.refusal.map_or(0, |refusal| refusal.position as u64);
         let (read, written) = (ran.read as u64, ran.written as u64);
         let number = i64::from(ran.number) as u64;
         Gave {
             number: ran.refusal.map_or(0, |refusal| refusal.number.into()),
-            slots: [place, ran.units, read, written, number],
+            slots: [position, ran.units, read, written, number],
             output,
             code,
         }
@@ -25,9 +25,9 @@ impl Gave {
 
     /// The answer as the safe calls give it.
     pub fn ran(&self) -> Ran {
-        let (number, [place, units, read, written, word]) = (self.number, self.slots);
+        let (number, [position, units, read, written, word]) = (self.number, self.slots);
         Ran {
-            refused: (number != 0).then_some(Refused { number, place }),
+            refused: (number != 0).then_some(Refused { number, position }),
             units,
             read: read as usize,
             written: written as usize,

@@ -150,10 +150,10 @@ fn each_damage_to_a_file_gives_its_refusal() {
             };
             let case = SourceCase::new(&file, &[1, 5, 0, 0, 0], random.below(100) as u64, 50);
             let gave = lent.answer(&case);
-            let (number, place) = (u32::from(refusal.number), refusal.place as u64);
+            let (number, position) = (u32::from(refusal.number), refusal.position as u64);
             match number {
                 11 | 12 => assert!(matches!(gave.number, 0 | 14 | 17 | 18), "{case:?}"),
-                _ => assert_eq!((gave.number, gave.slots), (number, [place, 0, 0, 0])),
+                _ => assert_eq!((gave.number, gave.slots), (number, [position, 0, 0, 0])),
             }
             seen[number as usize] += 1;
             count += 1;

@@ -46,9 +46,9 @@ fn endless() -> Vec<u8> {
 
 /// What the library gives, which is what the reference gives, has this number
 /// and these slots.
-fn assert_refused(lent: &mut Lent, case: &SourceCase, number: u32, place: u64, begun: u64) {
+fn assert_refused(lent: &mut Lent, case: &SourceCase, number: u32, position: u64, begun: u64) {
     let gave = lent.answer(case);
-    let slots = [place, begun, 0, 0];
+    let slots = [position, begun, 0, 0];
     assert_eq!((gave.number, gave.slots), (number, slots), "{case:?}");
     assert!(gave.output.iter().all(|&byte| byte == FILLER), "{case:?}");
 }
@@ -63,7 +63,7 @@ fn a_file_is_refused_first() {
         let Some(refusal) = known.answer.refused else {
             continue;
         };
-        let (number, place) = (refusal.number.into(), refusal.place as u64);
+        let (number, position) = (refusal.number.into(), refusal.position as u64);
         if number > 10 {
             continue;
         }
@@ -75,7 +75,7 @@ fn a_file_is_refused_first() {
                         returns,
                         ..SourceCase::new(&known.case.file, input, 0, output)
                     };
-                    assert_refused(&mut lent, &case, number, place, 0);
+                    assert_refused(&mut lent, &case, number, position, 0);
                 }
             }
         }
@@ -112,11 +112,11 @@ fn short_work_space_is_refused_before_the_input() {
 fn an_input_is_refused_before_fuel() {
     let mut lent = Lent::new();
     for file in [two_leaves(), endless()] {
-        for (input, number, place) in NO_TREES {
+        for (input, number, position) in NO_TREES {
             for fuel in [0, 9_999] {
                 for output in [0, 11] {
                     let case = SourceCase::new(&file, input, fuel, output);
-                    assert_refused(&mut lent, &case, number, place, 0);
+                    assert_refused(&mut lent, &case, number, position, 0);
                 }
             }
         }

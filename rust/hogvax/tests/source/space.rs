@@ -77,7 +77,7 @@ fn outputs_that_are_longer() {
 // Answers
 
 #[test]
-fn an_answer_takes_four_places() {
+fn an_answer_takes_four_slots() {
     for (case, _) in one_of_each() {
         assert_takes_slots(&case, case.lengths());
     }

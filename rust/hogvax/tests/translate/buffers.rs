@@ -1,4 +1,4 @@
-//! Lent code buffers of every length, and the places of the answer.
+//! Lent code buffers of every length, and the slots of the answer.
 
 use reference::generate::ordered;
 use reference::translate::known;
@@ -56,15 +56,15 @@ fn a_buffer_may_be_much_longer() {
 }
 
 #[test]
-fn an_answer_takes_two_places() {
+fn an_answer_takes_two_slots() {
     for (input, _) in one_of_each() {
-        TRANSLATE.assert_takes_two_places(&input);
+        TRANSLATE.assert_takes_two_slots(&input);
     }
 }
 
 #[test]
 fn an_answer_fills_two_places_and_leaves_the_rest() {
     for (input, answer) in one_of_each() {
-        TRANSLATE.assert_fills_two_places(&input, &answer);
+        TRANSLATE.assert_fills_two_slots(&input, &answer);
     }
 }

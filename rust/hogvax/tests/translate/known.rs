@@ -12,7 +12,7 @@ fn known_files_have_their_code() {
         let answer = translate.answer(&known.file);
         let expected = known
             .answer
-            .or_else(|refusal| refused(refusal.number, refusal.place));
+            .or_else(|refusal| refused(refusal.number, refusal.position));
         assert_eq!(answer, expected, "{}", known.name);
     }
     translate.assert_all_seen(1);

@@ -76,30 +76,30 @@ impl FileDamage {
     /// refusal; it may be wrong in later rows.
     pub fn apply(self, random: &mut Random, file: &[u8]) -> Option<(Vec<u8>, Refusal)> {
         let mut file = file.to_vec();
-        let place = self.damage(random, &mut file)?;
+        let position = self.damage(random, &mut file)?;
         let refusal = Refusal {
             number: self.number(),
-            place,
+            position,
         };
         Some((file, refusal))
     }
 
     fn damage(self, random: &mut Random, file: &mut Vec<u8>) -> Option<usize> {
-        if let Some(place) = self.leave_unmended(random, file) {
-            return Some(place);
+        if let Some(position) = self.leave_unmended(random, file) {
+            return Some(position);
         }
-        let place = match self.change_field(random, file) {
-            Some(place) => place,
+        let position = match self.change_field(random, file) {
+            Some(position) => position,
             None => self.change_blocks(random, file)?,
         };
         mend_checks(file);
-        Some(place)
+        Some(position)
     }
 
     /// Damage to the length or the check itself.
     fn leave_unmended(self, random: &mut Random, file: &mut Vec<u8>) -> Option<usize> {
         let blocks = file.len() / BLOCK_BYTES;
-        let place = match self {
+        let position = match self {
             FileDamage::Empty => {
                 file.clear();
                 0
@@ -126,7 +126,7 @@ impl FileDamage {
             }
             _ => return None,
         };
-        Some(place)
+        Some(position)
     }
 
     /// Damage to one block's fields or unused records.
@@ -135,7 +135,7 @@ impl FileDamage {
         let last = blocks - 1;
         let used = word(file, last, RECORDS_USED);
         let block = random.below(blocks);
-        let place = match self {
+        let position = match self {
             FileDamage::BlockNumber | FileDamage::NumberOfBlocks => {
                 let (field, right) = match self {
                     FileDamage::BlockNumber => (BLOCK_NUMBER, block),
@@ -165,7 +165,7 @@ impl FileDamage {
             }
             _ => return None,
         };
-        Some(place)
+        Some(position)
     }
 
     /// Damage to which blocks there are, and how many records each uses.
@@ -173,7 +173,7 @@ impl FileDamage {
         let blocks = file.len() / BLOCK_BYTES;
         let last = blocks - 1;
         let used = word(file, last, RECORDS_USED);
-        let place = match self {
+        let position = match self {
             FileDamage::SwappedBlocks if blocks > 1 => {
                 let first = random.below(last);
                 let second = first + 1 + random.below(last - first);
@@ -215,7 +215,7 @@ impl FileDamage {
             }
             _ => return None,
         };
-        Some(place)
+        Some(position)
     }
 }
 

@@ -27,8 +27,8 @@ pub fn apply(fault: Fault, random: &mut Random, program: &Program) -> Option<(Pr
         };
         let damaged = put(program, site.function, site.node, &expr);
         if damaged.nodes() <= NODE_LIMIT {
-            let place = site.place + further;
-            return Some((damaged, Found { fault, place }));
+            let position = site.position + further;
+            return Some((damaged, Found { fault, position }));
         }
     }
     None

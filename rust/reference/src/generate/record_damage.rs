@@ -108,7 +108,7 @@ impl RecordDamage {
     /// most 1,071 records then, so that they still fit in 17 blocks.
     pub fn apply(self, random: &mut Random, records: &[u8]) -> Option<(Vec<u8>, Refusal)> {
         let mut rows = Rows::new(records);
-        let place = match self {
+        let position = match self {
             RecordDamage::Edition => {
                 rows.header.kind = other(random, 1, 0, 255) as u8;
                 0
@@ -169,7 +169,7 @@ impl RecordDamage {
         };
         let refusal = Refusal {
             number: self.number(),
-            place,
+            position,
         };
         Some((rows.bytes(), refusal))
     }

@@ -291,7 +291,7 @@ impl<'a> Machine<'a> {
         Ran {
             refusal: stop.mark.number().map(|number| Refusal {
                 number,
-                place: self.read,
+                position: self.read,
             }),
             units: self.units,
             read: self.read,

@@ -44,11 +44,11 @@ fn passes(name: &'static str, functions: Vec<Function>) -> Known {
     }
 }
 
-fn refused(number: u8, place: usize, name: &'static str, functions: Vec<Function>) -> Known {
+fn refused(number: u8, position: usize, name: &'static str, functions: Vec<Function>) -> Known {
     Known {
         name,
         program: Program::new(functions),
-        answer: refuse(number, place),
+        answer: refuse(number, position),
     }
 }
 

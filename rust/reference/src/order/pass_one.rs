@@ -36,13 +36,13 @@ impl Context {
 /// The first fault of pass one, over all functions.
 pub fn check(program: &Program) -> Result<(), Found> {
     let functions = &program.functions;
-    let mut place = 1 + functions.len();
+    let mut position = 1 + functions.len();
     for function in functions {
         for (expr, context) in contexts(function) {
             if let Some(fault) = fault(expr, context, functions) {
-                return Err(Found { fault, place });
+                return Err(Found { fault, position });
             }
-            place += 1;
+            position += 1;
         }
     }
     Ok(())

@@ -1,6 +1,6 @@
 //! Pass two as typing: document 000's Figure 6 with document 01's rules for
 //! Let and IfZero, trying every way to split an ordered environment. This
-//! gives the verdict, but no place. Types and bound names are pass one's; only
+//! gives the verdict, but no position. Types and bound names are pass one's; only
 //! the ordered environments are looked at here.
 
 use std::collections::HashMap;

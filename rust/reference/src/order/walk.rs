@@ -21,7 +21,7 @@ pub fn check(program: &Program) -> Result<(), Found> {
 /// "at first the parameter alone"; "a function ends with none". `first` is
 /// the record of the function's first node.
 fn check_body(body: &Expr, first: usize) -> Result<(), Found> {
-    let mut walk = Walk { place: first };
+    let mut walk = Walk { position: first };
     let left = walk.expression(body, 1, vec![0])?;
     if left.is_empty() {
         Ok(())
@@ -30,14 +30,14 @@ fn check_body(body: &Expr, first: usize) -> Result<(), Found> {
     }
 }
 
-fn found<T>(fault: Fault, place: usize) -> Result<T, Found> {
-    Err(Found { fault, place })
+fn found<T>(fault: Fault, position: usize) -> Result<T, Found> {
+    Err(Found { fault, position })
 }
 
 /// The walk enters every record once, in prefix order.
 struct Walk {
     /// The record entered next.
-    place: usize,
+    position: usize,
 }
 
 impl Walk {
@@ -49,8 +49,8 @@ impl Walk {
         trees: usize,
         pending: Pending,
     ) -> Result<Pending, Found> {
-        let place = self.place;
-        self.place += 1;
+        let position = self.position;
+        self.position += 1;
         match expr {
             Expr::Const(_) | Expr::Var(_) => Ok(pending),
             Expr::Leaf(number) => self.expression(number, trees, pending),
@@ -62,21 +62,21 @@ impl Walk {
                 let pending = self.expression(test, trees, pending)?;
                 let by_zero = self.expression(zero, trees, pending.clone())?;
                 let by_other = self.expression(other, trees, pending)?;
-                equal(by_zero, by_other, Fault::UnequalAtIfZero, place)
+                equal(by_zero, by_other, Fault::UnequalAtIfZero, position)
             }
             Expr::Case(a, leaf, node) => {
-                let rest = case_head(&pending, *a, place)?;
+                let rest = case_head(&pending, *a, position)?;
                 let by_leaf = self.expression(leaf, trees, rest.clone())?;
                 let pending = [vec![trees, trees + 1], rest].concat();
                 let by_node = self.expression(node, trees + 2, pending)?;
-                equal(by_leaf, by_node, Fault::UnequalAtCase, place)
+                equal(by_leaf, by_node, Fault::UnequalAtCase, position)
             }
             Expr::Call(a, _, arguments) => {
                 let mut pending = pending;
                 for argument in arguments {
                     pending = self.expression(argument, trees, pending)?;
                 }
-                call_head(&pending, *a, place)
+                call_head(&pending, *a, position)
             }
         }
     }
@@ -84,30 +84,30 @@ impl Walk {
 
 /// "Both branches of Case or IfZero must end with equal lists, compared once
 /// both are through".
-fn equal(one: Pending, two: Pending, fault: Fault, place: usize) -> Result<Pending, Found> {
+fn equal(one: Pending, two: Pending, fault: Fault, position: usize) -> Result<Pending, Found> {
     if one == two {
         Ok(one)
     } else {
-        found(fault, place)
+        found(fault, position)
     }
 }
 
 /// "Case takes the head": what is pending behind it. First "11 not the head",
 /// then "12 Case with 16 pending", the head among them.
-fn case_head(pending: &Pending, a: u8, place: usize) -> Result<Pending, Found> {
+fn case_head(pending: &Pending, a: u8, position: usize) -> Result<Pending, Found> {
     match pending.split_first() {
-        None => found(Fault::CaseWithNone, place),
-        Some((&head, _)) if head != usize::from(a) => found(Fault::CaseNotHead, place),
-        Some(_) if pending.len() >= PENDING_LIMIT => found(Fault::PendingFull, place),
+        None => found(Fault::CaseWithNone, position),
+        Some((&head, _)) if head != usize::from(a) => found(Fault::CaseNotHead, position),
+        Some(_) if pending.len() >= PENDING_LIMIT => found(Fault::PendingFull, position),
         Some((_, rest)) => Ok(rest.to_vec()),
     }
 }
 
 /// "Call takes the head after its arguments."
-fn call_head(pending: &Pending, a: u8, place: usize) -> Result<Pending, Found> {
+fn call_head(pending: &Pending, a: u8, position: usize) -> Result<Pending, Found> {
     match pending.split_first() {
-        None => found(Fault::CallWithNone, place),
-        Some((&head, _)) if head != usize::from(a) => found(Fault::CallNotHead, place),
+        None => found(Fault::CallWithNone, position),
+        Some((&head, _)) if head != usize::from(a) => found(Fault::CallNotHead, position),
         Some((_, rest)) => Ok(rest.to_vec()),
     }
 }

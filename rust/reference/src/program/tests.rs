@@ -75,8 +75,8 @@ fn assert_accepted(records: &[u8], program: &Program) {
 
 /// The records are refused by themselves, by the writer, and, if they are
 /// whole records, in a file.
-fn assert_records_refused(records: &[u8], number: u8, place: usize) {
-    let refusal = Refusal { number, place };
+fn assert_records_refused(records: &[u8], number: u8, position: usize) {
+    let refusal = Refusal { number, position };
     assert_eq!(Program::from_records(records), Err(refusal));
     assert_eq!(write_file(records), Err(refusal));
     let mut buffer = UNTOUCHED;
@@ -84,13 +84,13 @@ fn assert_records_refused(records: &[u8], number: u8, place: usize) {
     assert_eq!(write_file_into(records, &mut []), Err(refusal));
     assert!(buffer == UNTOUCHED);
     if !records.is_empty() && records.chunks_exact(8).remainder().is_empty() {
-        assert_file_refused(&lay_out(records), number, place);
+        assert_file_refused(&lay_out(records), number, position);
     }
 }
 
 /// The file is refused, with a long buffer or none.
-fn assert_file_refused(file: &[u8], number: u8, place: usize) {
-    let refusal = Refusal { number, place };
+fn assert_file_refused(file: &[u8], number: u8, position: usize) {
+    let refusal = Refusal { number, position };
     assert_eq!(read_file(file), Err(refusal));
     let mut buffer = UNTOUCHED;
     assert_eq!(read_file_into(file, &mut buffer), Err(refusal));

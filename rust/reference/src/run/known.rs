@@ -75,7 +75,7 @@ fn answer(text: &str, written: usize) -> Ran {
     let count = |word| field(text, word).map_or(0, parsed::<usize>);
     let first = text.split(", ").next().unwrap_or("");
     let words: Vec<&str> = first.split(' ').collect();
-    let refusal = |number, place| Some(Refusal { number, place });
+    let refusal = |number, position| Some(Refusal { number, position });
     let (refusal, number) = match words[..] {
         ["ended"] => (None, 0),
         ["ended", "with", number] => (None, parsed(number)),
@@ -114,9 +114,9 @@ fn with_answer(name: &str, case: RunCase, program: &Program, answer: Ran, wrote:
 
 /// "A run refused before its first instruction or expression answers 0 in
 /// every count."
-fn refused(number: u8, place: usize) -> Ran {
+fn refused(number: u8, position: usize) -> Ran {
     Ran {
-        refusal: Some(Refusal { number, place }),
+        refusal: Some(Refusal { number, position }),
         units: 0,
         read: 0,
         written: 0,

@@ -47,7 +47,7 @@ pub fn all() -> Vec<Known> {
 /// A table with a run in each line: what it shows; the functions; what is
 /// given, which is `input BYTES`, `room BYTES` for the length of the output,
 /// and `fuel COUNT`; and the answer, which is `ended`, `ended with NUMBER` or
-/// `refused NUMBER at PLACE`, then `begun` and `wrote BYTES`. Left out, fuel
+/// `refused NUMBER at POSITION`, then `begun` and `wrote BYTES`. Left out, fuel
 /// is the greatest, and the others are empty or 0.
 fn table(text: &'static str) -> Vec<Known> {
     let lines = text.lines().filter(|line| !line.is_empty());
@@ -75,7 +75,7 @@ fn answer(text: &str, begun: u64) -> Sourced {
     match words[..] {
         ["ended"] => ended(begun, 0),
         ["ended", "with", number] => ended(begun, parsed(number)),
-        ["refused", number, "at", place] => refused(parsed(number), parsed(place), begun),
+        ["refused", number, "at", position] => refused(parsed(number), parsed(position), begun),
         _ => panic!("no answer: {text}"),
     }
 }
@@ -93,9 +93,9 @@ fn ended(begun: u64, number: i32) -> Sourced {
     }
 }
 
-fn refused(number: u8, place: usize, begun: u64) -> Sourced {
+fn refused(number: u8, position: usize, begun: u64) -> Sourced {
     Sourced {
-        refused: Some(Refusal { number, place }),
+        refused: Some(Refusal { number, position }),
         begun,
         written: 0,
         number: 0,

@@ -73,7 +73,13 @@ fn written(value: &Value, begun: u64, output: &mut [u8]) -> Sourced {
     }
 }
 
-/// "source run 0": the place of 14, 17 and 18.
+/// "source run 0": the position of 14, 17 and 18.
 fn refused_at_0(number: u8, begun: u64) -> Sourced {
-    Sourced::refused(Refusal { number, place: 0 }, begun)
+    Sourced::refused(
+        Refusal {
+            number,
+            position: 0,
+        },
+        begun,
+    )
 }

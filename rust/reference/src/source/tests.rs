@@ -50,7 +50,7 @@ fn known_programs_not_in_order_are_run() {
         let (sourced, output) = SourceCase::new(&file, &leaf, 0, 3).perform();
         let answer = Refusal {
             number: 14,
-            place: 0,
+            position: 0,
         };
         assert_eq!(sourced.refused, Some(answer), "{}", known.name);
         assert_eq!(output, [FILLER; 3], "{}", known.name);
@@ -71,7 +71,7 @@ fn answers_in_words() {
     let refused = Sourced::refused(
         Refusal {
             number: 18,
-            place: 0,
+            position: 0,
         },
         1_024,
     );

@@ -69,7 +69,7 @@ fn known_files_into_buffers() {
         }
         let too_short = Refusal {
             number: 13,
-            place: 0,
+            position: 0,
         };
         for length in [0, 7, 8, code.len() / 2, code.len() - 8, code.len() - 1] {
             let mut buffer = vec![FILLER; length];
@@ -104,8 +104,8 @@ fn listings_of_known_files() {
         let mut lines = text.lines();
         let heading = lines.next().expect("a heading");
         match known.answer {
-            Err(Refusal { number, place }) => {
-                assert_eq!(heading, format!("refused {number} {place}"));
+            Err(Refusal { number, position }) => {
+                assert_eq!(heading, format!("refused {number} {position}"));
                 assert_eq!(lines.next(), None);
             }
             Ok(code) => {

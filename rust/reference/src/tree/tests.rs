@@ -23,9 +23,9 @@ fn assert_read(input: &[u8], tree: &Tree, end: usize) {
     assert_eq!(tree_refusal(input), None);
 }
 
-/// Both readers refuse with this number and place.
-fn assert_refused(input: &[u8], number: u8, place: usize) {
-    let refusal = Refusal { number, place };
+/// Both readers refuse with this number and position.
+fn assert_refused(input: &[u8], number: u8, position: usize) {
+    let refusal = Refusal { number, position };
     assert_eq!(read_tree(input).unwrap_err(), refusal);
     assert_eq!(tree_end(input), Err(refusal));
     assert_eq!(tree_bytes(input), []);
@@ -183,8 +183,11 @@ fn the_end_of_a_hundred_million_bytes() {
     assert_eq!(input.len(), end);
     input.push(3);
     assert_eq!(tree_end(&input), Ok(end));
-    let place = end - 4;
-    let refusal = Refusal { number: 15, place };
+    let position = end - 4;
+    let refusal = Refusal {
+        number: 15,
+        position,
+    };
     assert_eq!(tree_end(&input[..end - 1]), Err(refusal));
 }
 
@@ -220,12 +223,12 @@ fn a_label_not_whole() {
     assert_refused(&[1, 3, 3, 3], 15, 1);
 }
 
-/// Every cut of the tree is 15 at the place given for its length.
-fn assert_cuts(tree: &Tree, places: &[usize]) {
+/// Every cut of the tree is 15 at the position given for its length.
+fn assert_cuts(tree: &Tree, positions: &[usize]) {
     let tokens = tree.tokens();
-    assert_eq!(tokens.len(), places.len());
-    for (length, &place) in places.iter().enumerate() {
-        assert_refused(&tokens[..length], 15, place);
+    assert_eq!(tokens.len(), positions.len());
+    for (length, &position) in positions.iter().enumerate() {
+        assert_refused(&tokens[..length], 15, position);
     }
     assert_read(&tokens, tree, tokens.len());
 }
@@ -345,7 +348,7 @@ fn the_first_fault_from_the_left_is_told() {
 // Both readers on random and damaged inputs
 
 /// Both readers agree; what is read is what was written, and what stands
-/// before the place of a refusal is free of faults. Gives the number of the
+/// before the position of a refusal is free of faults. Gives the number of the
 /// refusal, 0 for none.
 fn assert_agree(input: &[u8]) -> u8 {
     match read_tree(input) {
@@ -358,7 +361,7 @@ fn assert_agree(input: &[u8]) -> u8 {
         }
         Err(refusal) => {
             assert_eq!(tree_end(input), Err(refusal));
-            assert_refused(&input[..refusal.place], 15, refusal.place);
+            assert_refused(&input[..refusal.position], 15, refusal.position);
             refusal.number
         }
     }

@@ -56,9 +56,9 @@ bytes.
 
 If a line can't be read, it writes no file and prints 'refused
 FILE:LINE:COLUMN:' and what is wrong there on standard error. If the records are
-no program's, it prints 'refused NUMBER PLACE' as 'hogvax pack' does, and in
-words what is wrong, with its place in the text. Names, types and the order of
-trees are not looked at here, but by 'hogvax check'.
+no program's, it prints 'refused NUMBER POSITION' as 'hogvax pack' does, and in
+words what is wrong, with line and column. Names, types and the order of trees
+are not looked at here, but by 'hogvax check'.
 
 Example:
   $ ./hogvax assemble samples/texts/relabel-add-one.txt --out grow.program

@@ -19,11 +19,11 @@ Reads a program file or the text of a program, and prints 'passed' if the
 program names, types and orders its trees rightly, so that it can run over a
 stream.
 
-If not, it prints 'refused NUMBER PLACE'. The number is 1 to 7 if the file is no
-program's, as in 'hogvax help unpack'; 9 if a name is not bound, 8 for a wrong
-type, 10 for too many words, 11 if the trees are not taken in order, 12 if too
-many are pending. From 4 on the place is a record, counted from 0, the header;
-'hogvax why NUMBER' says more.
+If not, it prints 'refused NUMBER POSITION'. The number is 1 to 7 if the file is
+no program's, as in 'hogvax help unpack'; 9 if a name is not bound, 8 for a
+wrong type, 10 for too many words, 11 if the trees are not taken in order, 12 if
+too many are pending. From 4 on the position is a record, counted from 0, the
+header; 'hogvax why NUMBER' says more.
 
 If the program is a text, as in 'hogvax help assemble', it says on standard
 error what is wrong there, with line and column. A text that can't be read is

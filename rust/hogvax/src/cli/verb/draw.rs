@@ -31,8 +31,8 @@ standard output is a terminal, else 80. A level of the tree has at least 2
 columns, so a tree that is too deep for them is drawn wider.
 
 If that tree, or one before it, is refused, it draws none and prints 'refused
-NUMBER PLACE', where the number is 15, 16 or 20 and the place is a byte, counted
-from 0 at the start of the file; 'hogvax why NUMBER' says more.
+NUMBER POSITION', where the number is 15, 16 or 20 and the position is a byte,
+counted from 0 at the start of the file; 'hogvax why NUMBER' says more.
 
 Example:
   $ ./hogvax draw samples/clades.tokens --width 18

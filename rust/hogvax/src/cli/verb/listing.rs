@@ -21,8 +21,8 @@ prints the program's code: 'code COUNT', then a line for each instruction, which
 has its address, opcode, byte 1, operand and number. All are decimal, and the
 number is signed.
 
-If the program can't be translated, it prints 'refused NUMBER PLACE', with the
-same number and place as 'hogvax check'. A text is refused as there.
+If the program can't be translated, it prints 'refused NUMBER POSITION', with
+the same number and position as 'hogvax check'. A text is refused as there.
 
 Example:
   $ ./hogvax listing samples/programs/sum.program

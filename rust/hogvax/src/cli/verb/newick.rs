@@ -17,9 +17,9 @@ Reads token bytes, any number of trees back to back, and prints each tree on a
 line as Newick text: '(A,B)' for a node with the trees A and B, its label for a
 leaf, and ';' at the end. 'hogvax tokens' goes the other way.
 
-If a tree is refused, it prints no tree and 'refused NUMBER PLACE', where the
-number is 15, 16 or 20 and the place is a byte, counted from 0 at the start of
-the file; 'hogvax why NUMBER' says more.
+If a tree is refused, it prints no tree and 'refused NUMBER POSITION', where the
+number is 15, 16 or 20 and the position is a byte, counted from 0 at the start
+of the file; 'hogvax why NUMBER' says more.
 
 Example:
   $ ./hogvax newick samples/clades.tokens

@@ -17,8 +17,8 @@ blocks of 512 bytes, to standard output or into the file of --out. On standard
 error it prints 'file BYTES', the length of the program file.
 
 If the records are no program's, it writes no file and prints 'refused NUMBER
-PLACE' on standard error. The number is 4, 5, 6 or 7 and the place is a record,
-counted from 0, the header; 'hogvax why NUMBER' says more.
+POSITION' on standard error. The number is 4, 5, 6 or 7 and the position is a
+record, counted from 0, the header; 'hogvax why NUMBER' says more.
 
 Example:
   $ ./hogvax pack samples/programs/grow.records --out grow.program

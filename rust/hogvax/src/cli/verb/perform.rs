@@ -21,10 +21,10 @@ error it prints 'ended units U read R written W number X': the instructions
 performed, the bytes read and written, and the number that the code gave, 0 if
 it gave none.
 
-If the run is refused, it writes no data and prints 'refused NUMBER PLACE units
-U read R written W number 0' on standard error. The number is 14 to 19 and the
-place is the bytes read; 'hogvax why NUMBER' says more. With --partial it still
-writes what the run wrote before the refusal.
+If the run is refused, it writes no data and prints 'refused NUMBER POSITION
+units U read R written W number 0' on standard error. The number is 14 to 19 and
+the position is the bytes read; 'hogvax why NUMBER' says more. With --partial it
+still writes what the run wrote before the refusal.
 
 With --space the output has room for M bytes. Without, it has room for 1 MiB or
 twice the input, whichever is more; where that is too little the run is made

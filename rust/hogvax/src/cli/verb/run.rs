@@ -23,11 +23,11 @@ read and written, and the number, 0 if the program gives a tree. A run reads one
 tree, which begins FILE; bytes after that tree are not looked at.
 
 If the program or the run is refused, it writes no data and prints 'refused
-NUMBER PLACE units U read R written W number 0' on standard error. The number is
-1 to 12 if the program is refused, as in 'hogvax help check', and all counts are
-0. It is 14 to 18 if the run is, and the place is then the bytes read. 'hogvax
-why NUMBER' says more. With --partial it still writes what the run wrote before
-the refusal.
+NUMBER POSITION units U read R written W number 0' on standard error. The number
+is 1 to 12 if the program is refused, as in 'hogvax help check', and all counts
+are 0. It is 14 to 18 if the run is, and the position is then the bytes read.
+'hogvax why NUMBER' says more. With --partial it still writes what the run wrote
+before the refusal.
 
 What is wrong with a text is said on standard error, too, with line and column.
 A text that can't be read is 'refused FILE:LINE:COLUMN:' and what is wrong.

@@ -26,7 +26,7 @@ The file may be a text, too: its lines are then numbered and indented anew, and
 its own comments are left out. The program may be one that 'hogvax check'
 refuses with 8 to 12.
 
-If the file is no program's, it prints 'refused NUMBER PLACE', as in 'hogvax
+If the file is no program's, it prints 'refused NUMBER POSITION', as in 'hogvax
 help unpack'; or if it is a text that can't be read, 'refused FILE:LINE:COLUMN:'
 and what is wrong there.
 

@@ -24,11 +24,12 @@ the expressions begun, the bytes written, and the number, 0 if the program gives
 a tree. Bytes after the tree in FILE are not looked at.
 
 If the program, the input or the run is refused, it writes no data and prints
-'refused NUMBER PLACE begun B written 0 number 0' on standard error. The number
-is 1 to 10 if the program is refused, as in 'hogvax help check', and 15, 16 or
-20 if no tree begins FILE, as in 'hogvax help tree'; B is then 0. It is 14 if
-the fuel is used up, 18 if too many calls are open and 17 if the output is
-shorter than the result, and the place is then 0. 'hogvax why NUMBER' says more.
+'refused NUMBER POSITION begun B written 0 number 0' on standard error. The
+number is 1 to 10 if the program is refused, as in 'hogvax help check', and 15,
+16 or 20 if no tree begins FILE, as in 'hogvax help tree'; B is then 0. It is 14
+if the fuel is used up, 18 if too many calls are open and 17 if the output is
+shorter than the result, and the position is then 0. 'hogvax why NUMBER' says
+more.
 
 What is wrong with a text is said on standard error, too, with line and column.
 A text that can't be read is 'refused FILE:LINE:COLUMN:' and what is wrong.

@@ -15,8 +15,8 @@ pub const VERB: Verb = Verb {
     description: "\
 Reads token bytes and prints 'tree BYTES', the length of the tree that begins
 them. Bytes after that tree are not looked at. If no tree begins them, it
-prints 'refused NUMBER PLACE', where the number is 15, 16 or 20 and the place
-is a byte, counted from 0; 'hogvax why NUMBER' says more.
+prints 'refused NUMBER POSITION', where the number is 15, 16 or 20 and the
+position is a byte, counted from 0; 'hogvax why NUMBER' says more.
 
 Example:
   $ ./hogvax tree samples/small.tokens

@@ -17,9 +17,9 @@ or into the file of --out. On standard error it prints 'records BYTES', the
 length of all records together.
 
 If the file is no program's, it writes no records and prints 'refused NUMBER
-PLACE' on standard error. The number is 1 to 7. The place is 0 for 1, a block
-for 2 and 3, a record for 4 to 7, each counted from 0 at the start of the file;
-'hogvax why NUMBER' says more.
+POSITION' on standard error. The number is 1 to 7. The position is 0 for 1, a
+block for 2 and 3, a record for 4 to 7, each counted from 0 at the start of the
+file; 'hogvax why NUMBER' says more.
 
 Example:
   $ ./hogvax unpack samples/programs/grow.program --out grow.records

@@ -14,7 +14,8 @@ pub const VERB: Verb = Verb {
     options: "",
     summary: "what a refusal means",
     description: "\
-Says what a refusal's number means and what its place counts, with an example.
+Says what a refusal's number means and what its position counts, with an
+example.
 
 Example:
   $ ./hogvax why 16
@@ -49,11 +50,11 @@ fn why(word: &str) -> Outcome {
         number,
         name,
         meaning,
-        place,
+        position,
         example,
     } = refusal;
     output::print(&format!(
-        "{number}: {name}\n\n{meaning}\nPlace: {place}\nExample: {example}\n"
+        "{number}: {name}\n\n{meaning}\nPosition: {position}\nExample: {example}\n"
     ))?;
     Ok(Ended::Done)
 }

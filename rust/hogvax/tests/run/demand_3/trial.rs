@@ -147,7 +147,11 @@ impl Trial<'_> {
     /// many calls.
     fn check_refusal(&self, ran: &Ran, fuel: u64, room: usize) {
         let refused = ran.refused.expect("a refusal");
-        assert_eq!((refused.place, ran.number), (ran.read as u64, 0), "{self}");
+        assert_eq!(
+            (refused.position, ran.number),
+            (ran.read as u64, 0),
+            "{self}"
+        );
         assert_eq!(refused.number == 14, ran.units == fuel, "{ran}, {self}");
         let free = room - ran.written;
         match (self.meaning.within(), refused.number) {

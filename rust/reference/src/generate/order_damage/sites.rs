@@ -10,7 +10,7 @@ pub struct Site<'a> {
     /// The place of its record among the function's nodes.
     pub node: usize,
     /// The number of its record.
-    pub place: usize,
+    pub position: usize,
     pub expr: &'a Expr,
     pub context: Context,
     /// The trees pending on entering and on leaving it.
@@ -29,7 +29,7 @@ pub fn sites(program: &Program) -> Vec<Site<'_>> {
             sites.push(Site {
                 function: k,
                 node,
-                place: 1 + program.functions.len() + sites.len(),
+                position: 1 + program.functions.len() + sites.len(),
                 expr,
                 context,
                 entered,

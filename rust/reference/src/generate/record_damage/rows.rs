@@ -1,5 +1,5 @@
 //! The records by rows, and the longer kinds of damage to them; each gives
-//! the place of the refusal.
+//! the position of the refusal.
 
 use crate::generate::programs;
 use crate::program::{kind, part_count, Record, PARAMETER_LIMIT};

@@ -54,7 +54,7 @@ fn known(line: &'static str) -> Known {
     let answer = Ran {
         refusal: stop.mark.number().map(|number| Refusal {
             number,
-            place: read,
+            position: read,
         }),
         units: field(answer, "units").map(parsed).expect("units"),
         read,

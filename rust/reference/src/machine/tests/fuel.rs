@@ -38,7 +38,7 @@ fn known_codes_with_a_unit_less() {
         };
         let (ran, trace, bytes) = ran(&known.case.with_fuel(fuel));
         let refusal = ran.refusal.expect("a refusal");
-        assert_eq!((refusal.number, refusal.place), (14, ran.read));
+        assert_eq!((refusal.number, refusal.position), (14, ran.read));
         assert_eq!((ran.units, ran.number), (fuel, 0), "{}", known.name);
         let hidden = known.stop.mark.number().map(|_| known.stop.mark);
         assert_eq!(trace.stop.hidden, hidden, "{}", known.name);

@@ -30,7 +30,7 @@ fn refused_13_with(case: &TestCase, values: usize, returns: usize) {
     let ran = perform(code, input, fuel, &mut output, values, returns);
     let refusal = Refusal {
         number: 13,
-        place: 0,
+        position: 0,
     };
     assert_eq!(ran.refusal, Some(refusal));
     let counts = (ran.units, ran.read, ran.written, ran.number);

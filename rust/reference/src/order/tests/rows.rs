@@ -35,11 +35,11 @@ fn each_earlier_row_is_told_first() {
 fn wrong_lengths() {
     let header = Err(Refusal {
         number: 4,
-        place: 0,
+        position: 0,
     });
     let length = Err(Refusal {
         number: 1,
-        place: 0,
+        position: 0,
     });
     let records = programs()[0].records();
     for length in 0..records.len() {

@@ -229,8 +229,8 @@ fn assert_lent(result: &[u8], call: impl Fn(&mut [u8]) -> Result<usize, Refusal>
         let mut buffer = vec![0xaa; length];
         let answer = call(&mut buffer);
         if length < need {
-            let (number, place) = (13, 0);
-            assert_eq!(answer, Err(Refusal { number, place }));
+            let (number, position) = (13, 0);
+            assert_eq!(answer, Err(Refusal { number, position }));
             assert!(buffer.iter().all(|&byte| byte == 0xaa));
         } else {
             assert_eq!(answer, Ok(need));

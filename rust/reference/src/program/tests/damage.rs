@@ -142,7 +142,7 @@ fn each_damage_to_records_gives_its_refusal() {
                 continue;
             };
             assert_eq!(refusal.number, damage.number());
-            assert_records_refused(&records, refusal.number, refusal.place);
+            assert_records_refused(&records, refusal.number, refusal.position);
             count += 1;
         }
         assert!(count >= 10, "{damage:?}");
@@ -161,7 +161,7 @@ fn each_damage_to_a_file_gives_its_refusal() {
                 continue;
             };
             assert_eq!(refusal.number, damage.number());
-            assert_file_refused(&damaged, refusal.number, refusal.place);
+            assert_file_refused(&damaged, refusal.number, refusal.position);
             count += 1;
         }
         assert!(count >= 5, "{damage:?}");

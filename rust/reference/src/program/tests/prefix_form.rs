@@ -24,7 +24,7 @@ fn too_few_and_too_many_records() {
 fn nodes_moved_between_functions() {
     let good = records(&[(0, &[ADD, C, C]), (0, &[LEAF, C]), (0, &[C])]);
     assert!(Program::from_records(&good).is_ok());
-    for (counts, place) in [
+    for (counts, position) in [
         ([2, 3, 1], 4),
         ([4, 1, 1], 4),
         ([1, 4, 1], 4),
@@ -37,7 +37,7 @@ fn nodes_moved_between_functions() {
         for (k, &count) in counts.iter().enumerate() {
             records[8 * (1 + k) + 2] = count;
         }
-        assert_records_refused(&records, 7, place);
+        assert_records_refused(&records, 7, position);
     }
 }
 
@@ -80,9 +80,12 @@ fn prefix_form_is_what_counting_says() {
         let wrong = records[1..=functions].iter().find_map(|function| {
             let end = first + usize::from(function.b);
             let right = is_one_expression(&records[first..end], &parameters);
-            let place = first;
+            let position = first;
             first = end;
-            (!right).then_some(Refusal { number: 7, place })
+            (!right).then_some(Refusal {
+                number: 7,
+                position,
+            })
         });
         let found = Program::from_records(&bytes);
         assert_eq!(found.as_ref().err(), wrong.as_ref());

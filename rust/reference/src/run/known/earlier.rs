@@ -35,7 +35,7 @@ fn run(name: &str, file: &[u8], refusal: Refusal, space: [usize; 3]) -> Known {
     };
     Known {
         name: format!("{name}, {space:?}"),
-        answer: refused(refusal.number, refusal.place),
+        answer: refused(refusal.number, refusal.position),
         output: vec![FILLER; case.output],
         code: vec![FILLER; case.code],
         case,

@@ -29,12 +29,15 @@ fn run(known: &Evaluated, ended: &Ended, fuel: u64) -> Known {
     let file = lay_out(&known.program.records());
     let wrote = ended.value.bytes();
     let case = RunCase::new(&file, &tokens, fuel, wrote.len(), CODE_BYTES);
-    let place = tokens.len();
+    let position = tokens.len();
     let short = fuel == ended.units;
     let answer = Ran {
-        refusal: short.then_some(Refusal { number: 14, place }),
+        refusal: short.then_some(Refusal {
+            number: 14,
+            position,
+        }),
         units: fuel,
-        read: place,
+        read: position,
         written: wrote.len(),
         number: if short { 0 } else { ended.value.number() },
     };

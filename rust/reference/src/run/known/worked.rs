@@ -1,4 +1,4 @@
-//! Document 01's worked cases, and refusals at other places.
+//! Document 01's worked cases, and refusals at other positions.
 
 use crate::order::known::text::program;
 use crate::program::lay_out;

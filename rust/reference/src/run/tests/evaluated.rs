@@ -53,8 +53,8 @@ impl Subject {
         assert_eq!(case.perform(), (ran, bytes.clone()), "{self:?}");
         assert!(bytes[ran.written..].iter().all(|&byte| byte == FILLER));
         assert!(ran.read <= self.tokens.len() && ran.units <= fuel);
-        let place = ran.refusal.map(|refusal| refusal.place);
-        assert!(place.is_none_or(|place| place == ran.read && ran.number == 0));
+        let position = ran.refusal.map(|refusal| refusal.position);
+        assert!(position.is_none_or(|position| position == ran.read && ran.number == 0));
         (ran, bytes)
     }
 

@@ -42,6 +42,6 @@ fn run(name: &str, file: &[u8], refusal: Refusal, space: [usize; 2]) -> Known {
         returns,
         ..SourceCase::new(file, &[], 0, 0)
     };
-    let answer = refused(refusal.number, refusal.place, 0);
+    let answer = refused(refusal.number, refusal.position, 0);
     with_answer(&format!("{name}, {space:?}"), case, answer, &[])
 }

@@ -1,4 +1,4 @@
-//! Document 01's worked cases, and refusals at other places.
+//! Document 01's worked cases, and refusals at other positions.
 
 pub const CASES: &str = "
 Grow on T                 | tree: Case 0, Leaf, Add, Var 0, Const 1, Node, Call 0 on 1, Call 0 on 2 | input 02 01 05 00 00 00 01 07 00 00 00, room 11, fuel 14 | ended, begun 14, wrote 02 01 06 00 00 00 01 08 00 00 00

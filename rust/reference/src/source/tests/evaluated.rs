@@ -44,7 +44,10 @@ impl Subject {
     /// The run is refused so, at 0, and nothing is written.
     fn refused(&self, random: &mut Random, (fuel, output): (u64, usize), number: u8, begun: u64) {
         let (sourced, _) = self.run(random, fuel, output);
-        let refusal = Refusal { number, place: 0 };
+        let refusal = Refusal {
+            number,
+            position: 0,
+        };
         let answer = Sourced::refused(refusal, begun);
         assert_eq!(sourced, answer, "{:?}", self.program.functions);
     }

@@ -24,7 +24,10 @@ fn expected(case: &SourceCase) -> Result<(Sourced, Vec<u8>), Refusal> {
     assert!(outcome.begun <= MODERATE, "{case:?}");
     let long = outcome.written.len() > case.output;
     let number = outcome.refused.or(long.then_some(17));
-    let refusal = number.map(|number| Refusal { number, place: 0 });
+    let refusal = number.map(|number| Refusal {
+        number,
+        position: 0,
+    });
     Ok(match refusal {
         Some(refusal) => (Sourced::refused(refusal, outcome.begun), vec![]),
         None => {

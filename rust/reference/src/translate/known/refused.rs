@@ -9,18 +9,18 @@ use super::Known;
 /// A file for each number from 1 to 12, and which row is told first.
 pub fn files() -> Vec<Known> {
     let mut files = broken();
-    files.extend(PROGRAMS.map(|(number, place, name, text)| {
+    files.extend(PROGRAMS.map(|(number, position, name, text)| {
         let file = lay_out(&program(text).records());
-        refused(number, place, name, file)
+        refused(number, position, name, file)
     }));
     files
 }
 
-fn refused(number: u8, place: usize, name: &'static str, file: Vec<u8>) -> Known {
+fn refused(number: u8, position: usize, name: &'static str, file: Vec<u8>) -> Known {
     Known {
         name,
         file,
-        answer: Err(Refusal { number, place }),
+        answer: Err(Refusal { number, position }),
     }
 }
 

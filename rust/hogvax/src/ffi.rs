@@ -1,6 +1,6 @@
 //! The calls that the static library exports. All `unsafe` code is here.
 //!
-//! A slice passes as pointer and length. The functions behind these calls are
+//! A slice passes as pointer and length. The functions of the library are
 //! proved to read and write inside the slices lent to them and nowhere else,
 //! and to keep no pointer, so every slice may be passed. A slice's pointer is
 //! not null and aligned, and it has fewer than 2^63 bytes, all initialised, as

@@ -177,7 +177,7 @@ pub fn perform_in(
     Ran::told(number, answer)
 }
 
-/// The call behind [`perform`], as the static library exports it: 0, or the
+/// The call that [`perform`] makes, as the static library exports it: 0, or the
 /// refusal's number; with the refusal's position (0 if there is none), the units,
 /// the bytes read, the bytes written and the number, sign-extended to 64 bits, in
 /// `answer`.

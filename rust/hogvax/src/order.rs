@@ -58,7 +58,7 @@ pub fn check_records(records: &[u8]) -> Result<(), Refused> {
     passed_or_refused(|answer| check_records_into(records, answer))
 }
 
-/// The call behind [`check`], as the static library exports it: 0, with 0 and
+/// The call that [`check`] makes, as the static library exports it: 0, with 0 and
 /// 0 in `answer`; or the refusal's number, with its position and 0 in `answer`.
 /// Slots of `answer` from 2 on are left as they are. With fewer than 2 slots
 /// the number is 13 and `answer` is left as it is.
@@ -67,7 +67,7 @@ pub fn check_into(file: &[u8], answer: &mut [u64]) -> u32 {
     ffi::check(file, answer)
 }
 
-/// The call behind [`check_records`], as the static library exports it. It
+/// The call that [`check_records`] makes, as the static library exports it. It
 /// answers as [`check_into`] does.
 #[doc(hidden)]
 pub fn check_records_into(records: &[u8], answer: &mut [u64]) -> u32 {

@@ -93,7 +93,7 @@ pub fn unpack(file: &[u8]) -> Result<Vec<u8>, Refused> {
     })
 }
 
-/// The call behind [`pack`], as the static library exports it: 0, with 0 and
+/// The call that [`pack`] makes, as the static library exports it: 0, with 0 and
 /// the length of the program file in `answer`, and the file at the start of
 /// `file`; or the refusal's number, with its position and 0 in `answer`.
 ///
@@ -121,7 +121,7 @@ pub fn pack_into(records: &[u8], file: &mut [u8], answer: &mut [u64]) -> u32 {
     ffi::pack(records, file, answer)
 }
 
-/// The call behind [`unpack`], as the static library exports it: 0, with 0
+/// The call that [`unpack`] makes, as the static library exports it: 0, with 0
 /// and the length of the records in `answer`, and the records at the start of
 /// `records`; or the refusal's number, with its position and 0 in `answer`.
 ///

@@ -150,7 +150,7 @@ pub fn source_in(
     Sourced::told(number, answer)
 }
 
-/// The call behind [`source`], as the static library exports it: 0, or the
+/// The call that [`source`] makes, as the static library exports it: 0, or the
 /// refusal's number; with the refusal's position (0 if there is none), the
 /// expressions begun, the bytes written and the number, sign-extended to 64
 /// bits, in `answer`.

@@ -31,7 +31,7 @@ pub fn translate(file: &[u8]) -> Result<Vec<u8>, Refused> {
     })
 }
 
-/// The call behind [`translate`], as the static library exports it: 0, with 0
+/// The call that [`translate`] makes, as the static library exports it: 0, with 0
 /// and the length of the code in `answer`, and the code at the start of
 /// `code`; or the refusal's number, with its position and 0 in `answer`.
 ///

@@ -25,7 +25,7 @@ pub fn tree(input: &[u8]) -> Result<usize, Refused> {
     length_or_refused(|answer| tree_into(input, answer))
 }
 
-/// The call behind [`tree`], as the static library exports it: 0, with 0 and
+/// The call that [`tree`] makes, as the static library exports it: 0, with 0 and
 /// the tree's length in `answer`; or the refusal's number, with its position and
 /// 0 in `answer`. Slots of `answer` from 2 on are left as they are. With
 /// fewer than 2 slots the number is 13 and `answer` is left as it is.

@@ -99,7 +99,7 @@ impl Fault {
     }
 }
 
-/// A fault and the record where it is told.
+/// A fault and the record where it is reported.
 #[derive(Clone, Copy, Debug, PartialEq, Eq)]
 pub struct Found {
     pub fault: Fault,
@@ -124,7 +124,7 @@ pub fn check_program(program: &Program) -> Result<(), Found> {
 
 /// Whether the two ways to perform pass two agree on a program that passes
 /// pass one. The walk comes to its end exactly where there is a derivation
-/// with lists of at most 16 names. It tells 11 only where there is none at
+/// with lists of at most 16 names. It reports 11 only where there is none at
 /// all, and 12 where only the limit is in the way.
 pub fn ways_agree(program: &Program) -> bool {
     let walked = walk::check(program).map_err(|found| found.fault.number());

@@ -251,7 +251,7 @@ impl<'a> Machine<'a> {
 }
 
 /// The stream run; see `hogvax::perform_into`. Not inlined, so that its
-/// machine instructions can be told apart.
+/// machine instructions can be distinguished.
 #[inline(never)]
 pub fn safe_perform(
     code: &[u8],

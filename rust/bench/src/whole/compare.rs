@@ -21,7 +21,7 @@ type OfEach<T> = [T; MEGABYTES.len()];
 /// comes first, while this process, which waits for those that it starts, has
 /// little of it.
 pub fn everything(file: &Path) -> io::Result<()> {
-    // A file that can't be written is told at once, not after some minutes.
+    // A file that can't be written is reported at once, not after some minutes.
     File::options().append(true).create(true).open(file)?;
     let programs = inputs::programs();
     println!("Peak memory beyond input and output, in MB:\n");

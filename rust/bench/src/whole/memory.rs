@@ -79,7 +79,7 @@ pub fn once(way: Way, program: &Program, tips: usize) -> Option<Used> {
     })
 }
 
-/// The same in a process of its own. `None` where it told nothing.
+/// The same in a process of its own. `None` where it reported nothing.
 pub fn measure(way: Way, program: &Program, megabytes: usize) -> Option<Used> {
     let ended = child(way, program, megabytes).expect("the benchmark can start itself");
     let told = String::from_utf8_lossy(&ended.stdout);

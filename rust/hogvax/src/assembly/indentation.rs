@@ -106,11 +106,8 @@ fn message(lines: &[Line], index: usize) -> Option<String> {
     let above = above.find(|above| above.place.column < line.place.column);
     let Some((whole, part)) = whole(lines, index) else {
         return Some(match above {
-            Some(above) => format!(
-                "{}, and it is left over behind the expression",
-                makes(above)
-            ),
-            None => "this is left over behind the expression, and begins further left".to_owned(),
+            Some(above) => format!("{}, and it is left over after the expression", makes(above)),
+            None => "this is left over after the expression, and begins further left".to_owned(),
         });
     };
     let first_part = lines.get(whole + 1)?;

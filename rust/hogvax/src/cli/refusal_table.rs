@@ -70,8 +70,8 @@ A function's result is not 0 or 1, its number parameters are more than 4 (or
 any, in function 0), its node count is 0, or bytes 4 to 7 are not zero; or the
 node counts of all functions do not sum to the header's.",
         position: "\
-the record; the header is record 0, function 0 has record 1. A wrong sum
-is told at the last function record.",
+the record; the header is record 0, function 0 has record 1. A wrong
+sum is reported at the last function record.",
         example: "\
 a header of 1 function and 8 nodes, and a function that counts 7:
   refused 5 1",
@@ -139,7 +139,7 @@ Trees are not taken in the order in which they come in the input, each once. A
 Case or Call names a tree that is not the head of the pending ones, or none is
 pending; the branches of a Case or IfZero leave different trees pending; or a
 function leaves a tree. The source run does not need this order: 'source' never
-tells it.",
+reports it.",
         position: "\
 the record of that Case or Call, of the Case or IfZero with those
 branches, or of the first node of that function; the header is record 0.",
@@ -159,7 +159,7 @@ Node, Call 0 on 2, Call 0 on 1; run, listing and check refuse it:
         meaning: "\
 A Case stands where 16 trees are pending. It would take one and put two in
 front, and 16 is the most. The source run has no pending trees: 'source' never
-tells it.",
+reports it.",
         position: "the record of the Case; the header is record 0.",
         example: "\
 one function, which gives a number: 16 times Case with Const 1 as its
@@ -174,7 +174,7 @@ Const 1 as the last node part:
 A buffer that the caller lends for code, for a file, for records, for work
 words or for the answer is shorter than the call needs. Code takes 8 bytes for
 each instruction of the program at hand. A run always needs 16,384 value words
-and 2,048 return words. A short answer is told before all else, the others
+and 2,048 return words. A short answer is reported before all else, the others
 after all faults of the program and before the input is looked at or anything
 is written. This command lends enough; a program that calls the library may
 meet it.",
@@ -294,7 +294,7 @@ an empty code buffer, fuel 1:
         name: "too deep",
         meaning: "\
 A node tag stands under 1,024 other nodes. A leaf may stand there, so a tree of
-depth 1,024 is read. The tree reader tells it, and so does the source run; a
+depth 1,024 is read. The tree reader reports it, and so does the source run; a
 stream run has no such limit.",
         position: "the byte of that tag, counted from 0.",
         example: "\

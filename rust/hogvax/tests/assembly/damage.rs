@@ -1,5 +1,5 @@
 //! Texts damaged at random or cut short: whatever they are, they are read or
-//! told.
+//! reported.
 
 use hogvax::assembly::{self, read};
 use hogvax::Place;

@@ -1,4 +1,4 @@
-//! Texts that can't be put into records: what is told of them, and where.
+//! Texts that can't be put into records: what is reported of them, and where.
 
 use hogvax::assembly::LONGEST_TEXT;
 
@@ -6,12 +6,12 @@ use super::*;
 
 const FUNCTION: &str = "function 0 takes tree 0 gives tree\n";
 
-/// This is told of the text.
+/// This is reported of the text.
 fn assert_told(text: &str, told: &str) {
     assert_eq!(fault(text), told, "{text}");
 }
 
-/// A record behind a function line is told so, its column counted from its
+/// A record after a function line is reported so, its column counted from its
 /// own line's start.
 fn assert_record_told(record: &str, column: usize, message: &str) {
     let told = format!("2:{column}: record 2: {message}");
@@ -245,7 +245,7 @@ fn the_first_fault_is_told() {
     assert_record_told("Call x in y", 6, "a function is 0 to 65535, not 'x'");
 }
 
-/// Nodes are numbered behind all functions of the text.
+/// Nodes are numbered after all functions of the text.
 #[test]
 fn a_message_has_the_number_of_the_record() {
     let text = "\

@@ -59,7 +59,7 @@ fn sample(name: &str) -> Vec<u8> {
     std::fs::read(format!("{folder}/{name}")).unwrap()
 }
 
-/// What is told of a text that can't be read.
+/// What is reported of a text that can't be read.
 fn fault(text: impl AsRef<[u8]>) -> String {
     match read(text.as_ref()) {
         Ok(text) => panic!("read: {text:?}"),

@@ -73,7 +73,7 @@ fn show_counts_one_function_and_one_node_as_one() {
 }
 
 /// The text of each line: its indentation, its record, and what it binds,
-/// behind two blanks or more.
+/// after two blanks or more.
 fn assert_line(text: &str, line: &Line, step: usize) {
     let indent = " ".repeat(step * line.steps);
     let rest = text

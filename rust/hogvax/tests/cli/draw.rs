@@ -118,7 +118,7 @@ fn draw_draws_the_tree_that_is_asked_for() {
     assert_says(&draw_on(&["--width", "80"], &input), 0, &first);
 }
 
-/// Behind more than is read at once.
+/// After more than is read at once.
 #[test]
 fn draw_finds_a_tree_far_in_the_file() {
     let mut input = T.repeat(300_000);

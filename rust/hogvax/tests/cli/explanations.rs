@@ -79,7 +79,7 @@ fn refusals_of_check_and_listing_are_explained() {
     }
 }
 
-/// On standard error, with counts of 0 and the explanation behind them. The
+/// On standard error, with counts of 0 and the explanation after them. The
 /// source run takes trees in any order.
 #[test]
 fn refusals_of_runs_are_explained() {
@@ -147,7 +147,7 @@ fn an_explanation_that_cannot_be_written_is_trouble() {
 
 // Notices
 
-/// Behind the answer, and no reason to refuse.
+/// After the answer, and no reason to refuse.
 #[test]
 fn a_line_that_stands_elsewhere_is_told() {
     for (verb, text) in [
@@ -169,7 +169,7 @@ fn a_line_that_stands_elsewhere_is_told() {
     }
 }
 
-/// Behind the explanation.
+/// After the explanation.
 #[test]
 fn a_line_that_stands_elsewhere_is_told_of_a_refused_program() {
     let text = MISPLACED.replace("Var 0", "Var 1");

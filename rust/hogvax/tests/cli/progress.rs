@@ -7,7 +7,7 @@ use std::time::Duration;
 use super::terminal::{in_terminal, quoted};
 use super::*;
 
-/// Longer than the second before which nothing is told.
+/// Longer than the second before which nothing is reported.
 const LONG: Duration = Duration::from_millis(1_500);
 
 /// Standard error is no terminal here: it has the answer alone.

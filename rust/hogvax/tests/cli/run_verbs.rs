@@ -112,7 +112,7 @@ impl Verb {
         run_on(&[&[self.name, "-", &small()], options].concat(), first)
     }
 
-    /// Grow on T is told as it is.
+    /// Grow on T is reported as it is.
     pub fn assert_grown(&self, output: &Output) {
         assert_gives(output, 0, &GROWN, self.ended);
     }

@@ -180,7 +180,7 @@ fn a_file_with_a_zero_byte_is_a_program_file() {
     }
 }
 
-/// The text with a comment behind it, so that it has so many bytes.
+/// The text with a comment after it, so that it has so many bytes.
 fn of_length(text: &str, bytes: usize) -> String {
     let comment = "#".repeat(bytes - text.len());
     format!("{text}{comment}")
@@ -209,7 +209,7 @@ fn longer_and_endless_texts_are_refused() {
         assert_gives(&RUN.run_first(text.as_bytes(), &[]), 1, &[], &line);
         assert_gives(&run_on(&["assemble"], text.as_bytes()), 1, &[], &line);
     }
-    // What stands behind is not looked at.
+    // What stands after it is not looked at.
     let text = [of_length(GROW, LONGEST_TEXT).as_bytes(), b"\0\xff"].concat();
     let output = run_on(&["check"], &text[..=LONGEST_TEXT]);
     assert_says(&output, 1, "refused 1 0\n");

@@ -155,7 +155,7 @@ fn tokens_are_refused_with_file_line_and_column() {
     }
 }
 
-/// The file's name is told as it was given.
+/// The file's name is reported as it was given.
 #[test]
 fn tokens_tell_a_file_by_the_name_given() {
     let path = folder("tokens-name").join("a b.nwk");

@@ -78,7 +78,7 @@ fn moved(lines: &[&str], line: usize, column: usize) -> String {
     lines.join("\n")
 }
 
-/// Whichever line is moved, and wherever to, it is told if it is not the first
+/// Whichever line is moved, and wherever to, it is reported if it is not the first
 /// part of a record; a first part is, where it does not begin further right
 /// than its whole.
 #[test]
@@ -179,12 +179,12 @@ fn each_way_to_be_misplaced_has_its_message() {
             ["  Add", "    Const 1", "    Const 2", "    Const 3"],
             5,
             "the indentation makes this a part of 'Add' (line 2), \
-             and it is left over behind the expression",
+             and it is left over after the expression",
         ),
         (
             ["  Add", "    Const 1", "    Const 2", "Const 3"],
             5,
-            "this is left over behind the expression, and begins further left",
+            "this is left over after the expression, and begins further left",
         ),
     ] {
         let text = format!(

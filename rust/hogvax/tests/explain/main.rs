@@ -95,7 +95,7 @@ fn explained(records: &[u8], refused: Refused) -> Explanation {
     explanation
 }
 
-/// What stands behind these words in a detail, if one begins with them.
+/// What stands after these words in a detail, if one begins with them.
 fn told<'a>(explanation: &'a Explanation, words: &str) -> Option<&'a str> {
     let mut texts = explanation.details.iter().map(|detail| &detail.text);
     texts.find_map(|text| text.strip_prefix(words))
@@ -118,7 +118,7 @@ fn is_out_of_turn(explanation: &Explanation) -> bool {
 }
 
 /// The refusal of a text and its explanation. Details have the line of their
-/// record behind them.
+/// record after them.
 fn told_of(text: &str) -> String {
     let text = read(text.as_bytes()).unwrap();
     let refused = hogvax::check_records(&text.records).unwrap_err();

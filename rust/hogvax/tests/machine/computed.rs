@@ -7,7 +7,7 @@ use super::cases::worked;
 use super::*;
 
 /// The program ends so with fuel for its units, and gives 14 with a unit less,
-/// all being read and written. What stands behind the tree is not read.
+/// all being read and written. What stands after the tree is not read.
 pub fn check(lent: &mut Lent, tree: &Tree, computed: &Computed, behind: &[u8]) {
     let tokens = tree.tokens();
     let (listing, ref bytes, number, units) = *computed;

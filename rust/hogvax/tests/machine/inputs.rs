@@ -1,4 +1,4 @@
-//! Inputs cut at every byte, and what stands behind the bytes read.
+//! Inputs cut at every byte, and what stands after the bytes read.
 
 use std::collections::BTreeMap;
 
@@ -16,7 +16,7 @@ fn with_input(case: &TestCase, input: &[u8]) -> TestCase {
     }
 }
 
-/// How many bytes behind those read a run has looked at: at 16 the byte that
+/// How many bytes after those read a run has looked at: at 16 the byte that
 /// is no tag, at 15 up to four bytes or the end.
 fn looked_at(gave: &Gave) -> usize {
     match gave.number {
@@ -27,7 +27,7 @@ fn looked_at(gave: &Gave) -> usize {
 }
 
 /// Without all bytes that it reads, a run gives 15 where a tag or label is not
-/// whole; those behind them change nothing.
+/// whole; those after them change nothing.
 #[test]
 fn inputs_cut_at_every_byte() {
     let mut lent = Lent::new();
@@ -51,7 +51,7 @@ fn inputs_cut_at_every_byte() {
     assert!(seen.iter().all(|&count| count > 100), "{seen:?}");
 }
 
-/// Other bytes, or none, behind these.
+/// Other bytes, or none, after these.
 fn others(random: &mut Random, bytes: &[u8], most: usize) -> Vec<Vec<u8>> {
     let mut inputs = vec![bytes.to_vec()];
     for _ in 0..3 {

@@ -41,7 +41,7 @@ impl Seen {
     }
 }
 
-/// All that can be performed. A return goes behind a call, which never stands
+/// All that can be performed. A return goes after a call, which never stands
 /// at the return's own address, so it never goes on to the next.
 fn performed() -> Vec<(u8, bool)> {
     let on = (opcode::PUSH..opcode::RETURN).map(|opcode| (opcode, true));

@@ -71,7 +71,7 @@ fn comment(text: &[char]) -> Option<usize> {
     Some(end? + 1)
 }
 
-/// The name in quotes, of which the first is behind, and its length with the
+/// The name in quotes, of which the first has been read, and its length with the
 /// last one.
 fn quoted(text: &[char]) -> Option<(String, usize)> {
     let mut name = String::new();

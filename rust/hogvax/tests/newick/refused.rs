@@ -293,7 +293,7 @@ fn bytes_that_are_not_utf_8_are_told_where_they_stand() {
     }
 }
 
-/// The first fault from the left is told, whatever follows.
+/// The first fault from the left is reported, whatever follows.
 #[test]
 fn the_first_fault_is_told() {
     assert_eq!(fault(b"(1,2,\xff"), fault(b"(1,2,3);"));
@@ -301,7 +301,7 @@ fn the_first_fault_is_told() {
     assert_eq!(fault(b"(1,2));'"), "1:6: no '(' for this ')'");
 }
 
-/// Nothing behind a fault is read, so it need not end.
+/// Nothing after a fault is read, so it need not end.
 #[test]
 fn endless_text_is_refused_at_its_first_fault() {
     for (text, rest) in [

@@ -38,7 +38,7 @@ impl Seen {
 }
 
 /// Every program as it was made, changed at random, and with each fault, which
-/// is told where it was put.
+/// is reported where it was put.
 #[test]
 fn random_programs_are_answered_as_the_reference_does() {
     let mut random = Random::new(160);
@@ -60,7 +60,7 @@ fn random_programs_are_answered_as_the_reference_does() {
 }
 
 /// Each of the functions of two programs that differ in one: pass one's fault
-/// is told before pass two's, in whatever functions they are.
+/// is reported before pass two's, in whatever functions they are.
 #[test]
 fn of_faults_in_two_functions_one_is_told() {
     let mut random = Random::new(161);

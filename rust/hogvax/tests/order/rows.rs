@@ -73,7 +73,7 @@ fn two_functions(second: u16, nodes: [Record; 6]) -> Vec<u8> {
 }
 
 /// "A check row is finished for the whole file before the next begins": each
-/// line mends the fault that the line before it told.
+/// line mends the fault that the line before it reported.
 #[test]
 fn each_row_is_finished_before_the_next() {
     for (second, nodes, expected) in [

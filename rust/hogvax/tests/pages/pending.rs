@@ -102,7 +102,7 @@ fn the_tables_go_through_their_programs() {
         let steps: Vec<&Row> = steps.collect();
         let listed: Vec<_> = steps.iter().flat_map(|row| listed(&row[0])).collect();
         // The function's own record comes first, and the last Call of `swap`
-        // stands behind the one that is refused.
+        // stands after the one that is refused.
         let records = records(name);
         assert_eq!(
             listed,

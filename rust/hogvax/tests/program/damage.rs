@@ -81,7 +81,7 @@ fn to_file(random: &mut Random, number: u8, file: &[u8]) -> Option<(Vec<u8>, Ref
 }
 
 /// Damage to later rows first: at each turn an earlier row is damaged too,
-/// and its refusal is told.
+/// and its refusal is reported.
 #[test]
 fn of_damages_to_many_rows_the_first_is_told() {
     let mut random = Random::new(122);
@@ -145,7 +145,7 @@ fn of_any_two_damages_the_earlier_row_is_told() {
 }
 
 /// The two block tests go together: of a wrong field and a wrong check in
-/// different blocks the first block's is told, in one block the check.
+/// different blocks the first block's is reported, in one block the check.
 #[test]
 fn block_tests_go_together_block_by_block() {
     let mut random = Random::new(124);

@@ -1,4 +1,4 @@
-//! Trees that stand one behind the other, and trees deeper than the tree
+//! Trees that stand one after the other, and trees deeper than the tree
 //! reader reads.
 
 use reference::generate::{self, left_caterpillar, mixed_caterpillar, right_caterpillar};
@@ -20,7 +20,7 @@ fn meant(program: &Program, tree: &Tree) -> (Vec<u8>, i32, u64) {
 }
 
 /// Each run begins where the last one ended. What it gives is what the program
-/// means on that tree alone; behind the last there is no tree.
+/// means on that tree alone; after the last there is no tree.
 fn run_through(lent: &mut Lent, program: &Program, trees: &[Tree]) {
     let file = file(program);
     let input: Vec<u8> = trees.iter().flat_map(Tree::tokens).collect();

@@ -28,7 +28,7 @@ const SUM: [Instruction; 9] = [
     (11, 0, 0, 0), // read number
     (1, 0, 0, 0),  // Var 0: get
     (5, 0, 0, 0),  // end, where a number is expected: slide
-    (4, 0, 8, 0),  // jump behind the node part
+    (4, 0, 8, 0),  // jump past the node part
     (12, 0, 0, 0), // Add: Call 0 on 1
     (12, 0, 0, 0), // Call 0 on 2
     (2, 0, 0, 0),  // add

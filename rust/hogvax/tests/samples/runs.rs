@@ -91,7 +91,7 @@ fn commands(readme: &str) -> Vec<(&str, &str)> {
     pairs.collect()
 }
 
-/// The last line that each prints stands behind the last colon.
+/// The last line that each prints stands after the last colon.
 #[test]
 fn the_commands_print_what_the_readme_says() {
     let readme = fs::read_to_string(samples("README.md")).unwrap();

@@ -1,10 +1,10 @@
 //! A Markdown page taken apart: the files that it shows, and its commands with
 //! what they print.
 //!
-//! A file is a fenced block behind a line that ends with its name, as in
+//! A file is a fenced block after a line that ends with its name, as in
 //! "Save this as `grow.txt`:". Commands stand in a fenced block that begins
 //! with `$ `: a line that begins so is a command, which goes on where a line
-//! ends with `\` or `|`, and the lines behind it are what it prints.
+//! ends with `\` or `|`, and the lines after it are what it prints.
 
 /// What a page says, in its order.
 pub struct Page {
@@ -29,7 +29,7 @@ pub enum Act {
 pub struct Block {
     /// The line of its fence, from 1.
     pub line: usize,
-    /// What stands behind the opening fence.
+    /// What stands after the opening fence.
     pub language: String,
     /// The file that the line before it names.
     name: Option<String>,

@@ -114,7 +114,7 @@ fn random_programs_are_answered_as_the_reference_does() {
 }
 
 /// "takes the first tree of a buffer": neither answer nor output depend on
-/// what stands behind it.
+/// what stands after it.
 #[test]
 fn bytes_behind_the_tree_do_not_matter() {
     let mut random = Random::new(412);

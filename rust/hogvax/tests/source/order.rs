@@ -1,10 +1,10 @@
-//! The order of refusals: each with the faults of all that come behind it.
+//! The order of refusals: each with the faults of all that come after it.
 
 use reference::source::known;
 
 use super::*;
 
-/// Inputs that are no tree, and where that is told.
+/// Inputs that are no tree, and where that is reported.
 const NO_TREES: [(&[u8], u32, u64); 4] = [
     (&[], 15, 0),
     (&[2, 1, 0, 0, 0], 15, 2),
@@ -12,7 +12,7 @@ const NO_TREES: [(&[u8], u32, u64); 4] = [
     (&[2; 1_100], 20, 1_024),
 ];
 
-/// A leaf and a byte behind it.
+/// A leaf and a byte after it.
 const LEAF: [u8; 6] = [1, 0, 0, 0, 0, 3];
 
 /// A call of function 0.

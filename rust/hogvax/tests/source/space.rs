@@ -56,7 +56,7 @@ fn work_words_that_are_enough() {
     }
 }
 
-/// A longer output changes nothing: bytes behind the result are untouched.
+/// A longer output changes nothing: bytes after the result are untouched.
 #[test]
 fn outputs_that_are_longer() {
     let mut lent = Lent::new();

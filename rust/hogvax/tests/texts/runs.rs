@@ -104,7 +104,7 @@ fn sample_trees() -> Vec<(Tree, Vec<u8>)> {
     for name in names.chain(others) {
         let bytes = bytes(&name);
         for (tree, place) in trees_in(&bytes) {
-            // Some bytes of the next tree are enough to stand behind this one.
+            // Some bytes of the next tree are enough to stand after this one.
             let end = place + tree.tokens().len() + 11;
             let input = &bytes[place..end.min(bytes.len())];
             trees.push((tree, input.to_vec()));

@@ -7,7 +7,7 @@ use reference::{assemble, check_program, translate_program, Fault, Random};
 use super::*;
 
 /// Every program as it was made, changed at random, and with each fault, which
-/// is told where it was put. At least a tenth pass.
+/// is reported where it was put. At least a tenth pass.
 #[test]
 fn random_programs_have_the_references_code() {
     let mut random = Random::new(300);

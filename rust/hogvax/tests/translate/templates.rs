@@ -32,7 +32,7 @@ fn form(address: usize, instruction: Instruction) -> Form {
 
 /// All forms that the templates have: branches go forth; calls go back, forth,
 /// or to themselves, with 0 to 4 arguments, but one with arguments stands
-/// behind them, so that it is no function's first instruction.
+/// after them, so that it is no function's first instruction.
 fn forms() -> BTreeSet<Form> {
     let plain = [
         opcode::PUSH,

@@ -42,7 +42,7 @@ pub fn any_case(random: &mut Random) -> TestCase {
 }
 
 /// Aimed at any mark; half of the time with the fuel at the boundary, where
-/// the mark is hidden behind 14 or just told.
+/// the mark is hidden by 14 or just reported.
 fn any_aimed(random: &mut Random) -> TestCase {
     let mark = random.pick(&reachable());
     let case = aimed(random, mark);

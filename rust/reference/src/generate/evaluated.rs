@@ -56,7 +56,7 @@ fn size(random: &mut Random) -> (usize, usize) {
     (functions, (functions * (4 + random.below(each))).min(700))
 }
 
-/// A Case on tree 0, or one behind a Let.
+/// A Case on tree 0, or one after a Let.
 fn descending_body(maker: &mut Maker, at: At) -> Expr {
     let at = at.size(at.size.max(6));
     if maker.random.below(6) > 0 {

@@ -12,7 +12,7 @@ pub use changes::changed_program;
 
 use sites::{put, sites, Site};
 
-/// The program with this fault and where it is told, or none where the program
+/// The program with this fault and where it is reported, or none where the program
 /// has no place for it. The program given passes both passes.
 pub fn apply(fault: Fault, random: &mut Random, program: &Program) -> Option<(Program, Found)> {
     let mut all = sites(program);
@@ -51,7 +51,7 @@ struct Maker<'a> {
 
 impl Maker<'_> {
     /// An expression with this fault and, counted from its own record, where
-    /// it is told; none where it can't be at this site.
+    /// it is reported; none where it can't be at this site.
     fn faulty(&self, fault: Fault, random: &mut Random) -> Option<(Expr, usize)> {
         let context = self.site.context;
         let here = |expr| Some((expr, 0));

@@ -14,7 +14,7 @@ mod at;
 
 pub(super) use at::At;
 
-/// So many tree names can be told by a byte.
+/// So many tree names can be given by a byte.
 const NAME_LIMIT: usize = 256;
 
 /// With no more words than this any trees can be taken: Add's second number

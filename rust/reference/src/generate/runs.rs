@@ -94,7 +94,7 @@ fn any_file(random: &mut Random, program: &Program) -> Vec<u8> {
     }
 }
 
-/// The tokens, often with bytes behind them, sometimes damaged.
+/// The tokens, often with bytes after them, sometimes damaged.
 fn any_input(random: &mut Random, tokens: &[u8]) -> Vec<u8> {
     match random.below(8) {
         0 | 1 => damaged(random, tokens),

@@ -93,7 +93,7 @@ fn refused_program(random: &mut Random) -> Program {
     }
 }
 
-/// The tokens, often with bytes behind them, sometimes damaged.
+/// The tokens, often with bytes after them, sometimes damaged.
 fn any_input(random: &mut Random, tokens: &[u8]) -> Vec<u8> {
     match random.below(12) {
         0 | 1 => damaged(random, tokens),

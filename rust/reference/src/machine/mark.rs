@@ -88,7 +88,7 @@ impl Cause {
     }
 }
 
-/// A cause with the opcode where it is told. There is no opcode at 13, at 14,
+/// A cause with the opcode where it is reported. There is no opcode at 13, at 14,
 /// at an address without an instruction and at a byte that is no opcode. A
 /// run that ended is marked at its return.
 #[derive(Clone, Copy, Debug, PartialEq, Eq, PartialOrd, Ord, Hash)]
@@ -117,8 +117,8 @@ impl Mark {
     }
 }
 
-/// Where a run stopped, and the refusal that a later test would have told:
-/// behind a 14 any other, behind a 19 one of 15 to 18.
+/// Where a run stopped, and the refusal that a later test would have reported:
+/// after a 14 any other, after a 19 one of 15 to 18.
 #[derive(Clone, Copy, Debug, PartialEq, Eq)]
 pub struct Stop {
     pub mark: Mark,

@@ -1,5 +1,5 @@
 //! The machine. The tests of an instruction stand apart from its effect, so
-//! that a stop can say what a later test would have told.
+//! that a stop can say what a later test would have reported.
 
 use crate::tree::{Refusal, LEAF_TAG, NODE_TAG};
 

@@ -15,7 +15,7 @@ type Environment = [usize];
 /// non-ordered environment, and each body is typed with its tree parameter
 /// alone in the ordered one. With a limit, no list of the derivation may be
 /// longer. Figure 6's environments are parts of the whole list, so each
-/// judgement is taken with the number of names that stand behind its own.
+/// judgement is taken with the number of names that stand after its own.
 pub fn typable(program: &Program, limit: Option<usize>) -> bool {
     let mut bodies = program.functions.iter().map(|function| &function.body);
     bodies.all(|body| {
@@ -28,7 +28,7 @@ pub fn typable(program: &Program, limit: Option<usize>) -> bool {
 }
 
 /// An expression, known by its address; an ordered environment; the number of
-/// names behind it.
+/// names after it.
 type Judgement = (*const Expr, Vec<usize>, usize);
 
 struct Splits {
@@ -74,9 +74,9 @@ impl Splits {
         }
     }
 
-    /// T-Case, but for its tree: the leaf part has what is behind the tree,
+    /// T-Case, but for its tree: the leaf part has what is after the tree,
     /// the node part the two new names before that. The list on entering is
-    /// one longer than what is behind, and that of the node part two.
+    /// one longer than what is after it, and that of the node part two.
     fn case(
         &mut self,
         leaf: &Expr,

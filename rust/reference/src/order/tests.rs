@@ -105,7 +105,7 @@ fn the_limit_is_of_the_whole_list() {
     }
 }
 
-/// The limit counts what is pending behind an expression's own trees.
+/// The limit counts what is pending after an expression's own trees.
 #[test]
 fn the_limit_counts_the_trees_behind() {
     let call = |name| Expr::call(name, 0, vec![]);

@@ -41,7 +41,7 @@ struct Walk {
 }
 
 impl Walk {
-    /// The trees pending behind an expression. `trees` is the number of tree
+    /// The trees pending after an expression. `trees` is the number of tree
     /// names bound along the path: the next name.
     fn expression(
         &mut self,
@@ -92,7 +92,7 @@ fn equal(one: Pending, two: Pending, fault: Fault, position: usize) -> Result<Pe
     }
 }
 
-/// "Case takes the head": what is pending behind it. First "11 not the head",
+/// "Case takes the head": what is pending after it. First "11 not the head",
 /// then "12 Case with 16 pending", the head among them.
 fn case_head(pending: &Pending, a: u8, position: usize) -> Result<Pending, Found> {
     match pending.split_first() {

@@ -107,7 +107,7 @@ impl Records {
 }
 
 /// The first nodes of each node's parts: `firsts` holds those of the
-/// expressions that the nodes behind the present one make up, the next one
+/// expressions that the nodes after the present one make up, the next one
 /// last.
 fn parts(nodes: &[Record], parameters: &[u8]) -> Vec<Vec<usize>> {
     let mut parts = vec![vec![]; nodes.len()];

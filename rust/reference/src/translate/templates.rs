@@ -38,7 +38,7 @@ impl Scope {
         }
     }
 
-    /// For a part behind a number that stands in the next word and has the
+    /// For a part after a number that stands in the next word and has the
     /// next name: "Let's body and Case's leaf part add one number name".
     fn one_more_name(&self) -> Scope {
         Scope {

@@ -92,7 +92,7 @@ fn trees(step: Step) -> Option<Detail> {
     Some(Detail::of(step.whole.number, text))
 }
 
-/// The numbers that wait until this part is through.
+/// The numbers that wait until this part is finished.
 fn waiting(step: Step) -> Option<Detail> {
     let record = step.whole.record;
     let quoted = quoted(record);

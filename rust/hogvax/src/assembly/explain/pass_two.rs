@@ -17,7 +17,7 @@ pub fn check(program: &Outline) -> Result<(), Found> {
 }
 
 /// Walks through a function's records in order, each being entered, and left
-/// once its parts are through.
+/// once its parts are finished.
 fn walk(program: &Outline, function: &FunctionOutline) -> Result<Trees, Found> {
     let mut walk = Walk {
         program,
@@ -43,17 +43,17 @@ struct Walk<'a> {
     program: &'a Outline,
     /// The trees where the walk has come to.
     trees: Trees,
-    /// The records whose parts are not through, the innermost last.
+    /// The records whose parts are not finished, the innermost last.
     open: Vec<Open<'a>>,
 }
 
-/// A record whose parts are not through.
+/// A record whose parts are not finished.
 struct Open<'a> {
     node: &'a Node,
-    /// Of a Case, and of an IfZero whose test is through: what both branches
+    /// Of a Case, and of an IfZero whose test is finished: what both branches
     /// begin with, but for the trees that a node part binds.
     before: Trees,
-    /// The branches that are through.
+    /// The branches that are finished.
     branches: Vec<Branch>,
 }
 
@@ -81,7 +81,7 @@ impl<'a> Walk<'a> {
     }
 
     /// A Call takes its tree after its arguments. The branches of a Case or
-    /// IfZero are compared once both are through.
+    /// IfZero are compared once both are finished.
     fn leave(&mut self) -> Result<(), Found> {
         let Some(open) = self.open.pop() else {
             return Ok(());
@@ -103,7 +103,7 @@ impl<'a> Walk<'a> {
 }
 
 impl Open<'_> {
-    /// A part is through. Behind a branch the walk goes on with what the next
+    /// A part is finished. After a branch the walk goes on with what the next
     /// one begins with.
     fn leave_part(&mut self, part: usize, record: usize, trees: &mut Trees) {
         let next = match (self.node.record.kind, part) {

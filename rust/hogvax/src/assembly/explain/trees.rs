@@ -16,7 +16,7 @@ pub struct Trees {
     taken: Vec<(usize, usize)>,
 }
 
-/// A branch of a Case or IfZero that is through.
+/// A branch of a Case or IfZero that is finished.
 pub struct Branch {
     pub part: usize,
     /// Its first record.
@@ -47,7 +47,7 @@ impl Trees {
         trees
     }
 
-    /// Behind two branches that began with these trees and leave the same
+    /// After two branches that began with these trees and leave the same
     /// pending. The names that a branch binds mean nothing after it.
     pub fn behind_both(&self, node: &Node, one: Trees, two: Trees) -> Trees {
         let by_two = two.taken.into_iter().skip(self.taken.len());

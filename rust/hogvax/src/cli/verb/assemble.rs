@@ -18,8 +18,8 @@ Reads the text of a program and writes its program file, in blocks of 512 bytes,
 to standard output or into the file of --out. On standard error it prints 'file
 BYTES', the length of the program file.
 
-A text has a line for each function, behind it one for each of its records, and
-behind each record its parts. '#' begins a comment:
+A text has a line for each function, after it one for each of its records, and
+after each record its parts. '#' begins a comment:
   # Gives every tip its depth as its label.
   function 0 takes tree 0 gives tree
     Call 1 on 0
@@ -50,7 +50,7 @@ The kinds of record, and their parts:
   Call FUNCTION on NAME  of that function on that tree: its number arguments
 
 A line may begin with its record's number, as 'hogvax show' prints it; a wrong
-one is refused. Indentation is free, but a notice tells the first line that is
+one is refused. Indentation is free, but a notice reports the first line that is
 indented as if it were a part of another record. A text has at most 1048576
 bytes.
 

@@ -25,7 +25,7 @@ error it prints 'trees COUNT bytes BYTES', how many trees and bytes these are.
 A tip is a whole number, -2147483648 to 2147483647, bare or in single quotes. A
 fork is '(A,B)', with exactly two branches, and stands under at most 1,023
 others. Names of forks and branch lengths, as in '(1:0.5,2:0.5)95:1e-3', are
-skipped, and a notice tells how many there were. Whitespace and comments in
+skipped, and a notice says how many there were. Whitespace and comments in
 brackets may stand anywhere between these.
 
 If the text is not so, it writes no data and prints 'refused FILE:LINE:COLUMN:'

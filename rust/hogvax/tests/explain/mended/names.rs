@@ -1,8 +1,8 @@
-//! The names, types and words that are told: refusals 8 to 10.
+//! The names, types and words that are reported: refusals 8 to 10.
 
 use super::*;
 
-/// The name that is told to be the last bound one can be used, the next can't.
+/// The name that is reported to be the last bound one can be used, the next can't.
 #[test]
 fn the_names_told_are_those_bound() {
     let mut tried = Tried::new();
@@ -34,7 +34,7 @@ fn the_names_told_are_those_bound() {
 }
 
 /// A record with as many parts that gives the other type may stand there. Where
-/// it is told that the function's own result is why, another result is another
+/// it is reported that the function's own result is why, another result is another
 /// reason.
 #[test]
 fn the_type_told_is_the_one_expected() {

@@ -1,8 +1,8 @@
-//! The pending trees that are told: refusals 11 and 12.
+//! The pending trees that are reported: refusals 11 and 12.
 
 use super::*;
 
-/// The record may take the tree that is told to be the first of the pending
+/// The record may take the tree that is reported to be the first of the pending
 /// ones.
 #[test]
 fn the_first_pending_tree_told_can_be_taken() {
@@ -37,7 +37,7 @@ fn the_first_pending_tree_told_can_be_taken() {
 }
 
 /// A tree that is pending further back has others before it; one that is not
-/// pending any more was taken, by the records told.
+/// pending any more was taken, by the records reported.
 fn assert_told_where_the_tree_is(
     records: &[Record],
     explanation: &Explanation,

@@ -1,4 +1,4 @@
-//! The records that are told to be left over or missing: refusal 7.
+//! The records that are reported to be left over or missing: refusal 7.
 
 use super::*;
 

@@ -8,7 +8,7 @@ use super::{MIRRORED, SUM, WEIGHED, WEIGHTS};
 /// "16 is the most."
 const MOST_WORDS: usize = 16;
 
-/// So many tree names can be told by a byte.
+/// So many tree names can be given by a byte.
 const MOST_NAMES: usize = 256;
 
 /// The leaves and the nodes of a tree.

@@ -125,7 +125,7 @@ fn at_opcode(random: &mut Random, opcode: u8, cause: Cause) -> TestCase {
     draft.case(random, &left, free)
 }
 
-/// What is left to read. Behind a 19 at read number there may be no label.
+/// What is left to read. With a 19 at read number there may be no label.
 fn left(random: &mut Random, opcode: u8, cause: Cause) -> Vec<u8> {
     let length = match cause {
         Cause::InputEnded => 0,
@@ -140,7 +140,7 @@ fn left(random: &mut Random, opcode: u8, cause: Cause) -> Vec<u8> {
     tag_like_bytes(random, length)
 }
 
-/// What is free to write. Behind a 19 at write number there may be no room.
+/// What is free to write. With a 19 at write number there may be no room.
 fn free(random: &mut Random, opcode: u8, cause: Cause) -> usize {
     match cause {
         Cause::OutputFull => 0,

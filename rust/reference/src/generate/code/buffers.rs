@@ -9,7 +9,7 @@ use super::fuel::moderate;
 use super::inputs::{input, output, stray};
 use super::instructions::{any_instruction, any_opcode, assembled, instruction};
 
-/// So many instructions can be told by an operand.
+/// So many instructions can be given by an operand.
 const ADDRESSES: usize = 1 << 16;
 
 /// A case with this code and anything else.
@@ -36,7 +36,7 @@ pub fn sequence(random: &mut Random) -> TestCase {
     case_of(random, code)
 }
 
-/// Any bytes, small bytes, or any bytes behind valid opcodes.
+/// Any bytes, small bytes, or any bytes after valid opcodes.
 pub fn arbitrary(random: &mut Random) -> TestCase {
     let length = random.below(200);
     let kind = random.below(3);

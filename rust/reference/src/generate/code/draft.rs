@@ -1,4 +1,4 @@
-//! Drafts: code that is gone through to its end whatever stands behind it. A
+//! Drafts: code that is gone through to its end whatever stands after it. A
 //! draft counts along what stands where control comes to its end.
 
 use crate::generate::label;

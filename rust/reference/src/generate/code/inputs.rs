@@ -7,7 +7,7 @@ use crate::random::Random;
 /// Room for more than most runs write.
 const AMPLE: usize = 10_000;
 
-/// Tokens of a tree: whole, cut, damaged, with more behind them, or none.
+/// Tokens of a tree: whole, cut, damaged, with more after them, or none.
 pub fn input(random: &mut Random) -> Vec<u8> {
     let tips = match random.below(8) {
         0 => 1 + random.below(40),

@@ -50,7 +50,7 @@ const ALONE: [Cause; 6] = [
     Cause::NotAnOpcode,
 ];
 
-/// Behind a 19 for words: read number with 16,384 words and no label, write
+/// Hidden by a 19 for words: read number with 16,384 words and no label, write
 /// number with no word and no room, call without its words and 1,024 open. The
 /// tags need and push no words, so nothing stands before their 15 to 17.
 const BEHIND_WORDS: [(u8, Cause); 5] = [
@@ -74,7 +74,7 @@ pub fn reachable() -> Vec<Mark> {
     marks
 }
 
-/// Every pair of a refusal told and a mark hidden behind it that can occur:
+/// Every pair of a refusal reported and a mark hidden by it that can occur:
 /// "Fuel is looked at first", so 14 stands before each refusal; "At one
 /// instruction 19 comes before 15 to 18".
 pub fn hidden() -> Vec<(u8, Mark)> {

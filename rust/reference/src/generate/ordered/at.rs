@@ -3,7 +3,7 @@
 use crate::order::pass_one::Context;
 
 /// Where an expression stands: its context, the number of trees pending
-/// behind those that it is to take, and about how many records it may have.
+/// after those that it is to take, and about how many records it may have.
 #[derive(Clone, Copy)]
 pub struct At {
     pub context: Context,

@@ -11,7 +11,7 @@ use super::super::evaluated::with_small_numbers;
 use super::super::label;
 use super::super::programs::counts;
 
-/// So many tree names can be told by a byte.
+/// So many tree names can be given by a byte.
 const NAME_LIMIT: usize = 256;
 
 /// A function without its body.

@@ -1,4 +1,4 @@
-//! Programs as the templates lay them down, in the form of document 01's
+//! Programs as the templates emit them, in the form of document 01's
 //! listing: "a line each, address, opcode, byte 1, operand, number".
 
 use std::str::FromStr;

@@ -27,7 +27,7 @@ fn known_codes_at_their_least_fuel() {
     }
 }
 
-/// With one unit less a run gives 14, and the refusal stands behind it. The
+/// With one unit less a run gives 14, and the refusal is hidden by it. The
 /// bytes are the same: neither a refused instruction nor a return reads or
 /// writes.
 #[test]

@@ -1,7 +1,7 @@
 use super::*;
 use opcode::*;
 
-/// Every cause with the opcodes where it is told, none where it is told
+/// Every cause with the opcodes where it is reported, none where it is reported
 /// without one; 13 aside.
 const TOLD: [(Cause, &[u8]); 18] = [
     (Cause::EndedWithNone, &[RETURN]),

@@ -63,7 +63,7 @@ fn right_chain(count: usize, last: Expr) -> Expr {
     })
 }
 
-/// Names past 255 can't be told by a record; Case 0 is not Case 256.
+/// Names past 255 can't be given by a record; Case 0 is not Case 256.
 pub fn names() -> Vec<Known> {
     let case = |a| Expr::case(a, leaf(), leaf());
     let up_to_254 = |last| tree(right_chain(127, last));

@@ -1,5 +1,5 @@
 //! What is easily got wrong: names, types, the order of trees, and which of
-//! several faults is told.
+//! several faults is reported.
 
 use super::text::table;
 use super::Known;
@@ -65,7 +65,7 @@ refused 11 6 | a tree taken apart and taken again | number: Case 0, Const 1, Add
 refused 11 4 | a tree taken before its sister     | number: Case 0, Const 1, Case 2, Call 0 on 1, Add, Call 0 on 3, Call 0 on 4
 ";
 
-/// Which of several faults is told.
+/// Which of several faults is reported.
 const SEVERAL_FAULTS: &str = "
 refused 9 4  | pass one of the last function first | number: Const 1 / number: Var 0
 refused 8 3  | pass one's lowest record            | number: Add, Leaf, Const 1, Var 0

@@ -168,7 +168,7 @@ fn each_damage_to_a_file_gives_its_refusal() {
     }
 }
 
-/// Damage to a later row first, then to an earlier one, which is told.
+/// Damage to a later row first, then to an earlier one, which is reported.
 #[test]
 fn of_two_damages_the_earlier_row_is_told() {
     let mut random = Random::new(80);

@@ -53,7 +53,7 @@ fn a_call_has_its_functions_number_of_arguments() {
     assert!(Program::from_records(&records(&[(0, &[C]), itself])).is_ok());
 }
 
-/// One expression, told by counting: `open` parts are still to come.
+/// One expression, recognised by counting: `open` parts are still to come.
 fn is_one_expression(nodes: &[Record], parameters: &[u8]) -> bool {
     let mut open = 1;
     for &node in nodes {

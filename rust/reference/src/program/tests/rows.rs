@@ -120,7 +120,7 @@ fn every_field_of_a_function() {
     }
 }
 
-/// Told at record F, also for a count above N in function 0.
+/// Reported at record F, also for a count above N in function 0.
 #[test]
 fn a_wrong_sum_of_counts() {
     let good = records(&[(0, &[C]), (0, &[C]), (0, &[C])]);

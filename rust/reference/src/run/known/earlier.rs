@@ -1,5 +1,5 @@
 //! Files that the rows or the passes refuse, with too little space: the
-//! earlier row is told.
+//! earlier row is reported.
 
 use crate::machine::{FILLER, RETURN_WORDS, VALUE_WORDS};
 use crate::translate::known;

@@ -39,7 +39,7 @@ impl Subject {
     }
 
     /// The stream run with so much fuel and output, which answers the same
-    /// whatever stands behind the tree; what it didn't write is untouched.
+    /// whatever stands after the tree; what it didn't write is untouched.
     pub fn perform(&self, random: &mut Random, fuel: u64, output: usize) -> (Ran, Vec<u8>) {
         let mut case = TestCase {
             code: self.code.clone(),

@@ -1,5 +1,5 @@
 //! Files that the rows or pass one refuse, with too little of everything: the
-//! earlier row is told.
+//! earlier row is reported.
 
 use crate::machine::{RETURN_WORDS, VALUE_WORDS};
 use crate::order::known as order;

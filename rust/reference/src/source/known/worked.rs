@@ -57,7 +57,7 @@ never read, and no tag  | number: Const 1                                       
 16 before 20            | number: Const 1                                                         | input 02*1024 00 02                    | refused 16 at 1024
 ";
 
-/// Which of several refusals is told.
+/// Which of several refusals is reported.
 pub const REFUSALS: &str = "
 15 before 14            | tree: Case 0, Leaf, Add, Var 0, Const 1, Node, Call 0 on 1, Call 0 on 2 | input 02, fuel 0                                | refused 15 at 1
 16 before 14            | tree: Case 0, Leaf, Add, Var 0, Const 1, Node, Call 0 on 1, Call 0 on 2 | input 00, fuel 0                                | refused 16 at 0

@@ -28,7 +28,7 @@ impl Subject {
         }
     }
 
-    /// The run, which answers the same whatever stands behind the tree, and
+    /// The run, which answers the same whatever stands after the tree, and
     /// which leaves untouched what it doesn't write.
     fn run(&self, random: &mut Random, fuel: u64, output: usize) -> (Sourced, Vec<u8>) {
         let mut case = SourceCase::new(&self.file, &self.tokens, fuel, output);

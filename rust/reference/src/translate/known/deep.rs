@@ -83,7 +83,7 @@ fn tests() -> Laid {
 }
 
 /// 341 IfZeros, each the zero part of the next. The innermost Call stands at
-/// 682, and behind it jump and Call for each, from the innermost on.
+/// 682, and after it jump and Call for each, from the innermost on.
 fn zero_parts() -> Laid {
     let body = nested(341, |expr| {
         Expr::if_zero(one(), expr, Expr::call(0, 0, vec![]))

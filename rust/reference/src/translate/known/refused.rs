@@ -6,7 +6,7 @@ use crate::tree::Refusal;
 
 use super::Known;
 
-/// A file for each number from 1 to 12, and which row is told first.
+/// A file for each number from 1 to 12, and which row is reported first.
 pub fn files() -> Vec<Known> {
     let mut files = broken();
     files.extend(PROGRAMS.map(|(number, position, name, text)| {

@@ -115,7 +115,7 @@ impl Draft {
         self.above += (times - 1) * each;
     }
 
-    /// So many labels in one frame, each with so many words behind it, ended by
+    /// So many labels in one frame, each with so many words after it, ended by
     /// a node tag.
     fn labels_by_tags(&mut self, random: &mut Random, times: usize, each: usize) {
         let start = self.here();

@@ -266,7 +266,7 @@ pub fn tree_bytes(input: &[u8]) -> &[u8] {
     }
 }
 
-/// "a refusal, which a call beside it names with its position"; none for an
+/// "a refusal, which a call beside it names with its place"; none for an
 /// input that is read.
 pub fn tree_refusal(input: &[u8]) -> Option<Refusal> {
     tree_end(input).err()

@@ -78,8 +78,9 @@ const LENGTHS: [(&str, usize); 12] = [
     ("HOGVAX_ANSWER_SLOTS", 2),
 ];
 
-/// "position, units, bytes read, bytes written, the number"; "position, begun, bytes
-/// written, the number"; or "position, bytes".
+/// Of a stream run: position, units, bytes read, bytes written, the number. Of a
+/// source run: position, begun, bytes written, the number. Of the other calls:
+/// position, bytes.
 const SLOTS: [(&str, usize); 9] = [
     ("HOGVAX_POSITION", 0),
     ("HOGVAX_BYTES", 1),

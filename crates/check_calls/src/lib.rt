@@ -19,5 +19,5 @@ pub fn check_records(flat: &[u8], answer: &mut [u64]) -> u32
     ensures { λ r. ⌜ Answers (onValue (λ u. 0) (checkRecords (now (flat .entry))))
         (now (answer .entry)) (now (answer .exit)) r ⌝ }
 {
-    answers::report_verdict(pass_two::check_all_rows(flat), answer)
+    answers::report_verdict(order::check_records(flat), answer)
 }

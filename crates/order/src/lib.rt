@@ -1,10 +1,17 @@
-// The order checker over program files.
+// The order checker: the one door to both passes, for flat records and for program files.
 use block_reader::MOST_BYTES;
 use refusal::Filled;
 use refusal::Verdict;
 ghost use mathlib.Core.Path.{_≡_};
 ghost use Rattle.refusal.specs.Inner.Verdicts.{verdictResult};
-ghost use Rattle.rules.specs.PassTwo.{checkFile};
+ghost use Rattle.rules.specs.PassTwo.{checkRecords, checkFile};
+
+// Flat records: the rows header to prefix form, pass one, then pass two.
+pub fn check_records(flat: &[u8]) -> Verdict
+    ensures { λ r. ⌜ verdictResult r ≡ checkRecords (now (flat .entry)) ⌝ }
+{
+    pass_two::check_all_rows(flat)
+}
 
 // A program file: the rows blocks to prefix form, pass one, then pass two, each finished for the
 // whole file before the next begins.
@@ -15,6 +22,6 @@ pub fn check_file(file: &[u8]) -> Verdict
     let taken = block_reader::from_blocks(file, &mut flat);
     match taken {
         Filled::Refused(why, position) => Verdict::Refused(why, position),
-        Filled::Written(bytes) => pass_two::check_all_rows(&flat[..bytes]),
+        Filled::Written(bytes) => check_records(&flat[..bytes]),
     }
 }

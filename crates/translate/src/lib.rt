@@ -270,7 +270,7 @@ pub fn translate_records(flat: &[u8], code: &mut [u8]) -> Filled
         (translateRecords (length (now (code .entry))) (now (flat .entry))) (now (code .entry))
         (now (code .exit)) r ⌝ }
 {
-    let verdict = pass_two::check_all_rows(flat);
+    let verdict = order::check_records(flat);
     if let Verdict::Refused(why, position) = verdict {
         return Filled::Refused(why, position);
     }

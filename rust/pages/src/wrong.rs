@@ -44,7 +44,7 @@ pub const BESIDE: [Beside; 7] = [
     },
     Beside {
         function: "check_calls: check_records",
-        others: &["pass_two: check_all_rows", "answers: report_verdict"],
+        others: &["order: check_records", "answers: report_verdict"],
         why: ANSWERS,
     },
     Beside {

@@ -26,7 +26,7 @@ use Rattle.refusal.specs.Inner.Numbers.{number}
 use Rattle.refusal.specs.Inner.Verdicts.{verdictResult}
 use Rattle.refusal.specs.Inner.FilledBuffer.{FilledBuffer}
 use Rattle.refusal.specs.declared.Filled.the-variants as filled
-use Rattle.refusal.proofs.Put.{put-refused, put-done}
+use Rattle.refusal.proofs.FilledBuffer.{put-refused, put-done}
 
 -- ---- the parts that blocks give
 

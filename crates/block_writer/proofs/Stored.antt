@@ -21,7 +21,7 @@ use Rattle.formats.proofs.Files.{length-blocks, length-file, within-room, withi
 use Rattle.refusal.specs.declared.Refusal.the-variants.{SpaceTooShort}
 use Rattle.refusal.specs.Inner.FilledBuffer.{FilledBuffer}
 use Rattle.refusal.specs.declared.Filled.the-variants as filled
-use Rattle.refusal.proofs.Put.{put-refused, put-done}
+use Rattle.refusal.proofs.FilledBuffer.{put-refused, put-done}
 
 -- a write right after another one joins it
 write-later : (s t u : List ℕ) (p q : ℕ) (vs ws : List ℕ) → t ≡ written s p vs → u ≡ written t q ws → q ≡ p + length vs → p + length (vs ++ ws) ≤ length s

@@ -20,7 +20,7 @@ use Rattle.refusal.specs.Inner.Verdicts.{verdictResult}
 use Rattle.refusal.specs.Inner.FilledBuffer.{FilledBuffer}
 use Rattle.refusal.specs.declared.Filled.{Filled}
 use Rattle.refusal.specs.declared.Filled.the-variants.{Written, Refused}
-use Rattle.refusal.proofs.Put.{put-refused, put-done}
+use Rattle.refusal.proofs.FilledBuffer.{put-refused, put-done}
 use Rattle.block_reader.proofs.Taken.{not-taken, taken-out, taken-inside}
 
 -- ---- the rows header to prefix form

@@ -22,7 +22,7 @@ use Rattle.translation.specs.ListingText.{field, signedField, lineText, linesTe
 use Rattle.listing.specs.Shown.{longestLine, Puts}
 use Rattle.listing.specs.Inner.Shown.{mostCode}
 use Rattle.formats.proofs.Decimal.{decimal-length}
-use Rattle.listing.proofs.Putting.{put-both, put-length}
+use Rattle.listing.proofs.Fields.{put-both, put-length}
 
 -- ---- `line_at`
 
@@ -104,7 +104,7 @@ module _ (code s : List ℕ) (p : ℕ) where
       record {
         within = omega arith;
         room = omega (arith, lines-length code (length code / recordBytes) 0 bs (omega arith));
-        put = record { buffer = sym (written-none s p); after = omega arith; inside = omega arith };
+        put = record { buffer = sym (written-none s p); end = omega arith; inside = omega arith };
       }
 
   module _ (t : List ℕ) (k q : ℕ) (g : Going code s t p k q) where
@@ -121,7 +121,7 @@ module _ (code s : List ℕ) (p : ℕ) where
       next-room = omega (arith, g .room, ap length next, fewer code (suc k) (instructionsIn code) 0 (omega arith))
 
       pub line-room : q + length (lineText l) ≤ length t
-      line-room = omega (arith, next-room, length-append (linesText (linesFrom code k 0)) (lineText l), g .put .after, put-length s t p _ q (g .put))
+      line-room = omega (arith, next-room, length-append (linesText (linesFrom code k 0)) (lineText l), g .put .end, put-length s t p _ q (g .put))
 
       pub lines-step : (u : List ℕ) (r : ℕ) → Puts t u q (lineText l) r → Going code s u p (k + 1) r
       lines-step u r put =

@@ -15,7 +15,7 @@ use borrow.Author.Tests.{ltb-true, le-ltb}
 use Rattle.formats.specs.Characters.{newline, minus}
 use Rattle.translation.specs.ListingText.{field, signedField}
 use Rattle.listing.specs.Shown.{Puts}
-use Rattle.listing.proofs.Putting.{put-both, put-length}
+use Rattle.listing.proofs.Fields.{put-both, put-length}
 
 -- the number that the code reads off a word
 abbrev read : ℤ → ℤ
@@ -101,7 +101,7 @@ module _ (s : List ℕ) (p : ℕ) (n : ℤ) (fits : SFits w32 n) (room : p + len
 
     module _ (t : List ℕ) (q : ℕ) (sign : Puts s t p (minus ∷ []) q) where
       pub size-room : q + length (field size newline) ≤ length t
-      size-room = omega (arith, ap length text, sign .after, put-length s t p _ q sign)
+      size-room = omega (arith, ap length text, sign .end, put-length s t p _ q sign)
 
       pub signed-put : (u : List ℕ) (r : ℕ) → Puts t u q (field size newline) r → Puts s u p (signedField n) r
       signed-put u r digits = rw text (put-both s t u p q r (minus ∷ []) (field size newline) sign digits)

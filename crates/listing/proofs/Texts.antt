@@ -25,14 +25,14 @@ use Rattle.formats.specs.Characters.{newline, space, ascii}
 use Rattle.translation.specs.ListingText.{field, linesText, codeWord, refusedWord, text}
 use Rattle.listing.specs.Shown.{longestLine, mostText, Puts}
 use Rattle.listing.specs.Inner.Shown.{mostCode}
-use Rattle.listing.proofs.Putting.{put-both, put-length}
+use Rattle.listing.proofs.Fields.{put-both, put-length}
 use Rattle.listing.proofs.Lines.{field-length}
 
 -- a word at the start
 word-put : (s t word : List ℕ) → length word ≤ length s → t ≡ written s 0 word → Puts s t 0 word (length word)
 word-put s t word room is = record {
   buffer = is;
-  after = omega arith;
+  end = omega arith;
   inside = omega (arith, ap length is, wrote s 0 word .same-length);
 }
 
@@ -51,7 +51,7 @@ module _ (s t : List ℕ) (n offset : ℕ) (big : mostText ≤ length s) (is : t
         omega (
           arith,
           refused-length,
-          put .after,
+          put .end,
           put-length t u 8 _ q put,
           field-length 19 n space (omega (arith, fits-lt-pow fits)),
           field-length 19 offset newline (omega (arith, fits-lt-pow fits′)),
@@ -79,7 +79,7 @@ module _ (s t code : List ℕ) (big : mostText ≤ length s) (short : length cod
   module _ (u : List ℕ) (q : ℕ) (put : Puts t u 5 (field (instructionsIn code) newline) q) where
     pub lines-room : q + longestLine * instructionsIn code ≤ length u
     unfolding instructionsIn
-    lines-room = omega (arith, code-length, count-length, put .after, put-length t u 5 _ q put)
+    lines-room = omega (arith, code-length, count-length, put .end, put-length t u 5 _ q put)
 
     pub code-put : (v : List ℕ) (r : ℕ) → Puts u v q (linesText (linesFrom code (instructionsIn code) 0)) r → Puts s v 0 (text (listingOf (done code))) r
     unfolding text codeWord ascii listingOf

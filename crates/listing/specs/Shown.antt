@@ -15,9 +15,9 @@ longestLine = 31
 abbrev pub mostText : ℕ
 mostText = 10 + longestLine * mostInstructions
 
--- These bytes are put into a buffer from place p on, the rest is untouched, and the offset after
+-- These bytes are put into a buffer from offset p on, the rest is untouched, and the offset after
 -- them is answered, which is within the buffer.
 pub record Puts (before after : List ℕ) (p : ℕ) (bytes : List ℕ) (r : ℕ) : Type 0 where
   pub buffer : after ≡ written before p bytes
-  pub after : r ≡ p + length bytes
+  pub end : r ≡ p + length bytes
   pub inside : r ≤ length after

@@ -20,7 +20,7 @@ use Rattle.machine.specs.Inner.States.{goesOn, hasEnded, stoppedBy, jump
 use Rattle.machine.specs.Inner.Effects.{Does, OnReturns, FromReturns}
 use Rattle.machine.proofs.Frames.{length-words, words-pushed, words-top, words-taken, words-left}
 use Rattle.machine.proofs.Frames.{waiting-kept, waiting-more, chained-more, count-waiting}
-use Rattle.machine.proofs.Doing.{held-as, refused-so, goes-so}
+use Rattle.machine.proofs.Effects.{held-as, refused-so, goes-so}
 
 -- ---- `leave`
 

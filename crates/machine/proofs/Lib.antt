@@ -1,6 +1,6 @@
 -- Laws of the machine.
 pub mod Frames
-pub mod Doing
+pub mod Effects
 pub mod StackLaws
 pub mod StreamLaws
 pub mod CallLaws

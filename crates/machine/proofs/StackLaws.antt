@@ -17,7 +17,7 @@ use Rattle.machine.specs.declared.Machine.{Machine}
 use Rattle.machine.specs.Inner.States.{wordsFrom, stateOf, Held, Sound, stoppedBy, nextTo}
 use Rattle.machine.specs.Inner.Effects.{OnNumbers, OnValues}
 use Rattle.machine.proofs.Frames.{words-pushed, one-missing, one-taken, two-missing, two-taken, word-found, word-missing, waiting-kept, all-standing}
-use Rattle.machine.proofs.Doing.{moved, held-moved, refused-so, goes-so}
+use Rattle.machine.proofs.Effects.{moved, held-moved, refused-so, goes-so}
 
 -- ---- an operation refused, and one that goes on in its frame
 

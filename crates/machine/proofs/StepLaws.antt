@@ -22,7 +22,7 @@ use Rattle.meaning.specs.Performing.{Setting, State, refuses, operate, perform,
 use Rattle.machine.specs.declared.Machine.{Machine}
 use Rattle.machine.specs.Inner.States.{stateOf, Held, Sound, limitOf, stoppedBy, jumpTo}
 use Rattle.machine.specs.Inner.Effects.{Does, OnNumbers, OnValues, WritesTag, OnOutput, FromInput, OnInput, OnReturns, FromReturns, Performs, Steps}
-use Rattle.machine.proofs.Doing.{held-moved, refused-so, goes-so}
+use Rattle.machine.proofs.Effects.{held-moved, refused-so, goes-so}
 
 -- ---- the operation that an opcode names
 

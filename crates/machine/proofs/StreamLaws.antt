@@ -26,7 +26,7 @@ use Rattle.machine.specs.declared.Machine.{Machine}
 use Rattle.machine.specs.Inner.States.{wordsFrom, frameOf, stateOf, Sound, Held, goesOn, hasEnded, stoppedBy, nextTo, jumpTo}
 use Rattle.machine.specs.Inner.Effects.{Does, WritesTag, OnOutput, FromInput, OnInput}
 use Rattle.machine.proofs.Frames.{words-pushed, one-missing, one-taken, waiting-kept, all-standing}
-use Rattle.machine.proofs.Doing.{moved, held-moved, refused-so, goes-so}
+use Rattle.machine.proofs.Effects.{moved, held-moved, refused-so, goes-so}
 
 -- ---- bytes to the output
 

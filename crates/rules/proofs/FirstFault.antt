@@ -18,7 +18,7 @@ use Rattle.rules.specs.FirstFault.{add-left, add-right, if-test, if-zero
 use Rattle.rules.specs.FirstFault.{case-not-head, call-not-head, case-unequal, if-unequal, case-full}
 use Rattle.rules.specs.OrderChecker.{firstNode}
 use Rattle.rules.proofs.PassOne.{pass-left, pass-right}
-use Rattle.rules.proofs.PassTwo.{Said, good, bad, said-refused, said-then, said-worse, same-names, take-other, case-open, case-stops, walks, walks-args, reported}
+use Rattle.rules.proofs.PassTwo.{ValueOrRefusal, good, bad, said-refused, said-then, said-worse, same-names, take-other, case-open, case-stops, walks, walks-args, reported}
 
 -- the walk from a position on
 abbrev walkFrom : Spot → Result (List ℕ)
@@ -93,7 +93,7 @@ all-reported :
     (gs : List Signature) (j r : ℕ) (fs : List Function)
     → LawfulFunctions gs j fs
     → passOver gs (enteredAll r fs) ≡ done tt
-    → Said (λ u. Unit {0}) (FirstFault gs r fs) (walkAll r fs)
+    → ValueOrRefusal (λ u. Unit {0}) (FirstFault gs r fs) (walkAll r fs)
 unfolding enteredAll startOf walkAll noneLeft
 all-reported gs j r [] lawful passed = good tt
 all-reported gs j r (f ∷ fs) lawful passed =

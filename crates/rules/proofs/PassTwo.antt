@@ -1,4 +1,4 @@
--- Laws of pass two. `Said` is the view of a result: what holds of its value, or else of its
+-- Laws of pass two. `ValueOrRefusal` is the view of a result: what holds of its value, or else of its
 -- refusal. Two recursions say all: over a derivation by Figure 19 (`checked-walk`), and over an
 -- expression that passed pass one (`reported`: it is in order, or it has a first fault).
 use Prim.Native.Nat.{ℕ, suc, _+_, _≤_, _<_}
@@ -34,17 +34,17 @@ use Rattle.rules.proofs.PassOne.{Passes, PassesArgs, Called, pass-const
 
 -- ---- what is said of a result
 
-pub data Said {A : Type 0} (Good : A → Type 0) (Bad : ℕ → ℕ → Type 0) : Result A → Type 0 where
-  good : {x : A} → Good x → Said Good Bad (done x)
-  bad : {number position : ℕ} → Bad number position → Said Good Bad (refusal number position)
+pub data ValueOrRefusal {A : Type 0} (Good : A → Type 0) (Bad : ℕ → ℕ → Type 0) : Result A → Type 0 where
+  good : {x : A} → Good x → ValueOrRefusal Good Bad (done x)
+  bad : {number position : ℕ} → Bad number position → ValueOrRefusal Good Bad (refusal number position)
 
-pub said-done : {A : Type 0} {Good : A → Type 0} {Bad : ℕ → ℕ → Type 0} {r : Result A} {x : A} → Said Good Bad r → r ≡ done x → Good x
+pub said-done : {A : Type 0} {Good : A → Type 0} {Bad : ℕ → ℕ → Type 0} {r : Result A} {x : A} → ValueOrRefusal Good Bad r → r ≡ done x → Good x
 said-done {Good = Good} (good h) e = subst Good (done-injective e) h
 said-done (bad h) e = done-not e refl
 
 pub said-refused :
     {A : Type 0} {Good : A → Type 0} {Bad : ℕ → ℕ → Type 0} {r : Result A} {number position : ℕ}
-    → Said Good Bad r
+    → ValueOrRefusal Good Bad r
     → r ≡ refusal number position
     → Bad number position
 said-refused (good h) e = done-not refl e
@@ -56,28 +56,28 @@ said-refused {number = number} {position = position} (bad {number = c} {position
 -- one after the other
 pub said-then :
     {A B : Type 0} {G : A → Type 0} {H : B → Type 0} {Bad Worse : ℕ → ℕ → Type 0} {r : Result A} {next : A → Result B}
-    → Said G Bad r
+    → ValueOrRefusal G Bad r
     → ((number position : ℕ) → Bad number position → Worse number position)
-    → ((x : A) → G x → Said H Worse (next x))
-    → Said H Worse (andThen r next)
+    → ((x : A) → G x → ValueOrRefusal H Worse (next x))
+    → ValueOrRefusal H Worse (andThen r next)
 said-then (good {x = x} h) first second = second x h
 said-then (bad {number = c} {position = k} h) first second = bad (first c k h)
 
 -- what is said, otherwise
 said-map :
     {A : Type 0} {G H : A → Type 0} {Bad Worse : ℕ → ℕ → Type 0} {r : Result A}
-    → Said G Bad r
+    → ValueOrRefusal G Bad r
     → ((x : A) → G x → H x)
     → ((number position : ℕ) → Bad number position → Worse number position)
-    → Said H Worse r
+    → ValueOrRefusal H Worse r
 said-map (good {x = x} h) better worse = good (better x h)
 said-map (bad {number = c} {position = k} h) better worse = bad (worse c k h)
 
 pub said-worse :
     {A : Type 0} {G : A → Type 0} {Bad Worse : ℕ → ℕ → Type 0} {r : Result A}
     → ((number position : ℕ) → Bad number position → Worse number position)
-    → Said G Bad r
-    → Said G Worse r
+    → ValueOrRefusal G Bad r
+    → ValueOrRefusal G Worse r
 said-worse worse h = said-map h (λ x g. g) worse
 
 -- what is said of a check
@@ -85,7 +85,7 @@ pub said-check :
     {A : Type 0} {G : A → Type 0} {Bad : ℕ → ℕ → Type 0} (test : Bool) (number position : ℕ) (x : A)
     → (test ≡ true → G x)
     → (test ≡ false → Bad number position)
-    → Said G Bad (check test number position x)
+    → ValueOrRefusal G Bad (check test number position x)
 said-check true number position x held failed = good (held refl)
 said-check false number position x held failed = bad (failed refl)
 
@@ -132,7 +132,7 @@ take-other a r [] other = refl
 take-other a r (x ∷ rest) other = simp (ne-eqb x a (λ e. other (rw e head)))
 
 -- Figure 19 types a name where it can be taken
-taken : {Δ Δ′ : List ℕ} {Bad : ℕ → ℕ → Type 0} (a r : ℕ) → ChecksName Δ a Tree⁻ Δ′ → Said (λ Δ″. Δ″ ≡ Δ′) Bad (takeHead a r Δ)
+taken : {Δ Δ′ : List ℕ} {Bad : ℕ → ℕ → Type 0} (a r : ℕ) → ChecksName Δ a Tree⁻ Δ′ → ValueOrRefusal (λ Δ″. Δ″ ≡ Δ′) Bad (takeHead a r Δ)
 taken a r (T-Var1 {Δ = rest}) = rw (take-head a r rest) (good refl)
 
 -- ---- two branches
@@ -140,13 +140,13 @@ taken a r (T-Var1 {Δ = rest}) = rw (take-head a r rest) (good refl)
 -- the first refusal, the one list that both end with, or 11 for unequal lists
 said-joined :
     (r : ℕ) {G₁ G₂ H : List ℕ → Type 0} {B₁ B₂ Worse : ℕ → ℕ → Type 0} {one other : Result (List ℕ)}
-    → Said G₁ B₁ one
-    → Said G₂ B₂ other
+    → ValueOrRefusal G₁ B₁ one
+    → ValueOrRefusal G₂ B₂ other
     → ((number position : ℕ) → B₁ number position → Worse number position)
     → ((Δ : List ℕ) → G₁ Δ → (number position : ℕ) → B₂ number position → Worse number position)
     → ((Δ : List ℕ) → G₁ Δ → G₂ Δ → H Δ)
     → ((Δ₁ Δ₂ : List ℕ) → G₁ Δ₁ → G₂ Δ₂ → Δ₁ ≢ Δ₂ → Worse outOfOrder r)
-    → Said H Worse (equalBranches r one other)
+    → ValueOrRefusal H Worse (equalBranches r one other)
 unfolding equalBranches
 said-joined r {G₁ = G₁} one other first second equal unequal =
     said-then one first λ Δ₁ g₁. said-then other (second Δ₁ g₁) λ Δ₂ g₂. said-check (sameNames Δ₁ Δ₂) outOfOrder r Δ₂
@@ -169,9 +169,9 @@ module _ (n r a : ℕ) (rest : List ℕ) (p q : Expr) where
 
   said-case :
       {G : List ℕ → Type 0} {Bad : ℕ → ℕ → Type 0}
-      → (length (a ∷ rest) < mostPending → Said G Bad branches)
+      → (length (a ∷ rest) < mostPending → ValueOrRefusal G Bad branches)
       → (mostPending ≤ length (a ∷ rest) → Bad tooManyPending r)
-      → Said G Bad (walk n r (a ∷ rest) (caseOf a p q))
+      → ValueOrRefusal G Bad (walk n r (a ∷ rest) (caseOf a p q))
   said-case fits full = elim (decLt (length (a ∷ rest)) mostPending) [
     | yes few ↦ rw (case-open few) (fits few)
     | no many ↦ let h : mostPending ≤ length (a ∷ rest) = omega arith in rw (case-stops h) (bad (full h))
@@ -185,7 +185,7 @@ OnlyFull ls number position = (number ≡ tooManyPending) × (Every FewAtCase ls
 
 -- a walk gives this list, or is refused so
 abbrev Walked : List Line → List ℕ → Result (List ℕ) → Type 0
-Walked ls Δ r = Said (λ Δ′. Δ′ ≡ Δ) (OnlyFull ls) r
+Walked ls Δ r = ValueOrRefusal (λ Δ′. Δ′ ≡ Δ) (OnlyFull ls) r
 
 full-left : (ls ms : List Line) (number position : ℕ) → OnlyFull ls number position → OnlyFull (ls ++ ms) number position
 full-left ls ms number position h = (h .0, λ few. h .1 (every-left FewAtCase ls ms few))
@@ -235,7 +235,7 @@ mutual
   -- after a Call's arguments its tree is at the head
   checked-args :
       {gs : List Signature} {g n r a : ℕ} {Δ Δ′ : List ℕ} {σ : Ty} {xs : Args} {τ : Ty} (d : ChecksApplied gs g n r Δ σ xs a τ Δ′)
-      → Said (λ Δ″. ChecksName Δ″ a Tree⁻ Δ′) (OnlyFull (linesApplied d)) (walkArgs n r Δ xs)
+      → ValueOrRefusal (λ Δ″. ChecksName Δ″ a Tree⁻ Δ′) (OnlyFull (linesApplied d)) (walkArgs n r Δ xs)
   checked-args (to-number d rest) = said-then (checked-walk d) (full-left (lines d) _) λ Δ e. rw e (said-worse (full-right (lines d) _) (checked-args rest))
   checked-args (to-tree name) = good name
 
@@ -256,7 +256,7 @@ walks-args (one-more o os) = then-done _ (walks o) ∙ walks-args os
 typed-walk :
     (gs : List Signature) (r : ℕ) (fs : List Function)
     → Every (TypedFunction gs) fs
-    → Said (λ u. Unit {0}) (λ number position. number ≡ tooManyPending) (walkAll r fs)
+    → ValueOrRefusal (λ u. Unit {0}) (λ number position. number ≡ tooManyPending) (walkAll r fs)
 unfolding walkAll noneLeft
 typed-walk gs r [] typed = good tt
 typed-walk gs r (f ∷ fs) typed =
@@ -290,7 +290,7 @@ enter e number position m = record { there = m .there; comes = further e (m .com
 
 -- what the walk of an expression says: it is in order, or it has a first fault
 abbrev pub Reported : List Signature → Spot → Type 0
-Reported gs (spot g n r Δ e τ) = Said (InOrder gs g n r Δ e τ) (Met gs (spot g n r Δ e τ)) (walk n r Δ e)
+Reported gs (spot g n r Δ e τ) = ValueOrRefusal (InOrder gs g n r Δ e τ) (Met gs (spot g n r Δ e τ)) (walk n r Δ e)
 
 -- few at the Cases of two parts and at the whole
 few-both :
@@ -308,7 +308,7 @@ reported-two :
     → Enters gs s (spot g n (suc r) Δ p σ)
     → ((Δ′ : List ℕ) → InOrder gs g n (suc r) Δ p σ Δ′ → Enters gs s (spot g₂ n (suc r + size p) Δ′ q τ))
     → ((Δ′ Δ″ : List ℕ) → InOrder gs g n (suc r) Δ p σ Δ′ → InOrder gs g₂ n (suc r + size p) Δ′ q τ Δ″ → G Δ″)
-    → Said G (Met gs s) (andThen (walk n (suc r) Δ p) (λ Δ′. walk n (suc r + size p) Δ′ q))
+    → ValueOrRefusal G (Met gs s) (andThen (walk n (suc r) Δ p) (λ Δ′. walk n (suc r + size p) Δ′ q))
 reported-two first second left right whole =
     said-then first (enter left) λ Δ′ o. said-map (second Δ′) (λ Δ″ o′. whole Δ′ Δ″ o o′) (enter (right Δ′ o))
 
@@ -350,7 +350,7 @@ reported-call :
     → Called gs g n w r τ a b xs
     → ArgsInOrder gs g n (suc r) Δ xs Δ′
     → Dec (IsHead a Δ′)
-    → Said (InOrder gs g n r Δ (call a b xs) τ) (Met gs (spot g n r Δ (call a b xs) τ)) (takeHead a r Δ′)
+    → ValueOrRefusal (InOrder gs g n r Δ (call a b xs) τ) (Met gs (spot g n r Δ (call a b xs) τ)) (takeHead a r Δ′)
 reported-call {r = r} {a = a} counted c o (yes (head {rest = rest})) = rw (take-head a r rest) (good (call-in-order counted c o))
 reported-call {r = r} {a = a} {Δ′ = Δ′} counted c o (no other) = rw (take-other a r Δ′ other) (bad (met (call-not-head o other)))
 
@@ -442,7 +442,7 @@ module _ (gs : List Signature) where
         → AppliedArgs (arityOf gs) xs
         → PassesArgs gs (Call a b) i (scope g n w τ) r xs
         → ((s′ : Spot) → EntersArg gs g n r Δ xs s′ → Enters gs s s′)
-        → Said (ArgsInOrder gs g n r Δ xs) (Met gs s) (walkArgs n r Δ xs)
+        → ValueOrRefusal (ArgsInOrder gs g n r Δ xs) (Met gs s) (walkArgs n r Δ xs)
     reported-args g n w r i a b τ Δ s noArgs h p way = good finished
     reported-args g n w r i a b τ Δ s (arg x xs) h p way =
         let t = pass-arg gs g n w r τ a b i x xs p in

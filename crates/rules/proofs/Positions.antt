@@ -15,7 +15,7 @@ use Rattle.rules.specs.Limits.{mostPending}
 use Rattle.rules.specs.PassTwo.{takeHead, sameNames, equalBranches, walk, walkArgs, noneLeft, walkAll, passTwo}
 use Rattle.rules.specs.OrderChecker.{firstNode, Untyped, this-one, after-it}
 use Rattle.rules.proofs.Splits.{types-checks}
-use Rattle.rules.proofs.PassTwo.{Said, good, bad, said-done, said-refused, said-then, said-worse, said-check, checked-walk}
+use Rattle.rules.proofs.PassTwo.{ValueOrRefusal, good, bad, said-done, said-refused, said-then, said-worse, said-check, checked-walk}
 
 -- record q is one of so many from r on
 pub record Among (r many q : ℕ) : Type 0 where
@@ -31,7 +31,7 @@ own r many = record { from = omega arith; before = omega arith }
 
 -- a walk is refused at one of these records, if it is
 abbrev In : ℕ → ℕ → Result (List ℕ) → Type 0
-In r many w = Said (λ Δ. Unit {0}) (λ number q. Among r many q) w
+In r many w = ValueOrRefusal (λ Δ. Unit {0}) (λ number q. Among r many q) w
 
 wider : {first a r many : ℕ} {w : Result (List ℕ)} → r ≤ first → first + a ≤ r + many → In first a w → In r many w
 wider h g w = said-worse (λ number q among. widen h g among) w

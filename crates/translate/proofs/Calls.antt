@@ -19,7 +19,7 @@ use Rattle.refusal.specs.declared.Verdict.{Verdict}
 use Rattle.refusal.specs.declared.Verdict.the-variants as verdict-is
 use Rattle.refusal.specs.declared.Filled.{Filled}
 use Rattle.refusal.specs.declared.Filled.the-variants.{Written, Refused}
-use Rattle.refusal.proofs.Put.{put-refused, put-done}
+use Rattle.refusal.proofs.FilledBuffer.{put-refused, put-done}
 use Rattle.rules.specs.PassTwo.{checkRecords}
 use Rattle.block_reader.proofs.Taken.{not-taken, taken-out, taken-inside}
 use Rattle.translation.specs.Templates.{operationsOf, codeOf}

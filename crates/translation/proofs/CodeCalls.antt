@@ -24,7 +24,7 @@ use Rattle.meaning.proofs.StreamRun.{stream-run}
 use Rattle.translation.specs.Templates.{codeOf}
 use Rattle.translation.specs.Demand3.{Given, runOn}
 use Rattle.translation.proofs.Bodies.{passes-one, checked-body}
-use Rattle.translation.proofs.Laid.{emitted}
+use Rattle.translation.proofs.Emitted.{emitted}
 use Rattle.translation.proofs.Carried.{Carries}
 use Rattle.translation.proofs.Courses.{Course, WholeWay, CameTo, out-of-fuel, out-of-space, whole, Came, came}
 use Rattle.translation.proofs.Goes.{InputFault}

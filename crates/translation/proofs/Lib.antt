@@ -2,7 +2,7 @@
 pub mod Addresses
 pub mod Bodies
 pub mod Operands
-pub mod Laid
+pub mod Emitted
 pub mod CodeStands
 pub mod Coded
 pub mod WordWays

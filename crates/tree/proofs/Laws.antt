@@ -8,7 +8,7 @@ use Rattle.formats.specs.Results.{done}
 use Rattle.formats.specs.Tokens.{firstEnd, firstTree, ownBytes}
 use Rattle.formats.proofs.Endings.{own-ends, own-stops}
 use Rattle.tree.specs.Inner.EndNumbers.{refusalAt, allOnes, endReported}
-use Rattle.tree.proofs.Told.{refused-past, refused-label, refused-node, refused-other, refusal-stops, reported-end, reported-stop}
+use Rattle.tree.proofs.EndNumbers.{refused-past, refused-label, refused-node, refused-other, refusal-stops, reported-end, reported-stop}
 use Rattle.tree.specs.Inner.TreeResults.{treeResult}
 use Rattle.tree.specs.declared.TreeAnswer.{TreeAnswer}
 

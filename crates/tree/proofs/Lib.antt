@@ -1,3 +1,3 @@
 -- Laws that the proofs of the tree reader's functions cite.
 pub mod Laws
-pub mod Told
+pub mod EndNumbers

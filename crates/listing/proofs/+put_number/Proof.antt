@@ -1,11 +1,11 @@
 -- The proof of the cycle of calls {put_number}. The measure is the number, which falls to its
--- tenth. Each way out is a law of proofs/Putting.antt.
+-- tenth. Each way out is a law of proofs/Fields.antt.
 use Prim.Native.Nat.{ℕ, _<_}
 use native.Mathlib.Omega.{arith}
 use borrow.Author.Needs.{needs}
 use borrow.Fn.Kinds.{In}
 use borrow.Fn.PlainCycle.{Measures, is, falls, and}
-use Rattle.listing.proofs.Putting.{number-ways}
+use Rattle.listing.proofs.Fields.{number-ways}
 use Rattle.listing.proofs.put_number.Reads as put-number
 use Rattle.listing.proofs.put_number.Kinds as put-number-kinds
 use Rattle.listing.proofs.+put_number.Lts-put_number as put-number-lts

@@ -1,6 +1,6 @@
 -- `listing::put_byte` meets its contract: to set a byte is to write it.
 use borrow.Author.Needs.{needs}
-use Rattle.listing.proofs.Putting.{put-one}
+use Rattle.listing.proofs.Fields.{put-one}
 use Rattle.listing.proofs.put_byte.Statement.{statement}
 use Rattle.listing.proofs.put_byte.Tie as tie
 

@@ -1,6 +1,6 @@
 -- `listing::put_field` meets its contract: the character is put after the number.
 use borrow.Author.Needs.{needs}
-use Rattle.listing.proofs.Putting.{field-ways}
+use Rattle.listing.proofs.Fields.{field-ways}
 use Rattle.listing.proofs.put_field.Statement.{statement}
 use Rattle.listing.proofs.put_field.Tie as tie
 

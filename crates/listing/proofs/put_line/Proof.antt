@@ -2,7 +2,7 @@
 -- after each is handed to the laws, address to operand, since `search` does not find it among so
 -- much.
 use borrow.Author.Needs.{needs}
-use Rattle.listing.proofs.Putting.{line-ways}
+use Rattle.listing.proofs.Fields.{line-ways}
 use Rattle.listing.proofs.put_line.Statement.{statement}
 use Rattle.listing.proofs.put_line.Tie as tie
 

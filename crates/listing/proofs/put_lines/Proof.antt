@@ -4,7 +4,7 @@ use Prim.Native.Nat.{_-_}
 use native.Mathlib.Omega.{arith}
 use borrow.Author.Needs.{needs}
 use Rattle.translation.specs.Listing.{instructionsIn}
-use Rattle.listing.proofs.Putting.{put-length}
+use Rattle.listing.proofs.Fields.{put-length}
 use Rattle.listing.proofs.Lines.{Going, lines-start, lines-ways}
 use Rattle.listing.proofs.put_lines.Statement.{statement}
 use Rattle.listing.proofs.put_lines.Tie as tie

@@ -6,7 +6,7 @@ use Prim.Native.Nat.{ℕ, _<_, _+_, _-_}
 use native.Mathlib.Omega.{arith}
 use denote.Ref.{now}
 use lib.ListN.{length}
-use Rattle.tree.proofs.Told.{ends-reported, reported-after}
+use Rattle.tree.proofs.EndNumbers.{ends-reported, reported-after}
 use borrow.Fn.Kinds.{In}
 use borrow.Fn.PlainCycle.{Measures, is, falls, and}
 use Rattle.tree.proofs.tree_end.Reads as tree-end

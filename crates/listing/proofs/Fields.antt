@@ -23,21 +23,21 @@ pub put-length : (s t : List ℕ) (p : ℕ) (vs : List ℕ) (q : ℕ) → Puts s
 put-length s t p vs q put = ap length (put .buffer) ∙ wrote s p vs .same-length
 
 pub put-one : (s : List ℕ) (p v : ℕ) → p < length s → Puts s (set s p v) p (v ∷ []) (p + 1)
-put-one s p v h = record { buffer = written-one s p v h; after = refl; inside = omega (arith, length-set s p v) }
+put-one s p v h = record { buffer = written-one s p v h; end = refl; inside = omega (arith, length-set s p v) }
 
 -- all that is put is within the buffer, and so it is put as one
 pub put-both : (s t u : List ℕ) (p q r : ℕ) (vs ws : List ℕ) → Puts s t p vs q → Puts t u q ws r → Puts s u p (vs ++ ws) r
 put-both s t u p q r vs ws first second =
-    let sum : r ≡ p + length (vs ++ ws) = omega (arith, first .after, second .after, length-append vs ws) in
+    let sum : r ≡ p + length (vs ++ ws) = omega (arith, first .end, second .end, length-append vs ws) in
     let room : p + length (vs ++ ws) ≤ length s =
     omega (arith, second .inside, put-length s t p vs q first, put-length t u q ws r second) in
     record {
       buffer =
           second .buffer
           ∙ ap (λ (l : List ℕ). written l q ws) (first .buffer)
-          ∙ ap (λ (m : ℕ). written (written s p vs) m ws) (first .after)
+          ∙ ap (λ (m : ℕ). written (written s p vs) m ws) (first .end)
           ∙ written-append s p vs ws room;
-      after = sum;
+      end = sum;
       inside = second .inside;
     }
 
@@ -46,7 +46,7 @@ first-room : (s : List ℕ) (p : ℕ) (vs ws : List ℕ) → p + length (vs ++ w
 first-room s p vs ws room = omega (arith, length-append vs ws)
 
 rest-room : (s t : List ℕ) (p q : ℕ) (vs ws : List ℕ) → p + length (vs ++ ws) ≤ length s → Puts s t p vs q → q + length ws ≤ length t
-rest-room s t p q vs ws room put = omega (arith, length-append vs ws, put .after, put-length s t p vs q put)
+rest-room s t p q vs ws room put = omega (arith, length-append vs ws, put .end, put-length s t p vs q put)
 
 -- ---- `put_number`
 
@@ -66,7 +66,7 @@ module _ (s : List ℕ) (p n : ℕ) (room : p + length (decimal n) ≤ length s)
 
     module _ (t : List ℕ) (q : ℕ) (put : Puts s t p (decimal (n / 10)) q) where
       pub last-offset : q < length t
-      last-offset = omega (arith, split, put .after, put-length s t p _ q put)
+      last-offset = omega (arith, split, put .end, put-length s t p _ q put)
 
       pub last-put : (u : List ℕ) (r : ℕ) → Puts t u q ((digitZero + n % 10) ∷ []) r → Puts s u p (decimal n) r
       last-put u r digit = rw (decimal-more n more) (put-both s t u p q r _ _ put digit)
@@ -85,7 +85,7 @@ module _ (s : List ℕ) (p n after : ℕ) (room : p + length (field n after) ≤
 
   module _ (t : List ℕ) (q : ℕ) (put : Puts s t p (decimal n) q) where
     pub after-offset : q < length t
-    after-offset = omega (arith, field-split, put .after, put-length s t p _ q put)
+    after-offset = omega (arith, field-split, put .end, put-length s t p _ q put)
 
     pub field-put : (u : List ℕ) (r : ℕ) → Puts t u q (after ∷ []) r → Puts s u p (field n after) r
     unfolding field

@@ -21,14 +21,14 @@ use Rattle.formats.proofs.Words.{wordSum-step}
 
 -- ---- the sum of 16-bit words
 
--- less than two bytes hold no word
+-- fewer than two bytes hold no word
 short-sum : (s : List ℕ) → length s < 2 → wordSum s ≡ 0
 unfolding wordSum
 short-sum [] h = refl
 short-sum (low ∷ []) h = refl
 short-sum (low ∷ (high ∷ s)) h = absurd (omega arith)
 
--- the first k words are in the sum, and the others make it whole
+-- the sum of the first k words, which the other words make whole
 pub record Summed (s : List ℕ) (sum k : ℕ) : Type 0 where
   pub small : sum < wordLimit
   pub others : (sum + wordSum (drop (2 * k) s)) % wordLimit ≡ wordSum s % wordLimit
@@ -50,7 +50,7 @@ pub ruleset summed = (sum-none, sum-more, sum-all)
 
 -- ---- zeros
 
--- a zero byte in front decides nothing, and another one all
+-- a zero byte leaves the answer to those after it, another byte decides it
 zero-byte : (t : List ℕ) (k : ℕ) → getD t k 0 ≡ 0 → zeros (drop k t) ≡ zeros (drop (suc k) t)
 unfolding zeros
 zero-byte [] zero e = refl
@@ -73,7 +73,7 @@ pub zero-none : (s : List ℕ) (from to : ℕ) → Zeroed s from to from
 zero-none s from to = record { others = refl }
 
 module _ (s : List ℕ) (from to k byte : ℕ) (more : k < to) (c : Zeroed s from to k) (read : byte ≡ getD s k 0) where
-  -- the byte is the one of the part
+  -- the byte that was read is the byte of the part
   same : getD (take to s) k 0 ≡ byte
   same = getD-take to s k 0 more ∙ sym read
 

@@ -12,9 +12,10 @@ const RECORD_BYTES: usize = 8;
 
 const BLOCK_RECORDS: u16 = 63;
 
-// The bytes of a block's records.
+// The bytes of all records of a block.
 const PART_BYTES: usize = 504;
 
+// The offsets of a block's fields: its number, the records that it uses, the number of blocks.
 const NUMBER_POSITION: usize = 504;
 
 const USED_POSITION: usize = 506;
@@ -38,7 +39,7 @@ pub fn word_sum(s: &[u8]) -> u16
     sum
 }
 
-// Whether every byte from one place up to another is zero.
+// Whether every byte from offset `from` up to offset `to` is zero.
 fn zero_between(s: &[u8], from: usize, to: usize) -> bool
     ensures { λ r. ⌜ r ≡ zeros (drop from (take to (now (s .entry)))) ⌝ }
 {
@@ -52,7 +53,7 @@ fn zero_between(s: &[u8], from: usize, to: usize) -> bool
     true
 }
 
-// Whether the block with number j of so many may use so many records.
+// Whether block j of a file of `blocks` blocks may use `used` records.
 fn used_fits(blocks: u16, j: u16, used: u16) -> bool
     ensures { λ r. ⌜ r ≡ usedFits blocks j used ⌝ }
 {
@@ -65,7 +66,7 @@ fn used_fits(blocks: u16, j: u16, used: u16) -> bool
     used <= BLOCK_RECORDS
 }
 
-// Whether the fields other than the check, and the unused records, are right.
+// Whether the block's fields other than the check, and its unused records, are right.
 fn fields_fit(block: &[u8], blocks: u16, j: u16) -> bool
     ensures { λ r. ⌜ r ≡ fieldsFit blocks j (now (block .entry)) ⌝ }
 {
@@ -84,8 +85,8 @@ fn fields_fit(block: &[u8], blocks: u16, j: u16) -> bool
     zero_between(block, RECORD_BYTES * (used as usize), PART_BYTES)
 }
 
-// The row "each block" for the block with number j of so many: the check, then the other fields and
-// the unused records.
+// The row "each block" for block j of a file of `blocks` blocks: the check, then the other fields
+// and the unused records.
 pub fn block_row(block: &[u8], blocks: u16, j: u16) -> Verdict
     ensures { λ r. ⌜ verdictResult r ≡ verdict (usedOf blocks j (now (block .entry))) ⌝ }
 {

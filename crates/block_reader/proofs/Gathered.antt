@@ -1,5 +1,6 @@
--- Laws of the taking out. Blocks that have all passed give their parts, and every part but the last
--- is full: so the part of block j goes to place 504 * j, right after those before it.
+-- Laws of taking flat records out of blocks. Blocks that have all passed give their parts, and
+-- every part but the last is full. So the part of block j goes to offset 504 * j, right after those
+-- before it.
 use Prim.Native.Nat.{ℕ, zero, suc, _+_, _*_, _-_, _/_, _≤_, _<_}
 use mathlib.Core.Bool.{true}
 use mathlib.Core.List.{List, [], _∷_, _++_, append-assoc, append-nil}
@@ -65,11 +66,11 @@ taken s passes =
     }
 
 module _ (s : List ℕ) (t : Taken s) where
-  -- so many blocks
+  -- how many blocks there are
   abbrev count : ℕ
   count = length s / blockBytes
 
-  -- block j, the records that it uses, and these
+  -- block j, how many records it uses, and these as bytes
   abbrev block : ℕ → List ℕ
   block j = take blockBytes (drop (blockBytes * j) s)
 
@@ -79,7 +80,7 @@ module _ (s : List ℕ) (t : Taken s) where
   abbrev part : ℕ → List ℕ
   part j = take (recordBytes * used j) (block j)
 
-  -- these stand after the parts before them
+  -- the part of block j stands after the parts before it
   record Share (j : ℕ) : Type 0 where
     fits : usedFits count j (used j) ≡ true
     after : take (suc j) (t .parts) ≡ take j (t .parts) ++ (part j ∷ [])
@@ -124,7 +125,7 @@ module _ (s : List ℕ) (t : Taken s) where
       let full : used j ≡ blockRecords = used-full count j (used j) (share j before .fits) h in
       length-more j before ∙ omega (arith, full, length-before j before)
 
-  -- all parts are so many
+  -- there are as many parts as blocks
   all-parts : take count (t .parts) ≡ t .parts
   all-parts = take-all count (t .parts) (omega (arith, each-length (blockAt count s) count 0 (t .parts) (t .row)))
 

@@ -1,5 +1,5 @@
--- The laws that the functions' proofs cite: of the rows, and of the taking out; `Taken` is for
--- callers.
+-- Laws that the functions' proofs cite: of the block rows, and of taking flat records out of
+-- blocks. `Taken` is for callers.
 pub mod Rows
 pub mod Gathered
 pub mod Taken

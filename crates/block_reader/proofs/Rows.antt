@@ -30,7 +30,7 @@ rows-none s blocks = record { left = ap (λ (n : ℕ). verdict (each (blockAt bl
 
 module _ (s : List ℕ) (blocks j : ℕ) (block : List ℕ) (row : Verdict) (more : j < blocks) (c : RowsLeft s blocks j)
     (there : block ≡ take blockBytes (drop (blockBytes * j) s)) (reported : verdictResult row ≡ verdict (usedOf blocks j block)) where
-  -- what a block says is the next of the rows
+  -- the verdict on a block is the next one of the row
   next : verdictResult row ≡ verdict (blockAt blocks s j)
   unfolding blockAt
   next = reported ∙ ap (λ (b : List ℕ). verdict (usedOf blocks j b)) there
@@ -61,7 +61,7 @@ pub whole-many : (s : List ℕ) → length s ≡ blockBytes * (length s / blockB
 unfolding flatIn lengthRow
 whole-many s whole some many = simp (flatIn, lengthRow, eq-eqb _ _ whole, le-leb _ _ some, lt-leb _ _ many)
 
--- the rows of the blocks decide over a file of 1 to 17 blocks
+-- for a file of 1 to 17 blocks the row "each block" decides
 pub whole-rows : (s : List ℕ) (row : Verdict) → length s ≡ blockBytes * (length s / blockBytes) → 1 ≤ length s / blockBytes → length s / blockBytes ≤ mostBlocks
     → verdictResult row ≡ verdict (blockRow (length s / blockBytes) s) → verdictResult row ≡ verdict (flatIn s)
 unfolding flatIn

@@ -18,7 +18,7 @@ use Rattle.refusal.specs.Inner.FilledBuffer.{filledResult, FilledBuffer}
 use Rattle.refusal.specs.declared.Filled.{Filled}
 use Rattle.refusal.specs.declared.Filled.the-variants.{Written, Refused}
 
--- the flat records of file s, so many bytes, stand at the start of the space
+-- the flat records of the file s, so many bytes, stand at the start of the buffer
 pub record Taken (s after : List ℕ) (bytes : ℕ) : Type 0 where
   pub flat : List ℕ
   pub is : flatIn s ≡ done flat

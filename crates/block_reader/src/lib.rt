@@ -18,12 +18,13 @@ const BLOCK_BYTES: usize = 512;
 
 const MOST_BLOCKS: usize = 17;
 
-// The bytes of a block's records.
+// The bytes of all records of a block.
 const PART_BYTES: usize = 504;
 
+// The offset in a block of the number of records that it uses.
 const USED_POSITION: usize = 506;
 
-// The bytes of flat records that the most blocks hold: 17 times 63 records of 8 bytes.
+// The most bytes of flat records: those of 17 blocks of 63 records, 8 bytes each.
 pub const MOST_BYTES: usize = 8568;
 
 // Block j of a file.
@@ -36,7 +37,7 @@ fn block_at(file: &[u8], j: usize) -> &[u8]
     &file[start..start + BLOCK_BYTES]
 }
 
-// The row "each block" of a file of so many blocks.
+// The row "each block" of a file of `blocks` blocks.
 fn each_block(file: &[u8], blocks: u16) -> Verdict
     requires { ⌜ length (now file) ≡ blockBytes * blocks ⌝ }
     ensures { λ r. ⌜ verdictResult r ≡ verdict (blockRow blocks (now (file .entry))) ⌝ }
@@ -79,8 +80,8 @@ fn flat_bytes(file: &[u8]) -> usize
     PART_BYTES * full + RECORD_BYTES * used
 }
 
-// Writes the flat records of a file to the start of a lent buffer that has room for those of every
-// file.
+// Writes the flat records of a file whose blocks have passed to the start of a lent buffer, which
+// has room for those of every file.
 fn gather(file: &[u8], flat: &mut [u8])
     requires { ⌜ (verdict (flatIn (now file)) ≡ done tt) × (length (now flat) ≡ mostBytes) ⌝ }
     ensures { λ _. ⌜ now (flat .exit) ≡ lent (now (flat .entry)) (flatIn (now (file .entry))) ⌝ }
@@ -95,8 +96,8 @@ fn gather(file: &[u8], flat: &mut [u8])
     }
 }
 
-// The flat records of a file's blocks, written to the start of a lent buffer, which has room for
-// those of every file: only the block rows refuse.
+// The flat records of a file, written to the start of a lent buffer. The buffer has room for those
+// of every file, so only the block rows refuse.
 pub fn from_blocks(file: &[u8], flat: &mut [u8; MOST_BYTES]) -> Filled
     ensures { λ r. ⌜ FilledBuffer (flatIn (now (file .entry))) (now (flat .entry))
         (now (flat .exit)) r ⌝ }

@@ -1,4 +1,4 @@
--- Laws of the laying out. Each write goes right after the one before it, so that all of them are
+-- Laws of writing blocks. Each write goes right after the one before it, so that all of them are
 -- one write: of a block's body, of a block, of the file.
 use Prim.Native.Nat.{ℕ, zero, suc, _+_, _*_, _-_, _/_, _%_, _≤_, _<_}
 use mathlib.Core.List.{List, [], _∷_, _++_, append-assoc, append-nil}
@@ -31,7 +31,7 @@ write-later s t u p q vs ws first second position room =
 
 -- ---- the body of a block
 
--- the low 16 bits of a number are its two bytes
+-- the two bytes of a number depend on its low 16 bits alone
 bytesOf-low : (n q : ℕ) → bytesOf 2 (n + 256 * (256 * q)) ≡ bytesOf 2 n
 unfolding bytesOf
 bytesOf-low n q =
@@ -43,7 +43,7 @@ bytesOf-word n =
     let whole : n % wordLimit + 256 * (256 * (n / wordLimit)) ≡ n = omega arith in
     sym (bytesOf-low (n % wordLimit) (n / wordLimit)) ∙ ap (bytesOf 2) whole
 
--- so many zeros
+-- n zeros
 abbrev blank : ℕ → List ℕ
 blank n = replicate n 0
 

@@ -1,4 +1,4 @@
-// Blocks of a program file written: flat records laid into blocks.
+// Blocks of a program file written: flat records put into blocks.
 use refusal::Filled;
 use refusal::Refusal;
 ghost use Prim.Native.Nat.{_+_, _*_, _-_, _≤_};
@@ -13,9 +13,11 @@ const RECORD_BYTES: usize = 8;
 
 const BLOCK_BYTES: usize = 512;
 
-// The bytes of a block's records.
+// The bytes of all records of a block.
 const PART_BYTES: usize = 504;
 
+// The offsets of a block's fields: its number, the records that it uses, the number of blocks, the
+// check.
 const NUMBER_POSITION: usize = 504;
 
 const USED_POSITION: usize = 506;
@@ -30,7 +32,7 @@ const WORD_LIMIT: usize = 65536;
 // What a block's words sum to, modulo 65,536.
 const CHECK_SUM: u16 = 65535;
 
-// Writes the records of a block at a position, and zeros for those that it does not use.
+// Writes the records of a block from offset `start` on, and zeros for those that it does not use.
 fn write_records(file: &mut [u8], start: usize, part: &[u8])
     requires { ⌜ (start + blockBytes ≤ length (now file)) × (length (now part) ≤ partBytes) ⌝ }
     ensures { λ _. ⌜ now (file .exit) ≡ written (now (file .entry)) start
@@ -42,7 +44,7 @@ fn write_records(file: &mut [u8], start: usize, part: &[u8])
     writing::write_bytes(file, start + bytes, &zeros[bytes..]);
 }
 
-// Writes a block but for its check at a position: its records, and its fields after them.
+// Writes block j, but for its check, from offset `start` on: its records, then its fields.
 fn write_body(file: &mut [u8], start: usize, part: &[u8], blocks: usize, j: usize)
     requires { ⌜ (start + blockBytes ≤ length (now file)) × (length (now part) ≤ partBytes) ⌝ }
     ensures { λ _. ⌜ now (file .exit) ≡ written (now (file .entry)) start
@@ -55,7 +57,7 @@ fn write_body(file: &mut [u8], start: usize, part: &[u8], blocks: usize, j: usiz
     writing::write16(file, start + BLOCKS_POSITION, (blocks % WORD_LIMIT) as u16);
 }
 
-// Writes one block at a position, with the check word that makes its words sum to 65,535.
+// Writes block j from offset `start` on, with the check word that makes its words sum to 65,535.
 fn write_block(file: &mut [u8], start: usize, part: &[u8], blocks: usize, j: usize)
     requires { ⌜ (start + blockBytes ≤ length (now file)) × (length (now part) ≤ partBytes) ⌝ }
     ensures { λ _. ⌜ now (file .exit) ≡ written (now (file .entry)) start
@@ -78,8 +80,8 @@ fn part_of(flat: &[u8], j: usize) -> &[u8]
     &flat[start..start + PART_BYTES]
 }
 
-// Writes the file of flat records, so many blocks, to the start of a lent buffer that has room for
-// it.
+// Writes the file of flat records, which has so many blocks, to the start of a lent buffer that has
+// room for it.
 fn write_blocks(flat: &[u8], blocks: usize, file: &mut [u8])
     requires { ⌜ (blocks ≡ blocksFor (length (now flat))) ×
         (blockBytes * blocks ≤ length (now file)) ⌝ }
@@ -93,7 +95,8 @@ fn write_blocks(flat: &[u8], blocks: usize, file: &mut [u8])
     }
 }
 
-// The file of flat records, written to the start of a lent buffer; 13 where it is too short.
+// Writes the file of flat records to the start of a lent buffer; refused with 13 where the buffer
+// is too short.
 pub fn to_blocks(flat: &[u8], file: &mut [u8]) -> Filled
     ensures { λ r. ⌜ FilledBuffer (inRoom (length (now (file .entry))) (fileOf (now (flat .entry))))
         (now (file .entry)) (now (file .exit)) r ⌝ }

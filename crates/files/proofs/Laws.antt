@@ -1,5 +1,5 @@
--- A law for each way out of the file reader and writer. The reader's own space holds every file's
--- flat records, so that the rows of the blocks refuse for no lack of it.
+-- A law for each way out of the file reader and writer. The reader's own buffer holds every file's
+-- flat records, so the block rows never refuse for lack of room.
 use Prim.Native.Nat.{ℕ, _≤_, _<_}
 use mathlib.Core.List.{List}
 use mathlib.Core.Path.{_≡_, refl, sym, ap, _∙_}

@@ -1,1 +1,1 @@
--- The contracts cite the definitions of `formats` and `blocks`.
+-- No definitions: the contracts cite those of `formats` and `refusal`.

@@ -27,13 +27,13 @@ bytes-zeros zero i = lit< tt
 bytes-zeros (suc n) zero = lit< tt
 bytes-zeros (suc n) (suc i) = bytes-zeros n i
 
--- so many zeros are zeros ..
+-- a list of n zeros is all zeros ..
 zeros-replicate : (n : ℕ) → zeros (replicate n 0) ≡ true
 unfolding zeros
 zeros-replicate zero = refl
 zeros-replicate (suc n) = zeros-replicate n
 
--- .. and zeros are so many
+-- .. and a list that is all zeros is as many zeros as it is long
 replicate-zeros : (s : List ℕ) → zeros s ≡ true → s ≡ replicate (length s) 0
 unfolding zeros
 replicate-zeros [] e = refl
@@ -184,7 +184,7 @@ module _ (part : List ℕ) (j blocks n : ℕ) (e : length part ≡ recordBytes *
 
 -- ---- the block that is read
 
--- what a block has passed that gives a part
+-- the tests that are passed by a block that gives a part
 pub record Passed (blocks j : ℕ) (block part : List ℕ) : Type 0 where
   pub sum : wordSum block % wordLimit ≡ checkSum
   pub number : numberAt 2 block numberOffset ≡ j
@@ -220,14 +220,14 @@ passed blocks j block part = cases (eqb (wordSum block % wordLimit) checkSum) re
         }
 
 module _ (blocks j : ℕ) (block part : List ℕ) (bs : Bytes block) (whole : length block ≡ blockBytes) (p : Passed blocks j block part) where
-  -- the records that it uses
+  -- how many records it uses
   abbrev used : ℕ
   used = numberAt 2 block usedOffset
 
   within : recordBytes * used ≤ partBytes
   within = omega (arith, used-some blocks j used (p .fits) .1)
 
-  -- the part is as long as these
+  -- the part is as long as so many records
   length-part : length part ≡ recordBytes * used
   length-part = ap length (sym (p .gives)) ∙ length-take-le (recordBytes * used) block (omega (arith, within))
 
@@ -241,7 +241,7 @@ module _ (blocks j : ℕ) (block part : List ℕ) (bs : Bytes block) (whole : le
       (ap (λ (m : ℕ). replicate m 0) (sym as-long) ∙ sym (replicate-zeros after (p .unused)))
       ∙ take-append-drop (recordBytes * used) (take partBytes block)
 
-  -- after what stands before a position the block goes on with the word there
+  -- the first q + 2 bytes are the first q bytes and the word at offset q
   word-next : (q : ℕ) → q + 2 ≤ blockBytes → take (q + 2) block ≡ take q block ++ bytesOf 2 (numberAt 2 block q)
   word-next q h = take-add q 2 block ∙ ap (λ (l : List ℕ). take q block ++ l) (sym (bytesOf-numberAt 2 block q bs (omega arith)))
 

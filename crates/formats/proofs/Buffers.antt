@@ -1,4 +1,4 @@
--- Laws of what stands where in a buffer. `Lies` goes by recursion on the bytes, so joins and parts
+-- Laws of bytes at an offset of a buffer. `Lies` goes by recursion on the bytes, so joins and parts
 -- of byte strings are joins and parts of proofs.
 use Prim.Native.Nat.{ℕ, zero, suc, _+_, _-_, _≤_, _<_, suc-le-suc}
 use mathlib.Core.List.{List, [], _∷_, _++_, append-nil}
@@ -10,7 +10,7 @@ use lib.Seq.{getD-set-same, getD-set-other, drop-cons, getD-take, take-add, take
 use Rattle.formats.specs.Buffers.{Opens, Lies, nothing, one-more}
 use Rattle.formats.specs.Inner.Buffers.{fromLast}
 
--- the position goes by its number
+-- an offset may be exchanged for an equal one
 pub lies-position : {s vs : List ℕ} {p q : ℕ} → p ≡ q → Lies s p vs → Lies s q vs
 lies-position {s} {vs} e h = subst (λ (k : ℕ). Lies s k vs) e h
 
@@ -38,12 +38,12 @@ pub lies-within : {s vs : List ℕ} {p : ℕ} → Lies s p vs → p ≤ length s
 lies-within {p = p} nothing h = rw add-zero h
 lies-within {p = p} (one-more there is more) h = rw (add-suc, ← suc-add) (lies-within more there)
 
--- a byte in front moves the position by one
+-- a byte in front moves the offset by one
 lies-after : {s vs : List ℕ} {p : ℕ} (b : ℕ) → Lies s p vs → Lies (b ∷ s) (suc p) vs
 lies-after b nothing = nothing
 lies-after b (one-more there is more) = one-more (suc-le-suc there) is (lies-after b more)
 
--- what opens a buffer lies at its first place
+-- opening bytes lie at offset 0
 pub lies-first : (vs rest : List ℕ) → Lies (vs ++ rest) 0 vs
 lies-first [] rest = nothing
 lies-first (v ∷ vs) rest = one-more {p = 0} (omega arith) refl (lies-after v (lies-first vs rest))
@@ -72,24 +72,24 @@ lies-shared {s} {p = p} n u h (one-more {vs = vs} there is more) e =
 pub lies-take : {s vs : List ℕ} {p : ℕ} → Lies s p vs → take (p + length vs) s ≡ take p s ++ vs
 lies-take {s} {vs} {p} h = take-add p (length vs) s ∙ ap (λ (l : List ℕ). take p s ++ l) (lies-part h)
 
--- a whole buffer lies at its own first place
+-- a whole buffer lies at its own offset 0
 pub lies-all : (s : List ℕ) → Lies s 0 s
 lies-all s = subst (λ (l : List ℕ). Lies l 0 s) (append-nil s) (lies-first s [])
 
--- the first of the bytes that lie at a position is the byte there
+-- the first of the bytes that lie at an offset is the byte there
 pub head-is : {s vs : List ℕ} {p v : ℕ} → Lies s p (v ∷ vs) → getD s p 0 ≡ v
 head-is (one-more there is more) = is
 
 -- ---- a part of a slice
 
--- a part from p on, reported by where it ends, is so many bytes
+-- the part from p up to p + n is the n bytes from p on
 pub part-inside : (s : List ℕ) (p n : ℕ) → take (p + n - p) (drop p s) ≡ take n (drop p s)
 part-inside s p n = let size : p + n - p ≡ n = omega arith in ap (λ (k : ℕ). take k (drop p s)) size
 
 pub length-inside : (s : List ℕ) (p n : ℕ) → p + n ≤ length s → length (take (p + n - p) (drop p s)) ≡ n
 length-inside s p n h = ap length (part-inside s p n) ∙ length-take-le n (drop p s) (omega (arith, length-drop p s))
 
--- the last part is all that is left
+-- where fewer than n bytes are left, the n bytes from p on are all that is left
 pub part-last : (s : List ℕ) (p n : ℕ) → length s - p < n → take (length s - p) (drop p s) ≡ take n (drop p s)
 part-last s p n h =
     let left = length-drop p s in
@@ -102,13 +102,13 @@ unfolding fromLast
 length-from entries zero = refl
 length-from entries (suc l) = ap suc (length-from entries l)
 
--- what is written above so many entries does not change them
+-- an entry written after the first l does not change these
 from-set : (entries : List ℕ) (i v l : ℕ) → l ≤ i → fromLast (set entries i v) l ≡ fromLast entries l
 unfolding fromLast
 from-set entries i v zero h = refl
 from-set entries i v (suc l) h = ap₂ _∷_ (getD-set-other entries i l v 0 (λ e. omega arith)) (from-set entries i v l (omega arith))
 
--- an entry written on top of so many is in front of them
+-- an entry written right after the first l comes before them
 pub from-top : (entries : List ℕ) (l v : ℕ) → l < length entries → fromLast (set entries l v) (suc l) ≡ v ∷ fromLast entries l
 unfolding fromLast
 from-top entries l v h = ap₂ _∷_ (getD-set-same entries l v 0 h) (from-set entries l v l (omega arith))

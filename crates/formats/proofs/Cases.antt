@@ -32,12 +32,12 @@ sums : map (sum32 4294967295) (0 ∷ 1 ∷ 2 ∷ []) ≡ 4294967295 ∷ 0 ∷ 1 
 unfolding sum32
 sums = refl
 
--- the number at a position, 0 where a byte is missing
+-- the number at an offset, 0 where a byte is missing
 numbers : map (numberAt 2 (1 ∷ 2 ∷ 3 ∷ [])) (0 ∷ 1 ∷ 2 ∷ 3 ∷ []) ≡ 513 ∷ 770 ∷ 0 ∷ 0 ∷ []
 unfolding numberAt numberOf
 numbers = refl
 
--- two bytes written at a position, and nothing where one would not fit
+-- two bytes written at an offset, and nothing where one would not fit
 writes : map (λ (p : ℕ). written (9 ∷ 9 ∷ 9 ∷ []) p (bytesOf 2 258)) (0 ∷ 1 ∷ 2 ∷ []) ≡ (2 ∷ 1 ∷ 9 ∷ []) ∷ (9 ∷ 2 ∷ 1 ∷ []) ∷ (9 ∷ 9 ∷ 9 ∷ []) ∷ []
 unfolding written bytesOf
 writes = refl

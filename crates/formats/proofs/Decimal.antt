@@ -11,7 +11,7 @@ use borrow.Author.Tests.{lt-ltb, le-ltb}
 use Rattle.formats.specs.Characters.{digitZero}
 use Rattle.formats.specs.Decimal.{digits, decimal}
 
--- one digit is all, or it is not
+-- a number has one digit, or more
 by-digit : {A : Type 0} (n : ℕ) → (n < 10 → A) → (10 ≤ n → A) → A
 by-digit n one more = elim (decLt n 10) [ yes h ↦ one h | no h ↦ more (omega arith) ]
 
@@ -27,7 +27,7 @@ digits-more most n h = simp (digits, le-ltb n 10 h)
 tenth : (most n : ℕ) → n < 10 ^ suc most → n / 10 < 10 ^ most
 tenth most n h = omega (arith, pow-succ' 10 most)
 
--- however many digits there may be, they are the same where they are enough
+-- the limit on the digits does not matter where it is high enough
 digits-same : (d e n : ℕ) → n < 10 ^ suc d → n < 10 ^ suc e → digits (suc d) n ≡ digits (suc e) n
 digits-same zero e n hd he = digits-one zero n hd ∙ sym (digits-one e n hd)
 digits-same (suc d) zero n hd he = digits-one (suc d) n he ∙ sym (digits-one zero n he)
@@ -37,7 +37,7 @@ digits-same (suc d) (suc e) n hd he =
     ∙ ap (λ ds. ds ++ ((digitZero + n % 10) ∷ [])) (digits-same d e (n / 10) (tenth (suc d) n hd) (tenth (suc e) n he))
     ∙ sym (digits-more (suc e) n h))
 
--- n + 1 are enough
+-- n + 1 digits are enough for n
 enough : (n : ℕ) → n < 10 ^ suc n
 enough zero = omega arith
 enough (suc n) = omega (arith, enough n, pow-succ' 10 (suc n))
@@ -46,7 +46,7 @@ pub decimal-one : (n : ℕ) → n < 10 → decimal n ≡ (digitZero + n) ∷ []
 unfolding decimal
 decimal-one n h = digits-one n n h
 
--- more than enough
+-- n digits are enough for a tenth of n
 still-enough : (n : ℕ) → 10 ≤ n → n / 10 < 10 ^ n
 still-enough n h = tenth n n (enough n)
 
@@ -57,7 +57,7 @@ decimal-more (suc m) h =
     digits-more (suc m) (suc m) h
     ∙ ap (λ ds. ds ++ ((digitZero + suc m % 10) ∷ [])) (digits-same m (suc m / 10) (suc m / 10) (still-enough (suc m) h) (enough (suc m / 10)))
 
--- the digits of a number below 10^k, k at least 1
+-- a number below 10^k has at most k digits, k at least 1
 pub decimal-length : (k n : ℕ) → n < 10 ^ suc k → length (decimal n) ≤ suc k
 decimal-length zero n h = rw (decimal-one n h) (omega arith)
 decimal-length (suc k) n h =

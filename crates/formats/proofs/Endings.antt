@@ -1,6 +1,6 @@
 -- Laws of where a tree ends, one for each way in which a reader can find it. Their premises are the
--- tests that a reader makes. An ending reports the reading: `ended-by` and `stopped-by` turn it
--- back.
+-- tests that a reader makes. `ended-by` and `stopped-by` lead back from the end, or the refusal, to
+-- the tree that was read.
 use Prim.Native.Nat.{ℕ, zero, suc, _+_, _-_, _≤_, _<_}
 use mathlib.Core.List.{List, [], _++_}
 use mathlib.Core.Logic.{_≢_}
@@ -18,7 +18,7 @@ use Rattle.formats.proofs.Reader.{tree-reader}
 use Rattle.formats.specs.Results.{Result, done, refusal}
 use Rattle.formats.proofs.Results.{Outcome, gave, stopped, outcome}
 
--- ---- from the ending back to the reading
+-- ---- from the end back to the tree that was read
 
 pub record EndedBy (p : ℕ) (r : Result Tree) (o : ℕ) : Type 0 where
   pub it : Tree
@@ -57,7 +57,7 @@ pub end-deep : (room : ℕ) (s : List ℕ) (p : ℕ) → p < length s → getD s
 unfolding endAt endFrom
 end-deep room s p there is none = rw none (sym (ap (endFrom p) (read-deep (at-node there is))))
 
--- ---- of a node: the left tree's refusal, or else what comes of the right tree
+-- ---- of a node: the left tree's refusal, or else the outcome of the right tree
 
 left-stops : (room : ℕ) (s : List ℕ) (p n q : ℕ) → p < length s → getD s p 0 ≡ nodeTag → refusal n q ≡ endAt room s (suc p) → refusal n q ≡ endAt (suc room) s p
 unfolding endAt endFrom
@@ -91,7 +91,7 @@ pub end-right :
 end-right zero s p o e there is some l r = absurd (some refl)
 end-right (suc room) s p o e there is some l r = (simp sub-one at r) ∙ sym (left-ends room s p o there is (simp (add-one, sub-one) at l))
 
--- a tree ends after the position where it begins
+-- a tree ends after the offset where it begins
 some-bytes : (t : Tree) → 0 < length (tokens t)
 unfolding tokens
 some-bytes (leaf x) = omega arith
@@ -103,7 +103,7 @@ end-after room s p o e = let t = ended-by p (treeAt room s p) o (sym e) in omega
 
 -- ---- of the first tree
 
--- it is read from place 0 on, with room for 1,024 nodes
+-- it is read from offset 0 on, with room for 1,024 nodes
 pub end-first : (s : List ℕ) (e : Result ℕ) → e ≡ endAt mostDepth s 0 → e ≡ firstEnd s
 unfolding endAt firstEnd firstTree
 end-first s e h = h

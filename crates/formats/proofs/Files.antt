@@ -60,11 +60,11 @@ tight r n e = omega arith
 
 -- ---- the file of flat records
 
--- the first block of some is a whole block
+-- the first of the blocks is a whole block
 length-first : (blocks j : ℕ) (r : List ℕ) → length (blockOf (take partBytes r) j blocks) ≡ blockBytes
 length-first blocks j r = length-block (take partBytes r) j blocks (simp length-take (omega arith))
 
--- and so is each other one
+-- n blocks are n whole blocks
 pub length-blocks : (blocks n j : ℕ) (r : List ℕ) → length (blocksFrom blocks n j r) ≡ blockBytes * n
 unfolding blocksFrom
 length-blocks blocks zero j r = refl
@@ -93,13 +93,13 @@ file-bytes r bs = bytes-blocks (blocksFor (length r)) (blocksFor (length r)) 0 r
 
 -- ---- the length of a file
 
--- so many whole blocks, 1 to 17
+-- the file s is n whole blocks, 1 to 17
 pub record Whole (s : List ℕ) (n : ℕ) : Type 0 where
   pub measure : length s ≡ blockBytes * n
   pub some-block : 1 ≤ n
   pub few-blocks : n ≤ mostBlocks
 
--- a file passes the first row as so many blocks where it has these
+-- such a file passes the row "blocks"
 pub length-done : (s : List ℕ) (n : ℕ) → Whole s n → lengthRow s ≡ done n
 unfolding lengthRow
 length-done s n w =
@@ -127,7 +127,7 @@ drop-block s j =
     let next : blockBytes * suc j ≡ blockBytes * j + blockBytes = omega arith in
     ap (λ (k : ℕ). drop k s) next ∙ sym (drop-drop blockBytes (blockBytes * j) s)
 
--- a part in front of the rest is the first block's share of both
+-- the first block takes the part, and the rest takes one block less than both
 record Cut (part rest : List ℕ) : Type 0 where
   front : take partBytes (part ++ rest) ≡ part
   back : drop partBytes (part ++ rest) ≡ rest
@@ -189,7 +189,7 @@ module _ (blocks : ℕ) (s : List ℕ) (bs : Bytes s) (whole : length s ≡ bloc
     count = c .count ∙ ap suc (f .count);
   }
 
-  -- so it is with every rest of the file
+  -- the same for every rest of the file
   rest : (n j : ℕ) (parts : List (List ℕ)) → j + n ≡ blocks → each (blockAt blocks s) n j ≡ done parts → Rest n j parts
   rest zero j parts e h = rw (each-none (blockAt blocks s) j parts h) (rest-none j e)
   rest (suc n) j parts e h =

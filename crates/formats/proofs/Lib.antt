@@ -1,4 +1,4 @@
--- The laws of the definitions in specs/, a file for each of theirs.
+-- Laws of the definitions in specs/, and closed cases of them.
 pub mod Numbers
 pub mod Results
 pub mod Buffers

@@ -61,7 +61,7 @@ numberOf-lt (b ∷ s) bs =
 pub numberOf-fits : (width : ℕ) (s : List ℕ) → Bytes s → length s ≤ width → numberOf s < 256 ^ width
 numberOf-fits width s bs h = lt-of-lt-of-le (numberOf-lt s bs) (pow-le-pow-right (lit< tt) h)
 
--- the number at a position, where it is whole and where it is not
+-- the number at an offset, where it is whole and where it is not
 pub numberAt-whole : (width : ℕ) (s : List ℕ) (p : ℕ) → p + width ≤ length s → numberAt width s p ≡ numberOf (take width (drop p s))
 unfolding numberAt
 numberAt-whole width s p h = simp (numberAt, le-leb _ _ h)
@@ -97,9 +97,9 @@ bytes-bytesOf zero n i = lit< tt
 bytes-bytesOf (suc width) n zero = mod-lt n (lit< tt)
 bytes-bytesOf (suc width) n (suc i) = bytes-bytesOf width (n / 256) i
 
--- ---- numbers at their places
+-- ---- numbers at offsets
 
--- the number at a position fits its width, and its bytes are those there
+-- the number at an offset fits its width, and its bytes are those there
 pub numberAt-lt : (width : ℕ) (s : List ℕ) (p : ℕ) → Bytes s → p + width ≤ length s → numberAt width s p < 256 ^ width
 numberAt-lt width s p bs h = rw (numberAt-whole width s p h) (numberOf-fits width (take width (drop p s)) (bytes-part width s p bs) (simp length-take (omega arith)))
 
@@ -109,7 +109,7 @@ bytesOf-numberAt width s p bs h =
     rw (numberAt-whole width s p h)
     (ap (λ (k : ℕ). bytesOf k (numberOf (take width (drop p s)))) (sym there) ∙ bytesOf-number (take width (drop p s)) (bytes-part width s p bs))
 
--- the number of that width at a position is there, or it is cut off
+-- the number of that width at an offset is there, or it is cut off
 by-width : {A : Type 0} (width : ℕ) (s : List ℕ) (p : ℕ) → (p + width ≤ length s → A) → (length s < p + width → A) → A
 by-width width s p whole cut = elim (decLe (p + width) (length s)) [ yes h ↦ whole h | no h ↦ cut (omega arith) ]
 
@@ -117,7 +117,7 @@ by-width width s p whole cut = elim (decLe (p + width) (length s)) [ yes h ↦ w
 pub numberAt-fits : (width : ℕ) (s : List ℕ) (p : ℕ) → Bytes s → numberAt width s p < 256 ^ width
 numberAt-fits width s p bs = by-width width s p (numberAt-lt width s p bs) (λ h. rw (numberAt-cut width s p h) (one-le-pow width 256 (lit< tt)))
 
--- bytes in front move the position
+-- bytes in front move the offset
 pub numberAt-after : (width : ℕ) (xs s : List ℕ) (p : ℕ) → numberAt width (xs ++ s) (length xs + p) ≡ numberAt width s p
 numberAt-after width xs s p = by-width width s p
     (λ h. numberAt-whole width (xs ++ s) (length xs + p) (omega (arith, length-append xs s))
@@ -125,7 +125,7 @@ numberAt-after width xs s p = by-width width s p
     ∙ sym (numberAt-whole width s p h))
     (λ h. numberAt-cut width (xs ++ s) (length xs + p) (omega (arith, length-append xs s)) ∙ sym (numberAt-cut width s p h))
 
--- a number whose bytes stand at a position is the number there
+-- a number whose bytes stand at an offset is the number there
 pub numberAt-there : (width n : ℕ) (xs s : List ℕ) (p : ℕ) → length xs ≡ p → n < 256 ^ width → numberAt width (xs ++ (bytesOf width n ++ s)) p ≡ n
 numberAt-there width n xs s p e h =
     let long : 0 + width ≤ length (bytesOf width n ++ s) = omega (arith, length-append (bytesOf width n) s, length-bytesOf width n) in
@@ -137,7 +137,7 @@ numberAt-there width n xs s p e h =
 
 -- ---- numbers read by single bytes
 
--- as many bytes of s as the width says, from k places after p on
+-- as many bytes of s as the width says, from offset p + k on
 abbrev pub bytesFrom : ℕ → List ℕ → ℕ → ℕ → List ℕ
 bytesFrom zero s p k = []
 bytesFrom (suc width) s p k = getD s (p + k) 0 ∷ bytesFrom width s p (suc k)
@@ -148,7 +148,7 @@ part-from zero s p k h = refl
 part-from (suc width) s p k h =
     rw (drop-cons s (p + k) 0 (omega arith), ← (add-suc p k)) (ap (λ (l : List ℕ). getD s (p + k) 0 ∷ l) (part-from width s p (suc k) (omega arith)))
 
--- a number made of these bytes is the number at the position
+-- a number made of these bytes is the number at the offset
 pub number-read :
     (width : ℕ) (s : List ℕ) (p : ℕ) (bs : List ℕ) (r : ℕ)
     → width ≤ length s

@@ -33,19 +33,19 @@ unfolding inFront recordsOfAll prefixes
 records-inFront noArgs es = refl
 records-inFront (arg x xs) es = ap (λ (l : List Kind). prefix x ++ l) (records-inFront xs es) ∙ sym (append-assoc (prefix x) (prefixes xs) (recordsOfAll es))
 
--- there are as many more as there are arguments
+-- the list is longer by the number of arguments
 length-inFront : (xs : Args) (es : List Expr) → length (inFront xs es) ≡ countArgs xs + length es
 unfolding inFront countArgs
 length-inFront noArgs es = omega arith
 length-inFront (arg x xs) es = let h = length-inFront xs es in omega arith
 
--- expressions that are applied rightly, split at the end of the arguments
+-- where each Call has its arguments, so it is in the arguments and in what follows them
 applied-inFront : (arity : ℕ → ℕ) (xs : Args) (es : List Expr) → Every (Applied arity) (inFront xs es) → AppliedArgs arity xs × Every (Applied arity) es
 unfolding inFront
 applied-inFront arity noArgs es a = (tt, a)
 applied-inFront arity (arg x xs) es a = let b = applied-inFront arity xs es (a .1) in ((a .0, b .0), b .1)
 
--- so many expressions, taken as arguments
+-- the first n expressions, taken as arguments
 record Popped (n : ℕ) (es : List Expr) : Type 0 where
   args : Args
   rest : List Expr
@@ -53,7 +53,7 @@ record Popped (n : ℕ) (es : List Expr) : Type 0 where
   counted : countArgs args ≡ n
   split : es ≡ inFront args rest
 
--- they can be taken where there are so many
+-- they can be taken where there are n
 popped : (n : ℕ) (es : List Expr) → n ≤ length es → Popped n es
 unfolding popArgs countArgs inFront
 popped zero es h = record { args = noArgs; rest = es; is = λ next. refl; counted = refl; split = refl }
@@ -139,7 +139,7 @@ args-short zero es next h = absurd (omega arith)
 args-short (suc n) [] next h = refl
 args-short (suc n) (x ∷ es) next h = args-short n es (λ xs after. next (arg x xs) after) (le-of-suc-le-suc h)
 
--- nor is there where two parts are missing one
+-- nor where a part of two is missing
 two-short : (es : List Expr) (f : Expr → Expr → Expr) → length es < 2 → pop es (λ p es′. pop es′ (λ q rest. some (f p q ∷ rest))) ≡ none
 two-short [] f h = refl
 two-short (p ∷ []) f h = refl
@@ -170,7 +170,7 @@ module _ (arity : ℕ → ℕ) where
   unfolding exprsOf
   exprs-cons kind ks es e = rw (e, exprsOf)
 
-  -- so many expressions stand
+  -- n expressions stand
   pub record Height (ks : List Kind) (n : ℕ) : Type 0 where
     pub exprs : List Expr
     pub found : exprsOf arity ks ≡ some exprs

@@ -1,5 +1,5 @@
 -- Worked cases of the program file (01, Program file), proved by computation. Each row of a table
--- is an input and the outcome of it.
+-- is an input and its outcome.
 use Prim.Native.Nat.{ℕ, _-_}
 use mathlib.Core.List.{List, [], _∷_, _++_, map}
 use mathlib.Core.Path.{_≡_, refl}

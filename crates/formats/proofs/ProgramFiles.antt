@@ -18,7 +18,7 @@ use Rattle.formats.proofs.Programs.{parts-stand}
 use Rattle.formats.proofs.Rows.{parses, flattens, nodes-stand, sums-fit, flat-lawful-bytes, lawful-length, some-node}
 use Rattle.formats.proofs.Files.{blocks-some, blocks-few, fewest, length-file, file-bytes, blocks-again, blocks-back, flat-in-bytes}
 
--- what a file holds that is read as flat records
+-- what is known of a file that is read as the flat records r
 record Held (s r : List ℕ) : Type 0 where
   flat-in : flatIn s ≡ done r
   program : Program
@@ -118,7 +118,7 @@ measured r s program bs e h =
       few-blocks = rw n (blocks-few (records program) (few-records program l));
     }
 
--- Program files (01, Program file).
+-- The theorems of specs/ProgramFiles.antt.
 pub program-files : ProgramFiles
 program-files = record {
   again = again;

@@ -16,7 +16,7 @@ use Rattle.formats.proofs.Records.{ranged-kind}
 
 -- ---- where the parts stand
 
--- the position goes by its number
+-- a record number may be exchanged for an equal one
 stands-position : {s : List ℕ} {ks : List Kind} {k j : ℕ} → k ≡ j → Stands s k ks → Stands s j ks
 stands-position {s} {ks} e h = subst (λ (i : ℕ). Stands s i ks) e h
 

@@ -1,7 +1,7 @@
 -- The tree reader's answers mean what specs/Reader.antt states. What is read stands there and what
--- stands there is read (proofs/Tokens.antt). A refusal inside a part is the refusal of the whole,
--- so the walk from a position that is due to the first fault, and back from a fault to the whole
--- buffer, goes by recursion on the room and on the way to the position.
+-- stands there is read (proofs/Tokens.antt). A refusal inside a part is the refusal of the whole.
+-- So the way from an offset where a tag is due to the first fault goes by recursion on the room,
+-- and the way back from a fault to the whole buffer by recursion on how the offset was reached.
 use Prim.Native.Nat.{ℕ, zero, suc, _+_, _-_, _≤_, _<_, zero-le}
 use mathlib.Core.Bool.{Bool, true, false}
 use mathlib.Core.List.{List, [], _∷_, _++_, append-nil, append-assoc}
@@ -39,9 +39,9 @@ none : (s : List ℕ) (number p : ℕ) → firstTree s ≡ refusal number p → 
 unfolding firstTree
 none s number p e t fits shallow o = done-not (reads-at t mostDepth s 0 fits shallow (opens-lies o)) e
 
--- ---- from a position that is due to the first fault
+-- ---- from an offset where a tag is due to the first fault
 
--- a position that is due lies within the buffer or at its end, under at most 1,024 nodes
+-- an offset where a tag is due lies within the buffer or at its end, under at most 1,024 nodes
 due-within : {s : List ℕ} {p above : ℕ} → Due s p above → p ≤ length s
 due-within first = zero-le
 due-within (left d room (one-more there is more)) = there
@@ -139,7 +139,7 @@ back (under-too-many d (one-more there is more)) = whole-refused d 0 refl (read-
 
 -- ---- what each number means
 
--- a tree, a part of which stands where a tag is due: the bytes before that position are its opening
+-- a tree, a part of which stands where a tag is due: the bytes before that offset are its opening
 -- bytes
 record Filled (s : List ℕ) (p : ℕ) (u : Tree) : Type 0 where
   whole : Tree
@@ -147,7 +147,7 @@ record Filled (s : List ℕ) (p : ℕ) (u : Tree) : Type 0 where
   rest : List ℕ
   joined : tokens whole ≡ take p s ++ (tokens u ++ rest)
 
--- any tree may stand where a tag is due. Right trees that are missing are leaves
+-- any tree may stand where a tag is due; right trees that are missing are filled in as leaves
 filled : {s : List ℕ} {p above : ℕ} → Due s p above → (u : Tree) → Labelled u → Filled s p u
 unfolding tokens
 filled first u fits = record { whole = u; labelled = fits; rest = []; joined = sym (append-nil (tokens u)) }
@@ -185,7 +185,7 @@ due-part first t fits h = record { part = t; labelled = fits; lies = h }
 due-part (left d room (one-more there is more)) t fits h = let u = due-part d t fits h in left-part (u .part) (u .labelled) (u .lies) is
 due-part (right l d fl shallow m) t fits h = let u = due-part d t fits h in right-part (u .part) l (u .labelled) fl (u .lies) m
 
--- a position that is due in the first n bytes is due in each buffer that opens with these
+-- where a tag is due in the first n bytes, it is due in each buffer that opens with these
 due-shared : {s : List ℕ} {p above : ℕ} (n : ℕ) (u : List ℕ) → Opens (take n s) u → Due s p above → p ≤ n → Due u p above
 due-shared n u o first h = first
 due-shared n u o (left d room tag) h = left (due-shared n u o d (omega arith)) room (lies-shared n u o tag (omega arith))
@@ -197,7 +197,7 @@ unfolding tokens
 tag-first (leaf x) (one-more there is more) nl nn = nl is
 tag-first (node l r) (one-more there is more) nl nn = nn is
 
--- the bytes before a position that is due fit some tree
+-- the bytes before an offset where a tag is due fit some tree
 fits-before : {s : List ℕ} {p above : ℕ} → Due s p above → Fits (take p s)
 fits-before d =
     let f = filled d (leaf 0) (lit< tt) in

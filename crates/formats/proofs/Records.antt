@@ -45,7 +45,7 @@ none-past [] n h = refl
 none-past (x ∷ xs) zero h = absurd (omega arith)
 none-past (x ∷ xs) (suc n) h = none-past xs n (le-of-suc-le-suc h)
 
--- one number after the other is left out
+-- a number from m up that is not m is from m + 1 up
 pub but : (m n : ℕ) → m ≤ n → n ≢ m → suc m ≤ n
 but m n h e = omega arith
 
@@ -56,7 +56,7 @@ pub length-record : (r : Record) → length (bytesOfRecord r) ≡ recordBytes
 unfolding bytesOfRecord
 length-record (fields x a b i) = simp (length-append, length-bytesOf)
 
--- flat records take so many for each
+-- flat records take eight bytes for each record
 pub length-flat : (rs : List Record) → length (flat rs) ≡ recordBytes * length rs
 unfolding flat
 length-flat [] = refl
@@ -89,7 +89,7 @@ at-first (fields x a b i) s h =
     rw append-assoc (numberAt-there 4 i (x ∷ a ∷ bytesOf 2 b) s 4 (ap (λ (n : ℕ). suc (suc n)) (length-bytesOf 2 b)) (h .3)) in
     ap₂ (fields x a) second third
 
--- a record in front moves the number
+-- a record in front raises the numbers by one
 at-after : (r : Record) (s : List ℕ) (k : ℕ) → recordAt (bytesOfRecord r ++ s) (suc k) ≡ recordAt s k
 unfolding recordAt
 at-after r s k =
@@ -98,14 +98,14 @@ at-after r s k =
     ap (λ (p : ℕ). fields (getD t p 0) (getD t (p + 1) 0) (numberAt 2 t (p + 2)) (numberAt 4 t (p + 4))) position
     ∙ simp (add-assoc, getD-append-add, numberAt-after)
 
--- a record of flat records is read at its number
+-- a record of flat records is read by its number
 pub at-flat : (rs : List Record) (k : ℕ) (r : Record) → Every Ranged rs → nth rs k ≡ some r → recordAt (flat rs) k ≡ r
 unfolding flat nth
 at-flat [] k r h e = cc
 at-flat (q ∷ rs) zero r h e = at-first q (flat rs) (h .0) ∙ cc
 at-flat (q ∷ rs) (suc k) r h e = at-after q (flat rs) k ∙ at-flat rs k r (h .1) e
 
--- so many records of a byte string, the first of them number k
+-- n records of a byte string, the first of them record k
 unfoldable pub recordsFrom : ℕ → List ℕ → ℕ → List Record
 recordsFrom zero s k = []
 recordsFrom (suc n) s k = recordAt s k ∷ recordsFrom n s (suc k)
@@ -125,7 +125,7 @@ bytes-at s k bs h =
     rw (bytesOf-numberAt 2 s (recordBytes * k + 2) bs (omega arith), bytesOf-numberAt 4 s (recordBytes * k + 4) bs (omega arith), eight-bytes s (recordBytes * k) h)
     (simp towards-suc)
 
--- the records of a byte string from number k on are flat what stands from there on
+-- the records of a byte string from record k on are, as bytes, what stands from there on
 flat-from : (n : ℕ) (s : List ℕ) (k : ℕ) → Bytes s → length s ≡ recordBytes * (k + n) → flat (recordsFrom n s k) ≡ drop (recordBytes * k) s
 unfolding flat recordsFrom
 flat-from zero s k bs e = sym (drop-of-length-le s {i = recordBytes * k} (omega arith))
@@ -134,7 +134,7 @@ flat-from (suc n) s k bs e =
     ap₂ _++_ (bytes-at s k bs (omega arith)) (flat-from n s (suc k) bs (omega arith) ∙ ap (λ (p : ℕ). drop p s) next ∙ sym (drop-drop recordBytes (recordBytes * k) s))
     ∙ take-append-drop recordBytes (drop (recordBytes * k) s)
 
--- so all records of a byte string are flat the byte string
+-- so all records of a byte string are, as bytes, the byte string
 pub flat-records : (n : ℕ) (s : List ℕ) → Bytes s → length s ≡ recordBytes * n → flat (recordsFrom n s 0) ≡ s
 flat-records n s bs e = flat-from n s 0 bs (omega arith)
 

@@ -79,7 +79,7 @@ pub check-said : {A : Type 0} (test : Bool) (number position : ℕ) (x : A) → 
 check-said true number position x = refl
 check-said false number position x = refl
 
--- what a test that is reported says, where it holds and where it does not
+-- the result of a test: passed where it holds, refused where it does not
 pub test-holds : (test : Bool) (number position : ℕ) (r : Result (Unit {0})) → check test number position tt ≡ r → test ≡ true → done tt ≡ r
 test-holds test number position r reported h = ap (λ t. check t number position tt) (sym h) ∙ reported
 
@@ -137,7 +137,7 @@ module _ {A : Type 0} (f : ℕ → Result A) where
       let i = each-inv n k xs e in
       ap length (i .both) ∙ ap suc (each-length n (suc k) (i .tail) (i .later))
 
-  -- each reading's value stands at its position
+  -- the value of reading m is element m
   pub record Found (m k : ℕ) (xs : List A) : Type 0 where
     pub value : A
     pub there : nth xs m ≡ some value
@@ -154,7 +154,7 @@ module _ {A : Type 0} (f : ℕ → Result A) where
       let d = each-nth n (suc k) m (i .tail) (i .later) (le-of-suc-le-suc h) in
       record { value = d .value; there = ap (λ l. nth l (suc m)) (i .both) ∙ d .there; given = ap f (add-suc k m ∙ sym (suc-add k m)) ∙ d .given }
 
-  -- some of the readings give their share of the values
+  -- the first c readings give the first c values, and c readings in a row give c values in a row
   pub each-front : (n c k : ℕ) (xs : List A) → each f n k ≡ done xs → c ≤ n → each f c k ≡ done (take c xs)
   unfolding each
   each-front n zero k xs e h = refl
@@ -195,13 +195,13 @@ module _ {A : Type 0} (f : ℕ → Result A) where
       (λ x h. done-not (ap verdict h) e)
       (λ c q h. ap verdict (then-refused _ h) ∙ sym (ap verdict h) ∙ e)
 
--- so many of the readings less, from further on, give the rest of the values
+-- without the first m readings, the others give the rest of the values
 pub each-after : {A : Type 0} (f : ℕ → Result A) (n m k : ℕ) (xs : List A) → each f n k ≡ done xs → m ≤ n → each f (n - m) (k + m) ≡ done (drop m xs)
 each-after f n m k xs e h =
     let long : length (drop m xs) ≡ n - m = length-drop m xs ∙ ap (λ l. l - m) (each-length f n k xs e) in
     each-part f n m (n - m) k xs e (omega arith) ∙ ap done (take-all (n - m) (drop m xs) (omega arith))
 
--- those below k have passed: the checks from k up to the end say what all of them do
+-- the checks below k have passed, so those from k up to the end say what all of them do
 pub record Passing {A : Type 0} (f : ℕ → Result A) (all : Result (Unit {0})) (end k : ℕ) : Type 0 where
   pub left : all ≡ verdict (each f (end - k) k)
 

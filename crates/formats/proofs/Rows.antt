@@ -29,12 +29,12 @@ use Rattle.formats.proofs.Prefix.{recordsOfAll, exprs-prefix, exprs-inv
 
 -- ---- records that are held one after the other
 
--- flat records s hold these records, the first of them with number k
+-- the flat records s hold these records, the first of them record k
 data Holds (s : List ℕ) : ℕ → List Record → Type 0 where
   no-more : {k : ℕ} → Holds s k []
   and-more : {k : ℕ} {r : Record} {rs : List Record} → recordAt s k ≡ r → Holds s (suc k) rs → Holds s k (r ∷ rs)
 
--- the position goes by its number
+-- a record number may be exchanged for an equal one
 holds-position : {s : List ℕ} {rs : List Record} {k j : ℕ} → k ≡ j → Holds s k rs → Holds s j rs
 holds-position {s} {rs} e h = subst (λ (i : ℕ). Holds s i rs) e h
 
@@ -52,7 +52,7 @@ holds-right : {s : List ℕ} {k : ℕ} (us vs : List Record) → Holds s k (us +
 holds-right [] vs h = holds-position (sym (add-zero _)) h
 holds-right (u ∷ us) vs (and-more is more) = holds-position (suc-add _ _ ∙ sym (add-suc _ _)) (holds-right us vs more)
 
--- records are held where each is read at its number
+-- records are held where each is read by its number
 holds-nth : (s : List ℕ) (k : ℕ) (rs : List Record) → ((m : ℕ) (r : Record) → nth rs m ≡ some r → recordAt s (k + m) ≡ r) → Holds s k rs
 unfolding nth
 holds-nth s k [] h = no-more
@@ -81,7 +81,7 @@ holds-stands s k (kind ∷ ks) (and-more is more) = one-more is (holds-stands s 
 
 -- ---- several readings
 
--- a property of values and their numbers, the first of them k
+-- a property of values with their numbers, the first of them k
 abbrev Numbered : {A : Type 0} → (ℕ → A → Type 0) → ℕ → List A → Type 0
 Numbered P k [] = Unit {0}
 Numbered P k (x ∷ xs) = P k x × Numbered P (suc k) xs
@@ -166,7 +166,7 @@ sorted-inv j a n i sort g e =
       some-node = leb-true 1 n (u .0);
     })
 
--- a function record that was read is known ..
+-- a function record that was read is known
 pub function-inv : (edition j : ℕ) (r : Record) (g : Signature) → functionFrom edition j r ≡ done g → FunctionRead j r g
 unfolding functionFrom sorts nth sortNumber
 function-inv edition j (fields zero a n i) g e = sorted-inv j a n i numberValued g e
@@ -188,13 +188,13 @@ counts-fit edition s (suc n) j gs bs e =
 pub sums-fit : (edition : ℕ) (s : List ℕ) (n : ℕ) (gs : List Signature) → Bytes s → each (functionAt edition s) n 0 ≡ done gs → total gs ≤ 65535 * n
 sums-fit edition s n gs bs e = counts-fit edition s n 0 gs bs e
 
--- the number of a sort reports the sort
+-- a sort is found by its number
 sort-of-own : (edition : ℕ) (sort : Sort) → nth (sorts edition) (sortNumber sort) ≡ some sort
 unfolding sorts nth sortNumber
 sort-of-own edition numberValued = refl
 sort-of-own edition treeValued = refl
 
--- .. and one that is known is read
+-- a function record that is known is read
 function-done : (edition j : ℕ) (r : Record) (g : Signature) → FunctionRead j r g → functionFrom edition j r ≡ done g
 unfolding functionFrom signatureRecord
 function-done edition j r g k =
@@ -443,7 +443,7 @@ module _ (s : List ℕ) (program : Program) (known : RowsRead s program) where
 
 -- ---- lawful programs
 
--- the bodies of lawful functions are applied rightly
+-- in the bodies of lawful functions each Call has its arguments
 bodies-applied : (gs : List Signature) (j : ℕ) (fs : List Function) → LawfulFunctions gs j fs → Every (AppliedBody (arityOf gs)) fs
 bodies-applied gs j [] h = tt
 bodies-applied gs j (f ∷ fs) h = (h .0 .applied, bodies-applied gs (suc j) fs (h .1))

@@ -1,7 +1,7 @@
--- Laws of trees, tokens and the reading of a tree. A reading is reported by its tag: `look` says
--- what is known where each tag was found, and a law for each tag says what the reading then is.
--- With these, a tree that stands at a position is read there (`reads-at`), and a tree that is read
--- stands there (`stands`), each by recursion on the room.
+-- Laws of trees, tokens and the reading of a tree. What is read at an offset depends on the tag
+-- there: `look` says what is known where each tag was found, and a law for each tag says what is
+-- then read. With these, a tree that stands at an offset is read there (`reads-at`), and a tree
+-- that is read stands there (`stands`), each by recursion on the room.
 use Prim.Native.Nat.{ℕ, zero, suc, _+_, _*_, _-_, _≤_, _<_, max, _^_}
 use mathlib.Core.Bool.{Bool, true, false}
 use mathlib.Core.List.{List, [], _∷_, _++_, append-assoc}
@@ -72,7 +72,7 @@ tag-is {s} {p} (at-node there is) =
     simp (tagAt, tagOf, lt-ltb _ _ there, ne-eqb _ _ nl, eq-eqb _ _ is)
 tag-is (at-other there nl nn) = simp (tagAt, tagOf, lt-ltb _ _ there, ne-eqb _ _ nl, ne-eqb _ _ nn)
 
--- what the reading is, by the tag
+-- what is read, by the tag
 pub read-ended : (room : ℕ) {s : List ℕ} {p : ℕ} → Look s p noByte → treeAt room s p ≡ refusal inputEnded p
 unfolding treeAt treeByTag
 read-ended zero k = simp (treeAt, treeByTag, tag-is k)
@@ -105,7 +105,7 @@ pub label-cut : (s : List ℕ) (p : ℕ) → length s < p + labelBytes → label
 unfolding labelAt
 label-cut s p h = simp (labelAt, lt-leb _ _ h)
 
--- a node's reading, by those of its parts
+-- what is read at a node, by what is read of its parts
 module _ (room : ℕ) {s : List ℕ} {p : ℕ} (k : Look s p aNode) where
   pub left-refused : {n q : ℕ} → treeAt room s (suc p) ≡ refusal n q → treeAt (suc room) s p ≡ refusal n q
   unfolding branchesAt
@@ -119,14 +119,14 @@ module _ (room : ℕ) {s : List ℕ} {p : ℕ} (k : Look s p aNode) where
   unfolding branchesAt
   read-node e f = rw (read-parts room k) (simp (branchesAt, e, f))
 
--- a label that stands at a position is read there
+-- a label that stands at an offset is read there
 label-read : (s : List ℕ) (p x : ℕ) → x < 2 ^ 32 → p ≤ length s → Lies s p (bytesOf labelBytes x) → labelAt s p ≡ done (leaf x)
 label-read s p x fits h label =
     let whole : p + labelBytes ≤ length s = rw length-bytesOf at (lies-within label h) in
     let is : take labelBytes (drop p s) ≡ bytesOf labelBytes x = rw length-bytesOf at (lies-part label) in
     label-whole s p whole ∙ ap (λ (n : ℕ). done (leaf n)) (numberAt-whole labelBytes s p whole ∙ ap numberOf is ∙ number-bytesOf labelBytes x fits)
 
--- a tree that stands at a position, with room for its depth, is read there
+-- a tree that stands at an offset, with room for its depth, is read there
 pub reads-at : (t : Tree) (room : ℕ) (s : List ℕ) (p : ℕ) → Labelled t → depth t ≤ room → Lies s p (tokens t) → treeAt room s p ≡ done t
 unfolding depth tokens
 reads-at (leaf x) room s p fits h (one-more there is more) =
@@ -137,7 +137,7 @@ reads-at (node l r) (suc room) s p fits h (one-more there is more) =
     (reads-at l room s (suc p) (fits .0) (omega arith) (lies-left (tokens l) (tokens r) more))
     (reads-at r room s (suc p + length (tokens l)) (fits .1) (omega arith) (lies-right (tokens l) (tokens r) more))
 
--- what is known of a tree that was read at a position with so much room
+-- what is known of a tree that was read at an offset with so much room
 pub record Stands (room : ℕ) (s : List ℕ) (p : ℕ) (t : Tree) : Type 0 where
   pub lies : Lies s p (tokens t)
   pub labelled : Labelled t
@@ -194,7 +194,7 @@ pub stands : (room : ℕ) (s : List ℕ) (p : ℕ) (t : Tree) → Bytes s → tr
 stands zero s p t bs e = by-tag zero s p t bs (λ k. done-not e (read-deep k)) (look s p) e
 stands (suc room) s p t bs e = by-tag (suc room) s p t bs (λ k. node-stands room s p t (λ q u f. stands room s q u bs f) k e) (look s p) e
 
--- tokens are prefix-free: two trees that stand at one place are the same
+-- tokens are prefix-free: two trees that stand at one offset are the same
 pub one-tree : (t u : Tree) (s : List ℕ) (p : ℕ) → Labelled t → Labelled u → Lies s p (tokens t) → Lies s p (tokens u) → t ≡ u
 one-tree t u s p lt lu ht hu =
     let room : ℕ = max (depth t) (depth u) in

@@ -28,7 +28,7 @@ wordSum-first [] h = absurd (omega arith)
 wordSum-first (low ∷ []) h = absurd (omega arith)
 wordSum-first (low ∷ (high ∷ s)) h = refl
 
--- the words from a position on are the word there and those after it
+-- the words from an offset on are the word there and those after it
 pub wordSum-step : (s : List ℕ) (k : ℕ) → 2 * k + 2 ≤ length s → wordSum (drop (2 * k) s) ≡ numberAt 2 s (2 * k) + wordSum (drop (2 * k + 2) s)
 wordSum-step s k h =
     wordSum-first (drop (2 * k) s) (omega (arith, length-drop (2 * k) s))

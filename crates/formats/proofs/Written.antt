@@ -1,5 +1,5 @@
--- Laws of a write into a lent buffer. Where vs fits, the buffer is a front, what stood before the
--- position and vs, and after it what stood after vs. So the length is kept, and each byte is read
+-- Laws of a write into a lent buffer. Where vs fits, the buffer is a front (what stood before the
+-- offset, then vs) and a rest, which is as it was. So the length is kept, and each byte is read
 -- from the part that holds it. Two writes, one right after the other, only make the front longer:
 -- so a write is made of its bytes, set one after the other.
 use Prim.Native.Nat.{ℕ, suc, _+_, _-_, _≤_, _<_}
@@ -17,7 +17,7 @@ use Rattle.formats.specs.Numbers.{bytesOf}
 use Rattle.formats.specs.Written.{written, Wrote}
 use Rattle.formats.proofs.Numbers.{length-bytesOf}
 
--- what is left where vs fits ..
+-- the buffer where vs fits ..
 pub written-fits : (s : List ℕ) (p : ℕ) (vs : List ℕ) → p + length vs ≤ length s → written s p vs ≡ take p s ++ (vs ++ drop (p + length vs) s)
 unfolding written
 written-fits s p vs fits = simp (written, le-leb _ _ fits)
@@ -32,7 +32,7 @@ module _ (s : List ℕ) (p : ℕ) (vs : List ℕ) (fits : p + length vs ≤ leng
   as-front : written s p vs ≡ (take p s ++ vs) ++ drop (p + length vs) s
   as-front = rw append-assoc (written-fits s p vs fits)
 
-  -- before the position stand as many bytes as it says
+  -- p bytes stand before offset p
   length-before : length (take p s) ≡ p
   length-before = length-take-le p s (omega arith)
 
@@ -40,7 +40,7 @@ module _ (s : List ℕ) (p : ℕ) (vs : List ℕ) (fits : p + length vs ≤ leng
   length-front : length (take p s ++ vs) ≡ p + length vs
   length-front = simp (length-append, length-before)
 
-  -- so it is what a part of that length shows, and after it all is as it was
+  -- so the first bytes are the front, and after it all is as it was
   pub front-written : take (p + length vs) (written s p vs) ≡ take p s ++ vs
   front-written = ap (take (p + length vs)) as-front ∙ take-at (take p s ++ vs) (drop (p + length vs) s) (p + length vs) length-front
 
@@ -55,11 +55,11 @@ module _ (s : List ℕ) (p : ℕ) (vs : List ℕ) (fits : p + length vs ≤ leng
   in-front : (i : ℕ) → i < p + length vs → getD (written s p vs) i 0 ≡ getD (take p s ++ vs) i 0
   in-front i h = rw as-front (List·getD-append (take p s ++ vs) (drop (p + length vs) s) 0 i (rw length-front h))
 
-  -- vs stands after what was before the position
+  -- vs stands at the offset
   there-fits : (i : ℕ) → i < length vs → getD (written s p vs) (p + i) 0 ≡ getD vs i 0
   there-fits i h = in-front (p + i) (omega arith) ∙ (rw length-before at (getD-append-add (take p s) vs i 0))
 
-  -- what was before the position is as it was
+  -- what was before the offset is as it was
   before-fits : (i : ℕ) → i < p → getD (written s p vs) i 0 ≡ getD s i 0
   before-fits i h = in-front i (omega arith) ∙ List·getD-append (take p s) vs 0 i (rw length-before h) ∙ getD-take p s i 0 h
 
@@ -145,6 +145,6 @@ written-sets s p (v ∷ vs) fits =
 pub number-written : (width : ℕ) (s : List ℕ) (p n : ℕ) → p + width ≤ length s → sets s p (bytesOf width n) ≡ written s p (bytesOf width n)
 number-written width s p n fits = written-sets s p (bytesOf width n) (rw length-bytesOf fits)
 
--- a buffer in which a number does not fit is as if it had been written
+-- where a number does not fit, the buffer is left as it is
 pub number-short : (width : ℕ) (s : List ℕ) (p n : ℕ) → length s < p + width → s ≡ written s p (bytesOf width n)
 number-short width s p n short = sym (written-short s p (bytesOf width n) (rw length-bytesOf short))

@@ -5,11 +5,11 @@ use mathlib.Core.List.{List, [], _∷_, _++_}
 use lib.Dec.{ltb}
 use Rattle.formats.specs.Characters.{digitZero}
 
--- The decimal digits of n, the last so many at most.
+-- The last decimal digits of n, at most as many as the first argument says.
 unfoldable pub digits : ℕ → ℕ → List ℕ
 digits zero n = []
 digits (suc most) n = elim (ltb n 10) [ true ↦ (digitZero + n) ∷ [] | false ↦ digits most (n / 10) ++ ((digitZero + n % 10) ∷ []) ]
 
--- All of them: n has no more than n + 1 digits.
+-- All decimal digits of n: there are at most n + 1.
 unfoldable pub decimal : ℕ → List ℕ
 decimal n = digits (suc n) n

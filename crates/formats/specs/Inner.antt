@@ -1,5 +1,5 @@
--- What the functions of this crate promise each other and their callers in Rattle. Nobody need
--- believe it.
+-- What functions of other crates promise each other and their callers in Rattle, and what their
+-- proofs share. No promise to users rests on it: nobody need believe it.
 pub mod CodeColumn
 pub mod Fields
 pub mod Trees

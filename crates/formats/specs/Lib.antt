@@ -1,4 +1,5 @@
--- The formats of 01, Tokens and of 01, Program file.
+-- The formats of 01, Tokens and of 01, Program file: numbers, trees, records, programs, refusals. A
+-- citation "01, HEADING" names a heading of docs/REFERENCE.md.
 pub mod Numbers
 pub mod Buffers
 pub mod Written

@@ -10,12 +10,12 @@ use Rattle.formats.specs.Programs.{Expr, prefix, Placed, partsAt, Every,
 use Rattle.formats.specs.Rows.{functionAt, readProgram}
 use Rattle.formats.specs.Blocks.{blockBytes, blockRecords, mostBlocks, programIn, readFile, writeFile}
 
--- Flat records r are the program's own, and it is within the limits.
+-- r are the flat records of the program, and the program is within the limits.
 pub record Flattened (r : List ℕ) (program : Program) : Type 0 where
   pub own : flatOf program ≡ r
   pub lawful : Lawful program
 
--- The records of these kinds stand in flat records s, the first of them with number k.
+-- Records of these kinds stand in the flat records s, the first of them record k.
 pub data Stands (s : List ℕ) : ℕ → List Kind → Type 0 where
   nothing : {k : ℕ} → Stands s k []
   one-more : {k : ℕ} {kind : Kind} {rest : List Kind} → recordAt s k ≡ fieldsOf kind → Stands s (suc k) rest → Stands s k (kind ∷ rest)
@@ -24,19 +24,20 @@ pub data Stands (s : List ℕ) : ℕ → List Kind → Type 0 where
 abbrev pub StandsPlaced : List ℕ → Placed → Type 0
 StandsPlaced s part = Stands s (part .at-record) (prefix (part .expr))
 
--- The one file of a program.
+-- A program has one file: this one holds it, and no other does.
 pub record OneFile (program : Program) : Type 0 where
   pub file : List ℕ
   pub bytes : Bytes file
   pub holds : programIn file ≡ done program
   pub only : (s : List ℕ) → Bytes s → programIn s ≡ done program → s ≡ file
 
--- So many blocks are the fewest that hold so many records.
+-- `blocks` blocks hold `records` records, and fewer blocks do not.
 pub record Fewest (blocks records : ℕ) : Type 0 where
   pub enough : records ≤ blockRecords * blocks
   pub no-fewer : (m : ℕ) → records ≤ blockRecords * m → blocks ≤ m
 
--- The file s of the program with flat records r, in numbers.
+-- How many functions, nodes, records and blocks a program has whose flat records are r and whose
+-- file is s.
 pub record Measured (s r : List ℕ) (program : Program) : Type 0 where
   pub some-function : 1 ≤ length (program .functions)
   pub few-functions : length (program .functions) ≤ mostFunctions
@@ -51,7 +52,8 @@ pub record Measured (s r : List ℕ) (program : Program) : Type 0 where
   pub some-block : 1 ≤ blocks
   pub few-blocks : blocks ≤ mostBlocks
 
--- Program files (01, Program file), and the archive's "one file for one program".
+-- The theorems about program files (01, Program file). They keep the promise to the archive, "one
+-- file for one program".
 pub record ProgramFiles : Type 0 where
   -- What the reader accepts, written again from its records, is the same file, byte for byte.
   pub again : (s r : List ℕ) → Bytes s → readFile s ≡ done r → writeFile r ≡ done s
@@ -71,8 +73,8 @@ pub record ProgramFiles : Type 0 where
   pub nodes-stand : (r : List ℕ) (program : Program) → Bytes r → readProgram r ≡ done program
       → Stands r (suc (length (program .functions))) (nodes (program .functions))
   pub parts-stand : (r : List ℕ) (k : ℕ) (e : Expr) → Stands r k (prefix e) → Every (StandsPlaced r) (partsAt k e)
-  -- The sum of so many node counts, right or wrong, stays below 2^16 times their number: it is
-  -- exact in 32 bits, and never wraps.
+  -- The sum of n node counts is at most 65,535 n, whether it is the right one or not. So for as
+  -- many functions as a header can count it fits 32 bits, and never wraps.
   pub sums-fit : (edition : ℕ) (s : List ℕ) (n : ℕ) (gs : List Signature) → Bytes s → each (functionAt edition s) n 0 ≡ done gs → total gs ≤ 65535 * n
-  -- The limits, and the fewest blocks that hold the records.
+  -- The counts are within the limits, and the file has the fewest blocks that hold the records.
   pub measured : (r s : List ℕ) (program : Program) → Bytes r → readProgram r ≡ done program → writeFile r ≡ done s → Measured s r program

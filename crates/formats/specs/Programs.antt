@@ -44,12 +44,12 @@ unfoldable mutual
 unfoldable pub size : Expr → ℕ
 size e = length (prefix e)
 
--- An expression with the number of its own record, its first.
+-- An expression and the number of its own record, which is the first of its records.
 pub record Placed : Type 0 where
   pub at-record : ℕ
   pub expr : Expr
 
--- An expression after so many records.
+-- Expression e, whose own record is record r.
 abbrev pub placedAt : ℕ → Expr → Placed
 placedAt r e = record { at-record = r; expr = e }
 
@@ -71,13 +71,12 @@ partsAt r (nodeOf p q) = placedAt (suc r) p ∷ placedAt (suc r + size p) q ∷ 
 partsAt r (caseOf a p q) = placedAt (suc r) p ∷ placedAt (suc r + size p) q ∷ []
 partsAt r (call a b xs) = argsAt (suc r) xs
 
--- How many arguments there are.
 unfoldable pub countArgs : Args → ℕ
 countArgs noArgs = 0
 countArgs (arg x xs) = suc (countArgs xs)
 
 -- 01, Nine kinds of record: "Call .. its number arguments": each Call has as many as its function
--- has number parameters.
+-- has number parameters. `arity` says how many these are.
 abbrev mutual
   pub Applied : (ℕ → ℕ) → Expr → Type 0
   Applied arity (const i) = Unit {0}
@@ -110,6 +109,7 @@ pub record Signature : Type 0 where
   pub parameters : ℕ
   pub count : ℕ
 
+-- The function record that a signature makes.
 unfoldable pub signatureRecord : Signature → Record
 signatureRecord g = fields (sortNumber (g .sort)) (g .parameters) (g .count) 0
 
@@ -122,14 +122,17 @@ unfoldable pub total : List Signature → ℕ
 total [] = 0
 total (g ∷ gs) = g .count + total gs
 
+-- A function: its sort, its number parameters and its body. It takes one tree besides.
 pub record Function : Type 0 where
   pub sort : Sort
   pub parameters : ℕ
   pub body : Expr
 
+-- The signature of a function: its node count is the number of records of its body.
 unfoldable pub signatureOf : Function → Signature
 signatureOf f = record { sort = f .sort; parameters = f .parameters; count = size (f .body) }
 
+-- A program: its edition and its functions. It starts in function 0.
 pub record Program : Type 0 where
   pub edition : ℕ
   pub functions : List Function
@@ -161,12 +164,13 @@ unfoldable pub recordsOf : Program → List Record
 recordsOf program =
     headerRecord (headerOf program) ∷ (map signatureRecord (signatures program) ++ map fieldsOf (nodes (program .functions)))
 
--- The same as bytes.
+-- These records as bytes.
 unfoldable pub flatOf : Program → List ℕ
 flatOf program = flat (recordsOf program)
 
 -- ---- the limits
 
+-- 01, Header: "byte 0 edition 1, byte 1 functions F (1 to 32), bytes 2–3 nodes N (1 to 1,024)".
 abbrev pub firstEdition : ℕ
 firstEdition = 1
 
@@ -181,7 +185,7 @@ unfoldable pub mostParameters : ℕ → ℕ
 mostParameters zero = 0
 mostParameters (suc j) = 4
 
--- The operands fit their fields, and b is below the number of functions.
+-- The operands fit their fields, and the function that a Call names is one of the functions.
 abbrev pub InRange : ℕ → Kind → Type 0
 InRange functions (Const i) = i < 2 ^ 32
 InRange functions (Var a) = a < 256
@@ -198,13 +202,13 @@ abbrev pub Every : {A : Type 0} → (A → Type 0) → List A → Type 0
 Every P [] = Unit {0}
 Every P (x ∷ xs) = P x × Every P xs
 
--- A function with its number j, among others with these signatures.
+-- Function j is within the limits, in a program whose functions have the signatures gs.
 pub record LawfulFunction (gs : List Signature) (j : ℕ) (f : Function) : Type 0 where
   pub few-parameters : f .parameters ≤ mostParameters j
   pub in-range : Every (InRange (length gs)) (prefix (f .body))
   pub applied : Applied (arityOf gs) (f .body)
 
--- Functions, numbered from j on.
+-- So are all these functions, the first of them function j.
 abbrev pub LawfulFunctions : List Signature → ℕ → List Function → Type 0
 LawfulFunctions gs j [] = Unit {0}
 LawfulFunctions gs j (f ∷ fs) = LawfulFunction gs j f × LawfulFunctions gs (suc j) fs

@@ -10,7 +10,7 @@ use Rattle.formats.specs.Refusals.{inputEnded, notATag, tooDeep}
 use Rattle.formats.specs.Tokens.{Tree, Labelled, tips, depth, leafTag, nodeTag, labelBytes, mostDepth, tokens, firstTree}
 use Rattle.formats.specs.Results.{done, refusal}
 
--- The reader gave t for the buffer s.
+-- What holds where the reader gave the tree t for the buffer s.
 pub record Gave (s : List ℕ) (t : Tree) : Type 0 where
   -- the bytes before its end are its tokens
   pub own-bytes : take (length (tokens t)) s ≡ tokens t
@@ -20,9 +20,9 @@ pub record Gave (s : List ℕ) (t : Tree) : Type 0 where
   -- no other tree's tokens begin the buffer
   pub only : (u : Tree) → Labelled u → Opens (tokens u) s → u ≡ t
 
--- The tag of a part of the first tree is due at offset p of s, under so many nodes: what stands
--- before p is in order, and p is the next place to look at. A left tree begins after its node's
--- tag, a right tree after the left one.
+-- The tag of a part of the first tree is due at offset p of s, under `above` nodes: all before p is
+-- in order, and the reader looks at p next. A left tree begins after its node's tag, a right tree
+-- after the left one.
 pub data Due (s : List ℕ) : ℕ → ℕ → Type 0 where
   first : Due s 0 0
   left : {p above : ℕ} → Due s p above → above < mostDepth → Lies s p (nodeTag ∷ []) → Due s (suc p) (suc above)
@@ -34,8 +34,8 @@ pub data Due (s : List ℕ) : ℕ → ℕ → Type 0 where
       → Lies s p (nodeTag ∷ tokens l)
       → Due s (suc p + length (tokens l)) (suc above)
 
--- The refusals of the row "tree reader", a rule for each condition: the number and the position,
--- where all before the position is in order.
+-- The refusals of the row "tree reader", each with its number and its position: a rule for each
+-- condition. All before the position is in order.
 pub data Refuses (s : List ℕ) : ℕ → ℕ → Type 0 where
   -- 15 at the start of a tag that is not there
   no-tag : {p above : ℕ} → Due s p above → p ≡ length s → Refuses s inputEnded p
@@ -52,18 +52,19 @@ pub record Fits (s : List ℕ) : Type 0 where
   pub labelled : Labelled whole
   pub opens : Opens s (tokens whole)
 
--- What 15 means: every byte given fits some tree's tokens, and more are missing.
+-- What refusal 15 means: the bytes given are opening bytes of some tree's tokens, and do not hold a
+-- whole tree.
 pub record Ended (s : List ℕ) : Type 0 where
   pub so-far : Fits s
   pub more : (t : Tree) → Labelled t → Opens (tokens t) s → ⊥
 
--- What 16 at p means: p is the first byte that fits no tree.
+-- What refusal 16 at position p means: the byte at p is the first that fits no tree.
 pub record FitsNone (s : List ℕ) (p : ℕ) : Type 0 where
   pub there : p < length s
   pub before : Fits (take p s)
   pub no-longer : Fits (take (suc p) s) → ⊥
 
--- What 20 at p means: a node tag stands there, under 1,024 others.
+-- What refusal 20 at position p means: a node tag stands there, under 1,024 others.
 pub record TooDeep (s : List ℕ) (p : ℕ) : Type 0 where
   pub tag : Lies s p (nodeTag ∷ [])
   pub under : Due s p mostDepth

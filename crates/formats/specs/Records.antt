@@ -30,7 +30,7 @@ unfoldable pub flat : List Record → List ℕ
 flat [] = []
 flat (r ∷ rs) = bytesOfRecord r ++ flat rs
 
--- Record number k of flat records. What is not there reads as 0.
+-- Record k of the flat records s. What is not there reads as 0.
 unfoldable pub recordAt : List ℕ → ℕ → Record
 recordAt s k =
     let p = recordBytes * k in
@@ -64,24 +64,26 @@ fieldsOf Node = fields 6 0 0 0
 fieldsOf (Case a) = fields 7 a 0 0
 fieldsOf (Call a b) = fields 8 a b 0
 
--- The kinds of an edition, by their number, with the operands that the fields give. (Later editions
--- may have more.)
+-- The kinds of an edition in the order of their numbers, with operands from the fields a, b and i.
+-- (There is edition 1 alone; a later one may have more kinds.)
 unfoldable pub kinds : ℕ → ℕ → ℕ → ℕ → List Kind
 kinds edition a b i = Const i ∷ Var a ∷ Add ∷ IfZero ∷ Let ∷ Leaf ∷ Node ∷ Case a ∷ Call a b ∷ []
 
--- The element at a position of a list, if there is one.
+-- Element k of a list, counted from 0, if there is one.
 unfoldable pub nth : {A : Type 0} → List A → ℕ → Option A
 nth [] k = none
 nth (x ∷ xs) zero = some x
 nth (x ∷ xs) (suc k) = nth xs k
 
+-- The kind whose number is byte 0 of the record, if there is one.
 unfoldable pub kindOf : ℕ → Record → Option Kind
 kindOf edition (fields x a b i) = nth (kinds edition a b i) x
 
+-- Whether two records have the same fields.
 unfoldable pub same : Record → Record → Bool
 same (fields x a b i) (fields y c d j) = eqb x y && (eqb a c && (eqb b d && eqb i j))
 
--- A Call's function is one of so many.
+-- Whether the function that a Call names is one of so many functions. Other kinds name none.
 unfoldable pub below : ℕ → Kind → Bool
 below functions (Call a b) = ltb b functions
 below functions (Const i) = true
@@ -94,8 +96,9 @@ below functions Node = true
 below functions (Case a) = true
 
 -- 01, Nine kinds of record: "A record read is its kind with its operands, or a refusal with its
--- place." A node record whose number is k. 01, The table of refusals: "6 kind above 8, unused field
--- not zero, b not below F". Unused fields are zero where the record is the one that its kind has.
+-- place." Record k, whose fields are r, read as a node. 01, The table of refusals: "6 kind above 8,
+-- unused field not zero, b not below F". Unused fields are zero exactly where r is the record that
+-- `fieldsOf` gives for the kind.
 unfoldable pub nodeRecord : ℕ → ℕ → ℕ → Record → Result Kind
 nodeRecord edition functions k r =
     elim (kindOf edition r) [
@@ -108,15 +111,16 @@ nodeRecord edition functions k r =
 -- the type expected of the whole." 01, Names: "Let's body and Case's leaf part add one number name,
 -- Case's node part two tree names, left first."
 pub data Part : Type 0 where
-  -- A number is expected. Before number part i stand i numbers, each on a word of its own.
+  -- A number is expected. The numbers of the parts before it, i of them before part i, stand on
+  -- words of their own.
   aNumber : Part
   -- A tree is expected.
   aTree : Part
   -- What is expected of the whole.
   asWhole : Part
-  -- The same, with one number name more.
+  -- What is expected of the whole, with one number name more.
   underNumber : Part
-  -- The same, with two tree names more.
+  -- What is expected of the whole, with two tree names more.
   underTrees : Part
 
 -- A kind's parts in order: these, or a function's number arguments.
@@ -124,6 +128,7 @@ pub data Parts : Type 0 where
   these : List Part → Parts
   argumentsOf : ℕ → Parts
 
+-- The parts of each kind.
 unfoldable pub partsOf : Kind → Parts
 partsOf (Const i) = these []
 partsOf (Var a) = these []
@@ -140,7 +145,7 @@ unfoldable pub nthPart : Parts → ℕ → Part
 nthPart (these ps) i = elim (nth ps i) [ none ↦ asWhole | some p ↦ p ]
 nthPart (argumentsOf b) i = aNumber
 
--- How many they are, where each function has so many number parameters.
+-- How many parts there are. `arity` says how many number parameters a function has.
 unfoldable pub partCount : (ℕ → ℕ) → Parts → ℕ
 partCount arity (these ps) = length ps
 partCount arity (argumentsOf b) = arity b

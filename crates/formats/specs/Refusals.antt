@@ -5,23 +5,23 @@ use Prim.Native.Nat.{ℕ}
 abbrev pub fileLength : ℕ
 fileLength = 1
 
--- a block's check
+-- a block's check does not hold
 abbrev pub blockCheck : ℕ
 blockCheck = 2
 
--- a block's other fields, or unused records
+-- another field of a block is wrong, or an unused record is not zero
 abbrev pub blockField : ℕ
 blockField = 3
 
--- a field of the header, or the record count
+-- a field of the header is wrong, or the record count
 abbrev pub headerField : ℕ
 headerField = 4
 
--- a field of a function record, or the sum of the counts
+-- a field of a function record is wrong, or the sum of the counts
 abbrev pub functionField : ℕ
 functionField = 5
 
--- a node's kind above 8, an unused field not zero, b not below F
+-- a node's kind is above 8, an unused field is not zero, or b is not below F
 abbrev pub nodeField : ℕ
 nodeField = 6
 
@@ -29,43 +29,43 @@ nodeField = 6
 abbrev pub prefixForm : ℕ
 prefixForm = 7
 
--- type
+-- a number where a tree is expected, or a tree where a number is
 abbrev pub wrongType : ℕ
 wrongType = 8
 
--- name not bound
+-- a name that is not bound
 abbrev pub notBound : ℕ
 notBound = 9
 
--- words
+-- one word more where 16 stand above the frame's base
 abbrev pub tooManyWords : ℕ
 tooManyWords = 10
 
--- not the head, lists unequal, trees left
+-- a tree that is not the head of the pending list, unequal lists, or trees left
 abbrev pub outOfOrder : ℕ
 outOfOrder = 11
 
--- Case with 16 pending
+-- a Case with 16 trees pending
 abbrev pub tooManyPending : ℕ
 tooManyPending = 12
 
--- code, file or work buffer too short
+-- a code, file or work buffer that is too short
 abbrev pub spaceTooShort : ℕ
 spaceTooShort = 13
 
--- fuel used up
+-- the fuel is used up
 abbrev pub fuelUsedUp : ℕ
 fuelUsedUp = 14
 
--- input ended
+-- the input ended
 abbrev pub inputEnded : ℕ
 inputEnded = 15
 
--- byte not 1 or 2
+-- a byte that is not 1 or 2 where a tag is due
 abbrev pub notATag : ℕ
 notATag = 16
 
--- output full, or shorter than the result
+-- the output is full, or shorter than the result
 abbrev pub outputFull : ℕ
 outputFull = 17
 
@@ -73,7 +73,7 @@ outputFull = 17
 abbrev pub tooManyCalls : ℕ
 tooManyCalls = 18
 
--- instruction that can't be performed
+-- an instruction that can't be performed
 abbrev pub cannotPerform : ℕ
 cannotPerform = 19
 

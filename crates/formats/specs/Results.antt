@@ -17,7 +17,7 @@ abbrev pub onValue : {A B : Type 0} → (A → B) → Result A → Result B
 onValue f (done x) = done (f x)
 onValue f (refusal number position) = refusal number position
 
--- What a check says, whatever the value.
+-- Whether a reading passed: its result without the value.
 abbrev pub verdict : {A : Type 0} → Result A → Result (Unit {0})
 verdict r = onValue (λ x. tt) r
 
@@ -26,7 +26,7 @@ abbrev pub check : {A : Type 0} → Bool → ℕ → ℕ → A → Result A
 check true number position x = done x
 check false number position x = refusal number position
 
--- One after the other, so many, the first of them k. The first refusal stops it.
+-- The values of f at k, k + 1 and so on, n of them, or the first refusal.
 unfoldable pub each : {A : Type 0} → (ℕ → Result A) → ℕ → ℕ → Result (List A)
 each f zero k = done []
 each f (suc n) k = andThen (f k) (λ x. andThen (each f n (suc k)) (λ xs. done (x ∷ xs)))

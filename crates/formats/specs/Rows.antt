@@ -13,8 +13,8 @@ use Rattle.formats.specs.Records.{Record, fields, recordBytes, recordAt,
 use Rattle.formats.specs.Programs.{Expr, const, var, add, ifZero, letIn, leafOf, nodeOf, caseOf, call, Args, noArgs, arg}
 use Rattle.formats.specs.Programs.{Sort, numberValued, treeValued, Signature, arityOf, total, Function, Program, Header, firstEdition, mostFunctions, mostNodes, mostParameters}
 
--- 01, The table of refusals: "4 a field, or the record count", at record 0. So many bytes of flat
--- records begin with these fields.
+-- The header, from the fields of record 0 and the number of bytes of all flat records. 01, The
+-- table of refusals: "4 a field, or the record count", at record 0.
 unfoldable pub headerFrom : ℕ → Record → Result Header
 headerFrom bytes (fields edition f n i) =
     check
@@ -24,14 +24,16 @@ headerFrom bytes (fields edition f n i) =
     0
     (record { edition = edition; functions = f; nodes = n })
 
+-- The row "header".
 unfoldable pub headerRow : List ℕ → Result Header
 headerRow s = headerFrom (length s) (recordAt s 0)
 
--- The sorts of an edition, by their number.
+-- The sorts of an edition in the order of their numbers.
 unfoldable pub sorts : ℕ → List Sort
 sorts edition = numberValued ∷ treeValued ∷ []
 
--- 01, The table of refusals: "5 a field", at the record, for function j.
+-- The signature of function j, from the fields of its record, record j + 1. 01, The table of
+-- refusals: "5 a field", at that record.
 unfoldable pub functionFrom : ℕ → ℕ → Record → Result Signature
 functionFrom edition j (fields x a n i) =
     elim (nth (sorts edition) x) [
@@ -40,35 +42,39 @@ functionFrom edition j (fields x a n i) =
           check (leb a (mostParameters j) && (leb 1 n && eqb i 0)) functionField (suc j) (record { sort = sort; parameters = a; count = n })
     ]
 
+-- The signature of function j in the flat records s.
 unfoldable pub functionAt : ℕ → List ℕ → ℕ → Result Signature
 functionAt edition s j = functionFrom edition j (recordAt s (suc j))
 
--- 01, The table of refusals: "a wrong sum of counts at the last one". It is looked at once all
--- fields are right.
+-- The row "functions": the fields of every record first, then the sum of the counts. 01, The table
+-- of refusals: "a wrong sum of counts at the last one".
 unfoldable pub functionRow : Header → List ℕ → Result (List Signature)
 functionRow h s =
     andThen (each (functionAt (h .edition) s) (h .functions) 0) (λ gs. check (eqb (total gs) (h .nodes)) functionField (h .functions) gs)
 
--- 01, The table of refusals: "6 ..", at the record.
+-- Record k as a node. 01, The table of refusals: "6 ..", at the record.
 unfoldable pub nodeAt : Header → List ℕ → ℕ → Result Kind
 nodeAt h s k = nodeRecord (h .edition) (h .functions) k (recordAt s k)
 
+-- The row "nodes".
 unfoldable pub nodeRow : Header → List ℕ → Result (List Kind)
 nodeRow h s = each (nodeAt h s) (h .nodes) (suc (h .functions))
 
 -- ---- prefix form
 
--- The next expression goes on to what follows; there may be none.
+-- Takes the first expression off the list and goes on with it and the rest; none where the list is
+-- empty.
 abbrev pub pop : List Expr → (Expr → List Expr → Option (List Expr)) → Option (List Expr)
 pop [] next = none
 pop (e ∷ es) next = next e es
 
--- So many expressions, as arguments, go on to what follows.
+-- Takes so many expressions off the list, as arguments, and goes on with them and the rest.
 unfoldable pub popArgs : ℕ → List Expr → (Args → List Expr → Option (List Expr)) → Option (List Expr)
 popArgs zero es next = next noArgs es
 popArgs (suc n) es next = pop es (λ x rest. popArgs n rest (λ xs after. next (arg x xs) after))
 
--- A record in front of expressions takes its parts from them, and is one expression with these.
+-- A record takes its parts off the expressions after it, and is one expression with them, in front
+-- of the rest; none where parts are missing.
 unfoldable pub build : (ℕ → ℕ) → Kind → List Expr → Option (List Expr)
 build arity (Const i) es = some (const i ∷ es)
 build arity (Var a) es = some (var a ∷ es)
@@ -80,22 +86,22 @@ build arity Node es = pop es (λ p es′. pop es′ (λ q rest. some (nodeOf p q
 build arity (Case a) es = pop es (λ p es′. pop es′ (λ q rest. some (caseOf a p q ∷ rest)))
 build arity (Call a b) es = popArgs (arity b) es (λ xs rest. some (call a b xs ∷ rest))
 
--- The expressions that records are, one after the other, found from the last record on; none where
--- parts are missing.
+-- The expressions that records make up, one after the other, found from the last record to the
+-- first; none where parts are missing.
 unfoldable pub exprsOf : (ℕ → ℕ) → List Kind → Option (List Expr)
 exprsOf arity [] = some []
 exprsOf arity (k ∷ ks) = elim (exprsOf arity ks) [ none ↦ none | some es ↦ build arity k es ]
 
--- 01, The table of refusals: "7 a function's records aren't exactly one expression", at "its first
--- node's record".
+-- The one expression, of a function whose first node is record r. 01, The table of refusals: "7 a
+-- function's records aren't exactly one expression", at "its first node's record".
 unfoldable pub exactlyOne : ℕ → Option (List Expr) → Result Expr
 exactlyOne r none = refusal prefixForm r
 exactlyOne r (some []) = refusal prefixForm r
 exactlyOne r (some (e ∷ [])) = done e
 exactlyOne r (some (e ∷ (d ∷ es))) = refusal prefixForm r
 
--- The bodies of functions with these signatures, whose nodes are these kinds from record r on: each
--- function's count of them.
+-- The functions with signatures gs whose nodes are ks, the first of them record r. Each function
+-- takes as many nodes as its count says.
 unfoldable pub bodies : (ℕ → ℕ) → List Signature → List Kind → ℕ → Result (List Function)
 bodies arity [] ks r = done []
 bodies arity (g ∷ gs) ks r =
@@ -105,6 +111,7 @@ bodies arity (g ∷ gs) ks r =
     (bodies arity gs (drop (g .count) ks) (r + g .count))
     (λ fs. done (record { sort = g .sort; parameters = g .parameters; body = e } ∷ fs)))
 
+-- The row "prefix form".
 unfoldable pub prefixRow : Header → List Signature → List Kind → Result (List Function)
 prefixRow h gs ks = bodies (arityOf gs) gs ks (suc (h .functions))
 

@@ -39,6 +39,7 @@ labelBytes = 4
 abbrev pub nodeTag : ℕ
 nodeTag = 2
 
+-- A tree's tokens, as bytes.
 unfoldable pub tokens : Tree → List ℕ
 tokens (leaf x) = leafTag ∷ bytesOf labelBytes x
 tokens (node l r) = nodeTag ∷ (tokens l ++ tokens r)
@@ -48,27 +49,30 @@ tokens (node l r) = nodeTag ∷ (tokens l ++ tokens r)
 abbrev pub mostDepth : ℕ
 mostDepth = 1024
 
--- What stands at the position of a tag.
+-- What stands where a tag is due.
 pub data Tag : Type 0 where
   noByte aLeaf aNode other : Tag
 
+-- A byte as a tag.
 unfoldable pub tagOf : ℕ → Tag
 tagOf b = elim (eqb b leafTag) [ true ↦ aLeaf | false ↦ elim (eqb b nodeTag) [ true ↦ aNode | false ↦ other ] ]
 
+-- What stands at offset p of s, where a tag is due.
 unfoldable pub tagAt : List ℕ → ℕ → Tag
 tagAt s p = elim (ltb p (length s)) [ true ↦ tagOf (getD s p 0) | false ↦ noByte ]
 
--- A leaf whose label begins at p. 01, The tree reader: "for 15 the start of the tag or label not
--- whole".
+-- The leaf whose label begins at offset p. 01, The tree reader: "for 15 the start of the tag or
+-- label not whole".
 unfoldable pub labelAt : List ℕ → ℕ → Result Tree
 labelAt s p = elim (leb (p + labelBytes) (length s)) [ true ↦ done (leaf (numberAt labelBytes s p)) | false ↦ refusal inputEnded p ]
 
--- The node whose left tree begins at p: the left tree, then the right one after it, each read by
--- `read`.
+-- The node whose left tree begins at offset p: the left tree, then the right one after it, each
+-- read by `read`.
 unfoldable pub branchesAt : (ℕ → Result Tree) → ℕ → Result Tree
 branchesAt read p = andThen (read p) (λ l. andThen (read (p + length (tokens l))) (λ r. done (node l r)))
 
--- By the tag at p. Where it is a node's, the answer is `below`'s.
+-- The tree that begins at offset p, by the tag there. Where it is a node's, `below` gives the
+-- answer.
 unfoldable pub treeByTag : List ℕ → ℕ → (ℕ → Result Tree) → Result Tree
 treeByTag s p below =
     elim (tagAt s p) [
@@ -78,8 +82,8 @@ treeByTag s p below =
       | other ↦ refusal notATag p
     ]
 
--- The tree that begins at p, with room for so many nodes above its leaves. 01, The tree reader: "A
--- tree's end is found by recursion on its two parts."
+-- The tree that begins at offset p, with room for so many nodes above its leaves. 01, The tree
+-- reader: "A tree's end is found by recursion on its two parts."
 unfoldable pub treeAt : ℕ → List ℕ → ℕ → Result Tree
 treeAt zero s p = treeByTag s p (λ q. refusal tooDeep q)
 treeAt (suc room) s p = treeByTag s p (λ q. branchesAt (λ o. treeAt room s o) (suc q))
@@ -93,8 +97,8 @@ unfoldable pub ownBytes : Result Tree → List ℕ
 ownBytes (done t) = tokens t
 ownBytes (refusal number q) = []
 
--- 01, The tree reader: "which a call beside it names with its place". Where the tree ends that was
--- read from p on, or the refusal.
+-- The end of the tree that was read from offset p on, or the refusal. 01, The tree reader: "which a
+-- call beside it names with its place".
 unfoldable pub endFrom : ℕ → Result Tree → Result ℕ
 endFrom p (done t) = done (p + length (tokens t))
 endFrom p (refusal number q) = refusal number q

@@ -1,2 +1,2 @@
-// Definitions and their laws, and no code: what the bytes of 01, Tokens and 01, Program file, stand
-// for. See specs/.
+// No code: definitions of what the bytes of 01, Tokens and 01, Program file, stand for (specs/),
+// and their laws (proofs/).

@@ -42,7 +42,7 @@ pub ruleset parameters = (parameters-first, parameters-other)
 
 -- ---- `function_fits`
 
--- a record whose sort is right
+-- a record whose sort is right ..
 right-sort :
     (edition j x a n i : ℕ)
     → x ≤ 1
@@ -117,7 +117,7 @@ pub ruleset function-fields = (wrong-sort, many-parameters, no-count, rest-decid
 
 -- ---- `count_sum`
 
--- the counts of the first j functions are summed
+-- the sum of the counts of the first j functions
 pub record Summed (s : List ℕ) (functions sum j : ℕ) : Type 0 where
   pub small : sum ≤ 65535 * j
   pub left : countsFrom functions s 0 ≡ sum + countsFrom (functions - j) s j
@@ -174,7 +174,7 @@ pub ruleset fields-checked = (fields-none, fields-more, fields-refused, pass-all
 
 -- ---- `function_row`
 
--- the counts of functions that were read are summed
+-- the sum of the counts of functions that were read
 total-is : (s : List ℕ) (n j : ℕ) (gs : List Signature) → each (functionIn s) n j ≡ done gs → total gs ≡ countsFrom n s j
 unfolding total countsFrom
 total-is s zero j gs e = ap total (each-none (functionIn s) j gs e)

@@ -1,2 +1,2 @@
--- What the functions of the row answer.
+-- What the functions of the row "functions" answer.
 pub mod Inner

@@ -1,4 +1,4 @@
-// The row "functions" over flat records, 8 bytes each.
+// The row "functions" over flat records of 8 bytes each.
 use refusal::Refusal;
 use refusal::Verdict;
 ghost use Prim.Native.Nat.{suc};
@@ -15,7 +15,7 @@ const RECORD_BYTES: usize = 8;
 
 const MOST_PARAMETERS: u8 = 4;
 
-// The largest number of a function's sort: 0 number, 1 tree.
+// The largest number of a sort: 0 is number, 1 is tree.
 const MOST_SORT: u8 = 1;
 
 // The most number parameters of function j.
@@ -45,7 +45,7 @@ fn function_fits(flat: &[u8], j: u16) -> bool
     words32::read32(flat, RECORD_BYTES * (1 + (j as usize)) + 4) == 0
 }
 
-// The fields of the function records, so many.
+// The fields of so many function records, one record after the other.
 fn function_fields(flat: &[u8], functions: u16) -> Verdict
     ensures { λ r. ⌜ verdictResult r ≡ verdict
         (each (functionIn (now (flat .entry))) functions 0) ⌝ }
@@ -60,7 +60,7 @@ fn function_fields(flat: &[u8], functions: u16) -> Verdict
     Verdict::Passed
 }
 
-// The sum of the node counts. It is exact: counts of 16 bits, fewer than 65,536 of them.
+// The sum of the node counts. It is exact: fewer than 65,536 counts of 16 bits each.
 fn count_sum(flat: &[u8], functions: u16) -> usize
     ensures { λ r. ⌜ r ≡ countsFrom functions (now (flat .entry)) 0 ⌝ }
 {

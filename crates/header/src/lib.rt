@@ -1,4 +1,4 @@
-// The row "header" over flat records, 8 bytes each.
+// The row "header" over flat records of 8 bytes each.
 use refusal::Refusal;
 use refusal::Verdict;
 ghost use mathlib.Core.Path.{_≡_};

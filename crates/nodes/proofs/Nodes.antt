@@ -24,7 +24,7 @@ use Rattle.nodes.specs.Inner.Parts.{partsIn}
 
 -- ---- `node_row`
 
--- what is said of a changed value is said of the value
+-- a changed value has the same verdict as the value
 value-said : {A B : Type 0} (f : A → B) (r : Result A) → verdict (onValue f r) ≡ verdict r
 value-said f (done x) = refl
 value-said f (refusal number position) = refl
@@ -44,7 +44,7 @@ module _ (s : List ℕ) where
   module _ (all : Result (Unit {0})) (end k : ℕ) (more : k < end) (p : Passing (nodeIn s) all end k)
       (found : RecordRead) (reported : described found ≡ onValue shapeOf (nodeIn s k))
     where
-      -- what the record read says of the node
+      -- the verdict on the node is that of the record read
       node-said : verdict (nodeIn s k) ≡ verdict (described found)
       node-said = sym (ap verdict reported ∙ value-said shapeOf (nodeIn s k))
 

@@ -1,4 +1,4 @@
-// The row "nodes" over flat records, 8 bytes each, and how many parts a node has.
+// The row "nodes" over flat records of 8 bytes each, and how many parts a node has.
 use records::Parts;
 use records::RecordRead;
 use refusal::Verdict;
@@ -34,7 +34,7 @@ pub fn node_row(flat: &[u8]) -> Verdict
     Verdict::Passed
 }
 
-// How many parts these are.
+// How many parts there are. A Call has as many as its function has number parameters.
 pub fn part_count(flat: &[u8], parts: Parts) -> usize
     ensures { λ r. ⌜ r ≡ partCount (arityIn (now (flat .entry))) (listed parts) ⌝ }
 {

@@ -27,7 +27,7 @@ below-minus-one : (k : ℕ) → negsuc 0 -ℤ pos k ≡ negsuc k
 below-minus-one zero = refl
 below-minus-one (suc k) = ap (λ (n : ℕ). negsuc (suc n)) (zero-add k)
 
--- a word of the upper half
+-- the number of a word of the upper half ..
 pub signed-high : (w : ℕ) → Fits w32 w → 2147483648 ≤ w → negsuc 0 -ℤ toZ w32 (4294967295 - w) ≡ signed32 w
 unfolding signed32
 signed-high w fits high =
@@ -35,6 +35,6 @@ signed-high w fits high =
     let same : 4294967295 - w ≡ 4294967296 - suc w = omega arith in
     rw (toZ-pos w32 small, le-ltb w 2147483648 high, signed32) (below-minus-one (4294967295 - w) ∙ ap negsuc same)
 
--- and its number fits, since it is read off a word
+-- .. fits, since it is read off a word
 pub signed-high-fits : (w : ℕ) → Fits w32 w → 2147483648 ≤ w → SFits w32 (negsuc 0 -ℤ toZ w32 (4294967295 - w))
 signed-high-fits w fits high = rw (signed-high w fits high, ← (signed-is w)) (sfits-toZ fits)

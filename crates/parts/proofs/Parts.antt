@@ -36,7 +36,7 @@ pub ruleset of-three = (of-first, of-second, of-third, of-later)
 
 -- ---- `nth_part`
 
--- parts that are as the whole may be left out at the end
+-- parts at the end that are as the whole may be left out
 two-of-three : (p q : PartOfKind) (i : ℕ) → nthPart (these (p ∷ q ∷ asWhole ∷ [])) i ≡ nthPart (these (p ∷ q ∷ [])) i
 unfolding nthPart nth
 two-of-three p q zero = refl

@@ -1,4 +1,4 @@
-// Part i of a record's parts.
+// Part i of a record's parts: what is expected of it, and what more is named in it.
 use records::Part;
 use records::Parts;
 ghost use mathlib.Core.List.{[], _∷_};

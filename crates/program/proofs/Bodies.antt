@@ -1,5 +1,5 @@
--- The row "prefix form": the functions one after the other, each with its records, a law for each
--- way out of the loop.
+-- The row "prefix form": one function after the other, each with its records; a law for each way
+-- out of the loop.
 use Prim.Native.Nat.{ℕ, suc, _+_, _-_, _*_, _≤_, _<_}
 use mathlib.Core.Bool.{Bool, true, false, not}
 use mathlib.Core.List.{List, [], _∷_}
@@ -50,7 +50,7 @@ module _ (s : List ℕ) (functions : ℕ) where
     pub kinds-read : each (nodeIn s) (total signed) first ≡ done kinds
     pub left : verdict (prefixRow (headerIn s) gs ks) ≡ verdict (bodies (arityOf gs) signed kinds first)
 
-  -- so it is whenever the rows before are done, and the first record is not far off
+  -- so it is whenever the rows before have passed; and the first record is not too far off
   pub record Bodied (first j : ℕ) : Type 0 where
     pub near : first ≤ 1 + functions + 65535 * j
     pub rest : (gs : List Signature) (ks : List Kind) → functionRow (headerIn s) s ≡ done gs → nodeRow (headerIn s) s ≡ done ks → Left gs ks first j

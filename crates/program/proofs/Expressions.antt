@@ -1,5 +1,5 @@
--- Whether a function's records are exactly one expression: the walk from the last record to the
--- first, a law for each way out of it.
+-- Whether a function's records are exactly one expression: a law for each way out of the walk from
+-- the last record to the first.
 use Prim.Native.Nat.{ℕ, suc, _+_, _-_, _≤_, _<_}
 use mathlib.Core.Bool.{Bool, true, false}
 use mathlib.Core.List.{List, [], _∷_}

@@ -1,5 +1,5 @@
--- The rows one after the other: a row that passes leaves what follows it, and the first refusal is
--- the whole reading's.
+-- One row after the other: where a row passes, the rows after it decide, and the first refusal is
+-- that of the whole reading.
 use Prim.Native.Nat.{ℕ}
 use mathlib.Core.List.{List}
 use mathlib.Core.Path.{_≡_, refl, sym, ap, _∙_}
@@ -27,7 +27,7 @@ withFunctions h s gs = andThen (nodeRow h s) (withNodes h gs)
 abbrev withHeader : List ℕ → Header → Result Program
 withHeader s h = andThen (functionRow h s) (withFunctions h s)
 
--- what is said of the functions is said of the program
+-- the verdict on the functions is that on the program
 functions-said : (h : Header) (fs : Result (List Function))
     → verdict {A = Program} (andThen fs (λ l. done (record { edition = h .edition; functions = l }))) ≡ verdict fs
 functions-said h (done l) = refl

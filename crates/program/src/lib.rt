@@ -1,4 +1,4 @@
-// The rows header to prefix form of 01, The order of the tests, over flat records, 8 bytes each.
+// The rows header to prefix form of 01, The order of the tests, over flat records of 8 bytes each.
 use refusal::Refusal;
 use refusal::Verdict;
 ghost use Prim.Native.Nat.{_≤_};
@@ -8,9 +8,9 @@ ghost use Rattle.formats.specs.Rows.{readProgram};
 ghost use Rattle.refusal.specs.Inner.Verdicts.{verdictResult};
 ghost use Rattle.program.specs.Inner.Prefix.{IsOne, PrefixSays};
 
-// Whether the records from the first up to the end are exactly one expression. From the last to the
-// first, each takes its parts off the expressions that stand after it, and is one expression with
-// them.
+// Whether the records from `first` up to `end` are exactly one expression. From the last record to
+// the first, each takes its parts off the expressions that stand after it, and is one expression
+// with them.
 fn one_expression(flat: &[u8], first: usize, end: usize) -> bool
     requires { ⌜ first ≤ end ⌝ }
     ensures { λ r. ⌜ IsOne (now (flat .entry)) first end r ⌝ }

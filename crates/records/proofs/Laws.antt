@@ -1,4 +1,4 @@
--- A law for each way out of the functions over node records. A record read is the one of its kind
+-- A law for each way out of the functions over node records. A record read is that of its kind
 -- number: the fields that the kind does not use sum to 0 exactly where the record is the one that
 -- its kind has.
 use Prim.Native.Nat.{ℕ, _+_, _*_, _/_, _≤_, _<_}
@@ -45,7 +45,7 @@ parted first second third = record { first = first; second = second; third = thi
 
 -- ---- fields that should be zero
 
--- two tests say the same
+-- two tests that imply each other are the same
 same-test : (x y : Bool) → (x ≡ true → y ≡ true) → (y ≡ true → x ≡ true) → x ≡ y
 same-test true y f g = sym (f refl)
 same-test false true f g = g refl
@@ -181,7 +181,7 @@ call-below b i functions h = rw (lt-ltb _ _ h)
 pub call-above : (b i functions : ℕ) → functions ≤ b → eqb 1 0 ≡ (ltb b functions && eqb i 0)
 call-above b i functions h = rw (le-ltb _ _ h)
 
--- past the end all fields read as 0, wherever they are
+-- past the end all fields read as 0, at every offset
 pub stands-past : (s : List ℕ) (k : ℕ) → length s / recordBytes < k → StandsAt s k (length s)
 stands-past s k h =
     let past : length s < recordBytes * k = omega arith in
@@ -196,7 +196,7 @@ stands-past s k h =
 pub stands-there : (s : List ℕ) (k : ℕ) → k ≤ length s / recordBytes → StandsAt s k (recordBytes * k)
 stands-there s k h = record { within = omega arith; byte-0 = refl; byte-1 = refl; bytes-2 = refl; bytes-4 = refl }
 
--- the record read at its position, with the header's number of functions
+-- the record read at its offset, with the header's number of functions
 pub read-there :
     (s : List ℕ) (k p x a b i f : ℕ) (r : RecordRead)
     → StandsAt s k p

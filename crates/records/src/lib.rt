@@ -1,5 +1,5 @@
-// Node records: the nine kinds with their operands, parts and templates, read from flat records, 8
-// bytes each.
+// Node records: the nine kinds with their operands, parts and templates, read from flat records of
+// 8 bytes each.
 use refusal::Refusal;
 ghost use Prim.Native.Nat.{_+_};
 ghost use mathlib.Core.Path.{_≡_};
@@ -57,7 +57,7 @@ pub enum Part {
     UnderTrees,
 }
 
-// A record's parts in order: so many, or the number arguments of a function.
+// A record's parts in order: none to three, or the number arguments of a function.
 pub enum Parts {
     None,
     One(Part),
@@ -100,20 +100,21 @@ pub struct Template {
 }
 
 // A record read: its kind with its operands, its parts and its template; or why it is refused, and
-// the number of the record.
+// the position, which is the record's number.
 pub enum RecordRead {
     Read(Record, Parts, Template),
     Refused(Refusal, usize),
 }
 
-// The sum of fields that should be zero: 0 where each of them is.
+// The sum of fields that must be zero: 0 exactly where each of them is.
 fn sum_of(a: u8, b: u16, i: u32) -> u64
     ensures { λ r. ⌜ r ≡ a + b + i ⌝ }
 {
     (a as u64) + (b as u64) + (i as u64)
 }
 
-// The same for a Call, whose b is to be below the number of functions: 0 where it is and i is 0.
+// The same for a Call, whose b must also be below the number of functions: 0 exactly where it is
+// and i is 0.
 fn call_sum(b: u16, i: u32, functions: u8) -> u64
     ensures { λ r. ⌜ eqb r 0 ≡ (ltb b functions && eqb i 0) ⌝ }
 {
@@ -160,7 +161,8 @@ fn around(first: Item, last: Item) -> Template
     }
 }
 
-// The record with its parts and its template where the fields that it does not use sum to 0.
+// The record with its parts and its template where the fields that it does not use sum to 0; else
+// refused with 6 at record `at`.
 fn row(node: Record, parts: Parts, template: Template, sum: u64, at: usize) -> RecordRead
     ensures { λ r. ⌜ described r ≡ check (eqb sum 0) nodeField at (shaped node parts template) ⌝ }
 {
@@ -170,8 +172,8 @@ fn row(node: Record, parts: Parts, template: Template, sum: u64, at: usize) -> R
     RecordRead::Refused(Refusal::NodeField, at)
 }
 
-// The one match over the kind number: an arm has the kind's operands, its parts with what is
-// expected and named in each, its template, and the fields that it does not use.
+// The one match over the kind number. Each arm has the kind's operands, its parts with what is
+// expected and named in each, its template, and the sum of the fields that it does not use.
 fn record_of(kind: u8, a: u8, b: u16, i: u32, functions: u8, at: usize) -> RecordRead
     ensures { λ r. ⌜ OfKind functions at kind a b i r ⌝ }
 {
@@ -250,7 +252,7 @@ fn record_of(kind: u8, a: u8, b: u16, i: u32, functions: u8, at: usize) -> Recor
     }
 }
 
-// Where record k stands, or the end where there is no such record.
+// The offset of record k, or the end where there is no such record.
 fn position_of(flat: &[u8], k: usize) -> usize
     ensures { λ r. ⌜ StandsAt (now (flat .entry)) k r ⌝ }
 {
@@ -260,8 +262,8 @@ fn position_of(flat: &[u8], k: usize) -> usize
     RECORD_BYTES * k
 }
 
-// Record k of flat records as a node of the program whose header they have. Where the record is not
-// there, its fields read as 0.
+// Record k of flat records, read as a node of the program that their header describes. Where the
+// record is not there, its fields read as 0.
 pub fn record_at(flat: &[u8], k: usize) -> RecordRead
     ensures { λ r. ⌜ described r ≡ onValue shapeOf (nodeIn (now (flat .entry)) k) ⌝ }
 {

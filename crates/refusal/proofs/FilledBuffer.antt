@@ -1,5 +1,5 @@
--- What a call that fills a lent buffer answers: a refusal leaves the buffer, and bytes that are
--- there are written.
+-- Laws of `FilledBuffer`: a refusal leaves the buffer untouched, and bytes are written to its
+-- start.
 use Prim.Native.Nat.{ℕ}
 use mathlib.Core.List.{List}
 use mathlib.Core.Path.{_≡_, refl, sym, ap}

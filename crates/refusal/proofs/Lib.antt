@@ -1,3 +1,3 @@
--- The laws of the definitions in specs/, a file for each of theirs.
+-- Laws of the numbers of refusals, and of lent buffers that are filled.
 pub mod Number
 pub mod FilledBuffer

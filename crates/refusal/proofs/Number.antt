@@ -1,6 +1,6 @@
--- Different refusals have different numbers. The refusals stand in a list in the order of their
--- numbers, so a number is a position in that list, counted from 1, and at that position stands the
--- refusal itself: the list gives each refusal back from its number.
+-- Different refusals have different numbers. A list has the refusals in the order of their numbers.
+-- So a number is an index of that list, counted from 1, and the list gives each refusal back from
+-- its number.
 use Prim.Native.Nat.{ℕ, _-_, _≤_}
 use mathlib.Core.List.{List, [], _∷_}
 use mathlib.Core.Path.{_≡_, refl, sym, ap, _∙_}
@@ -21,7 +21,7 @@ inOrder =
 abbrev numbered : ℕ → Refusal
 numbered n = getD inOrder (n - 1) FileLength
 
--- a refusal's number is a position in the list, and there it stands
+-- a refusal's number is an index of the list, and the refusal stands there
 placed : (r : Refusal) → (1 ≤ number r) × (number r ≤ length inOrder) × (numbered (number r) ≡ r)
 placed FileLength = (lit≤ tt, lit≤ tt, refl)
 placed BlockCheck = (lit≤ tt, lit≤ tt, refl)

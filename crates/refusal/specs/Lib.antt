@@ -1,2 +1,2 @@
--- What a refusal's number is, and what a check and a call that fills a buffer say.
+-- The numbers of refusals, and the answers of a check and of a call that fills a lent buffer.
 pub mod Inner

@@ -1,4 +1,5 @@
-// The refusals of 01, The table of refusals, in the order of their numbers.
+// The refusals of 01, The table of refusals, with their numbers; the answer of a check, and that of
+// a call that fills a lent buffer.
 ghost use mathlib.Core.Path.{_≡_};
 ghost use Rattle.refusal.specs.Inner.Numbers.{number};
 
@@ -8,13 +9,13 @@ pub enum Refusal {
     FileLength,
     // 2: a block's check does not hold
     BlockCheck,
-    // 3: another field of a block, or an unused record that is not zero
+    // 3: another field of a block is wrong, or an unused record is not zero
     BlockField,
-    // 4: a field of the header, or the record count
+    // 4: a field of the header is wrong, or the record count
     HeaderField,
-    // 5: a field of a function record, or the sum of the counts
+    // 5: a field of a function record is wrong, or the sum of the counts
     FunctionField,
-    // 6: a node's kind above 8, an unused field not zero, b not below F
+    // 6: a node's kind is above 8, an unused field is not zero, or b is not below F
     NodeField,
     // 7: a function's records aren't exactly one expression
     PrefixForm,
@@ -22,7 +23,7 @@ pub enum Refusal {
     WrongType,
     // 9: a name that is not bound
     NotBound,
-    // 10: a word on top of 16 above the frame's base
+    // 10: one word more where 16 stand above the frame's base
     TooManyWords,
     // 11: a tree that is not the head of the pending list, unequal lists, or trees left
     OutOfOrder,
@@ -34,7 +35,7 @@ pub enum Refusal {
     FuelUsedUp,
     // 15: the input ended
     InputEnded,
-    // 16: a tag that is not 1 or 2
+    // 16: a byte that is not 1 or 2 where a tag is due
     NotATag,
     // 17: the output is full, or shorter than the result
     OutputFull,
@@ -46,8 +47,8 @@ pub enum Refusal {
     TooDeep,
 }
 
-// What a check says: passed, or the first refusal and its position. What a run says: passed where
-// it ended, or its refusal and the position.
+// What a check answers: passed, or the first refusal and its position. What a run answers: passed
+// where it ended, or its refusal and its position.
 pub enum Verdict {
     Passed,
     Refused(Refusal, usize),
@@ -60,7 +61,7 @@ pub enum Filled {
     Refused(Refusal, usize),
 }
 
-// A refusal's number in the document's table.
+// The number of a refusal in 01, The table of refusals.
 pub fn number_of(r: Refusal) -> u32
     ensures { λ n. ⌜ n ≡ number r ⌝ }
 {

@@ -1,5 +1,5 @@
 -- Closed cases of pass one and pass two, proved by computation. Each row of a table is a program
--- and the outcome of it.
+-- and its outcome.
 use Prim.Native.Nat.{ℕ, zero, suc}
 use mathlib.Core.List.{List, [], _∷_, _++_, map}
 use mathlib.Core.Logic.{inl, inr}
@@ -140,7 +140,7 @@ pass-one =
     ∷ says (refusal 9 4) (numbered (const 1) ∷ numbered (var 0) ∷ [])
     ∷ []
 
--- ---- what is said is what is found
+-- ---- the tables are right
 
 verdicts : map (λ row. bothPasses (programOf (row .functions))) (worked ++ (pass-two ++ pass-one)) ≡ map (λ row. row .verdict) (worked ++ (pass-two ++ pass-one))
 unfolding bothPasses passOne passOver atEntry roomy wordsTested bareNumber typed named enteredAll entered enteredArgs inside startOf passTwo walkAll noneLeft walk walkArgs equalBranches sameNames takeHead resultType isInt isTree fits size prefix prefixes nth signatureOf numbered treed taking programOf on with-one lets cases left-cases says worked pass-two pass-one
@@ -162,7 +162,7 @@ pub by-part : (as-part Leaf (nthPart (partsOf Node) 0) ≡ done tt)
 unfolding as-part atEntry roomy wordsTested typed named partScope nthPart partsOf nth isInt isTree
 by-part = (refl, refl, refl, refl)
 
--- ---- the limit of 16 pending is no matter of Figure 6
+-- ---- Figure 6 has neither of the two limits
 
 one-number : List Signature
 one-number = record { sort = numberValued; parameters = 0; count = 1 } ∷ []
@@ -171,15 +171,16 @@ call-typed : (g n a : ℕ) → Types one-number g n (a ∷ []) (on 0 a) Int
 unfolding on one-number nth functionType arrows resultType
 call-typed g n a = Types.T-App refl (to-tree TypesName.T-Var1)
 
--- however deep, each is typed with its own tree alone, though `pass-two` has the sixteenth refused
+-- however deep, each is typed with its own tree alone, though the table `pass-two` has the
+-- sixteenth refused
 left-typed : (k g n a : ℕ) → Types one-number g n (a ∷ []) (left-cases k n a) Int
 unfolding left-cases
 left-typed zero g n a = call-typed g n a
 left-typed (suc k) g n a =
     Types.T-Case {Δ₂ = []} TypesName.T-Var1 Types.T-Int (Types.T-Plus {Δ₁ = n ∷ []} (left-typed k g (suc (suc n)) n) (call-typed g (suc (suc n)) (suc n)))
 
--- however many words its body takes, so is a function of Lets, though `pass-one` has the Call in
--- sixteen Lets refused
+-- however many words its body takes, so is a function of Lets, though the table `pass-one` has the
+-- Call in sixteen Lets refused
 lets-typed : (k g n a : ℕ) → Types one-number g n (a ∷ []) (lets k (on 0 a)) Int
 unfolding lets
 lets-typed zero g n a = call-typed g n a

@@ -1,5 +1,5 @@
--- The first fault is where pass two refuses: what comes before it is walked through, so a refusal
--- there is the whole walk's.
+-- The first fault is where pass two refuses. What comes before it is in order, so the refusal there
+-- is that of the whole walk.
 use Prim.Native.Nat.{ℕ, suc, _+_}
 use mathlib.Core.Bool.{false, not-eq-not}
 use mathlib.Core.List.{List, [], _∷_, cons≢nil}
@@ -20,7 +20,7 @@ use Rattle.rules.specs.OrderChecker.{firstNode}
 use Rattle.rules.proofs.PassOne.{pass-left, pass-right}
 use Rattle.rules.proofs.PassTwo.{ValueOrRefusal, good, bad, said-refused, said-then, said-worse, same-names, take-other, case-open, case-stops, walks, walks-args, reported}
 
--- the walk from a position on
+-- the walk from a spot on
 abbrev walkFrom : Spot → Result (List ℕ)
 walkFrom (spot g n r Δ e τ) = walk n r Δ e
 

@@ -54,7 +54,7 @@ module _ (gs : List Signature) where
   nowhere : {r : ℕ} (xs : List Entry) → xs ≡ [] → FirstFails gs xs tooManyWords r → ⊥
   nowhere (x ∷ xs) e f = let z : suc (length xs) ≡ 0 = ap length e in omega arith
 
-  -- a Const, Var or Case, or another record where the words are not tested
+  -- at a record where the words are tested one more is too many; other records do not fail so
   one-more : {g n w q r : ℕ} {τ : Ty} {kind : Kind} → Fails gs (entry (scope g n w τ) q kind) tooManyWords r → mostFrameWords < suc w
   one-more f = let full = full-there f .full in omega arith
 

@@ -22,7 +22,7 @@ use Rattle.rules.specs.OrderChecker.{firstNode}
 -- ---- where a condition first fails
 
 module _ (gs : List Signature) where
-  -- what a record's tests say
+  -- what a record's tests give
   holds-says : {x : Entry} → AllHold gs x → atEntry gs x ≡ done tt
   unfolding atEntry
   holds-says (all-three e f h) = rw (e, f, h)
@@ -126,7 +126,7 @@ pass-left gs xs ys e = then-inv (passOver gs xs) _ tt (sym (pass-join gs xs ys) 
 pub pass-right : (gs : List Signature) (xs ys : List Entry) → passOver gs (xs ++ ys) ≡ done tt → passOver gs ys ≡ done tt
 pass-right gs xs ys e = then-inv (passOver gs xs) _ tt (sym (pass-join gs xs ys) ∙ e) .second
 
--- and the other way
+-- where both parts pass, so do they joined
 pub pass-both : (gs : List Signature) (xs ys : List Entry) → passOver gs xs ≡ done tt → passOver gs ys ≡ done tt → passOver gs (xs ++ ys) ≡ done tt
 pass-both gs xs ys e f = pass-join gs xs ys ∙ then-done _ e ∙ f
 

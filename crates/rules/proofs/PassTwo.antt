@@ -1,5 +1,5 @@
--- Laws of pass two. `ValueOrRefusal` is the view of a result: what holds of its value, or else of its
--- refusal. Two recursions say all: over a derivation by Figure 19 (`checked-walk`), and over an
+-- Laws of pass two. `ValueOrRefusal` is a view of a result: what holds of its value, or else of its refusal.
+-- Two recursions do the work: over a derivation by Figure 19 (`checked-walk`), and over an
 -- expression that passed pass one (`reported`: it is in order, or it has a first fault).
 use Prim.Native.Nat.{ℕ, suc, _+_, _≤_, _<_}
 use mathlib.Core.Bool.{Bool, true, false, false≢true}
@@ -53,7 +53,7 @@ said-refused {number = number} {position = position} (bad {number = c} {position
     let q : k ≡ position = cc in
     rw (← p, ← q) h
 
--- one after the other
+-- what is said of one reading after another
 pub said-then :
     {A B : Type 0} {G : A → Type 0} {H : B → Type 0} {Bad Worse : ℕ → ℕ → Type 0} {r : Result A} {next : A → Result B}
     → ValueOrRefusal G Bad r
@@ -63,7 +63,7 @@ pub said-then :
 said-then (good {x = x} h) first second = second x h
 said-then (bad {number = c} {position = k} h) first second = bad (first c k h)
 
--- what is said, otherwise
+-- what is said of a result may be replaced by what follows from it
 said-map :
     {A : Type 0} {G H : A → Type 0} {Bad Worse : ℕ → ℕ → Type 0} {r : Result A}
     → ValueOrRefusal G Bad r
@@ -239,7 +239,7 @@ mutual
   checked-args (to-number d rest) = said-then (checked-walk d) (full-left (lines d) _) λ Δ e. rw e (said-worse (full-right (lines d) _) (checked-args rest))
   checked-args (to-tree name) = good name
 
--- what is in order is walked through
+-- what is in order passes the walk
 pub walks : {gs : List Signature} {g n r : ℕ} {Δ : List ℕ} {e : Expr} {τ : Ty} {Δ′ : List ℕ} → InOrder gs g n r Δ e τ Δ′ → walk n r Δ e ≡ done Δ′
 walks {Δ′ = Δ′} o = fine _ (checked-walk (o .derivation))
   where
@@ -275,13 +275,13 @@ no-typing program r e typed = let h = only-full program outOfOrder r typed e in 
 
 -- ---- an expression that passed pass one
 
--- the walk comes from a position to a fault
+-- the walk comes from a spot to a fault
 pub record Met (gs : List Signature) (s : Spot) (number position : ℕ) : Type 0 where
   pub there : Spot
   pub comes : WalksTo gs s there
   pub faults : Faults gs there number position
 
--- at this position, or where it goes on to
+-- at this spot, or at one that the walk goes on to
 met : {gs : List Signature} {s : Spot} {number position : ℕ} → Faults gs s number position → Met gs s number position
 met f = record { there = _; comes = here; faults = f }
 
@@ -436,7 +436,7 @@ module _ (gs : List Signature) where
         (λ number position m. m)
         (λ Δ′ o. reported-call (a .0) c o (head? x Δ′))
 
-    -- a Call's arguments from part i on, entered from place s
+    -- a Call's arguments from part i on, entered from spot s
     reported-args :
         (g n w r i a b : ℕ) (τ : Ty) (Δ : List ℕ) (s : Spot) (xs : Args)
         → AppliedArgs (arityOf gs) xs
@@ -454,7 +454,7 @@ module _ (gs : List Signature) where
         (λ Δ″ os. one-more o os)
         (λ number position m. m))
 
--- what is walked through is in order
+-- what passes the walk is in order
 pub second :
     (gs : List Signature) (g n w r : ℕ) (Δ : List ℕ) (τ : Ty) (e : Expr) (Δ′ : List ℕ)
     → Applied (arityOf gs) e

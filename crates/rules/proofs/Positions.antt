@@ -17,12 +17,12 @@ use Rattle.rules.specs.OrderChecker.{firstNode, Untyped, this-one, after
 use Rattle.rules.proofs.Splits.{types-checks}
 use Rattle.rules.proofs.PassTwo.{ValueOrRefusal, good, bad, said-done, said-refused, said-then, said-worse, said-check, checked-walk}
 
--- record q is one of so many from r on
+-- record q is one of `many` records, from record r on
 pub record Among (r many q : ℕ) : Type 0 where
   pub from : r ≤ q
   pub before : q < r + many
 
--- so it is of more records, from an earlier one on
+-- so it is among more records, from an earlier one on
 pub widen : {first a r many q : ℕ} → r ≤ first → first + a ≤ r + many → Among first a q → Among r many q
 widen h g among = record { from = omega (arith, among .from); before = omega (arith, among .before) }
 

@@ -1,11 +1,11 @@
 -- The rules in Typing admit the same functions as Figure 6 in printed form on the paper's own
 -- terms.
 --
--- There: each rule of Typing is the figure's rule of that name, and a Call is one T-App for each
--- argument. Names counted along the path are different from each other, as T-Case asks.
+-- One way: each rule of Typing is the figure's rule of that name, and a Call is one T-App for each
+-- argument. Names counted along the path are different from each other, as T-Case requires.
 --
--- Back: by cases on the expression, whose term comes by one rule only. A name could come by two,
--- but Γ holds no tree's name, and Δ no other. A Call's function has its type from Γ, so its
+-- The other way: by cases on the expression, whose term comes by one rule only. A name could come
+-- by two, but Γ holds no tree's name, and Δ no other. A Call's function has its type from Γ, so its
 -- arguments are numbers and then a tree.
 use Prim.Native.Nat.{ℕ, zero, suc, _+_, _≤_, _<_}
 use mathlib.Core.List.{List, [], _∷_, _++_, append-assoc, map, map-append}

@@ -151,7 +151,7 @@ agree-two l a b few short = agree-join a (agree-join b (agree-one few short))
 agree-given : {C : Type 0} {ls : List Line} → (Every FewAtCase ls → C) → (Every NoLonger ls → C) → (C → Agree ls) → Agree ls
 agree-given few short a = record { to-short = λ h. a (few h) .to-short h; to-few = λ h. a (short h) .to-few h }
 
--- they do so of a derivation's lines
+-- both forms say the same of a derivation's lines
 mutual
   unfolding lines
 

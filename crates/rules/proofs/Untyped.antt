@@ -119,7 +119,7 @@ module _ (gs : List Signature) where
 
   -- ---- functions
 
-  -- so many records as the body has
+  -- as many records as the body has
   many-entered : (f : Function) (k : ℕ) → length (entered (startOf f) k (f .body)) ≡ size (f .body)
   unfolding size
   many-entered f k = sym (length-map (entered (startOf f) k (f .body)) kindIn) ∙ ap length (kinds-entered (f .body) (startOf f) k)

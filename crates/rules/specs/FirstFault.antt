@@ -10,11 +10,12 @@ use Rattle.rules.specs.Types.{Ty, Int, Tree⁺, resultType}
 use Rattle.rules.specs.Leftover.{InOrder}
 use Rattle.rules.specs.Limits.{mostPending}
 
--- An expression that the walk enters: number and tree names bound, its record, the list, its type.
+-- An expression that the walk enters: how many number names and tree names are bound, its record,
+-- the pending trees, the expression, its type.
 pub data Spot : Type 0 where
   spot : (numbers trees at-record : ℕ) (pending : List ℕ) (expr : Expr) (type : Ty) → Spot
 
--- The walk goes on from list Δ at record r to list Δ′ after the arguments xs, all in order.
+-- The walk goes from list Δ at record r through the arguments xs, all in order, to list Δ′.
 pub data ArgsInOrder (gs : List Signature) (g n : ℕ) : ℕ → List ℕ → Args → List ℕ → Type 0 where
   finished : {r : ℕ} {Δ : List ℕ} → ArgsInOrder gs g n r Δ noArgs Δ
   one-more :
@@ -89,12 +90,12 @@ pub data WalksTo (gs : List Signature) : Spot → Spot → Type 0 where
   here : {s : Spot} → WalksTo gs s s
   further : {s s′ s″ : Spot} → Enters gs s s′ → WalksTo gs s′ s″ → WalksTo gs s s″
 
--- The tree is at the list's head.
+-- Tree a is the head of the list.
 pub data IsHead (a : ℕ) : List ℕ → Type 0 where
   head : {rest : List ℕ} → IsHead a (a ∷ rest)
 
--- What fails at the record of the expression just entered, with the refusal's number and its
--- record: a rule for each condition of the row "pass two", and one for each kind that it concerns.
+-- What fails at the expression just entered, with the refusal's number and its position, a record:
+-- a rule for each condition of the row "pass two", and one for each kind that it concerns.
 pub data Faults (gs : List Signature) : Spot → ℕ → ℕ → Type 0 where
   -- "11 not the head"
   case-not-head :
@@ -127,7 +128,8 @@ pub data Faults (gs : List Signature) : Spot → ℕ → ℕ → Type 0 where
       → mostPending ≤ length (a ∷ rest)
       → Faults gs (spot g n r (a ∷ rest) (caseOf a p q) τ) tooManyPending r
 
--- The first fault in functions, the first node of the first at record r.
+-- The first fault in these functions, with its number and its position. The first node of the first
+-- function is record r.
 pub data FirstFault (gs : List Signature) : ℕ → List Function → ℕ → ℕ → Type 0 where
   in-this-function :
       {r number position : ℕ} {f : Function} {fs : List Function} {s : Spot}

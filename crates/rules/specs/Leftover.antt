@@ -1,8 +1,8 @@
 -- 000, Figure 19, for the programs of 01, Program file: the rules for type checking, under their
 -- names, with the environment that is left over.
 --
--- A judgement Γ | Δ ⊢ M : τ ↗ Δ′ is `Checks gs g n r Δ e τ Δ′`: Γ and n are those of Typing, r is
--- the number of e's own record. A derivation is data, and its lines are one fold over it.
+-- A judgement Γ | Δ ⊢ M : τ ↗ Δ′ is `Checks gs g n r Δ e τ Δ′`: Γ and n are those of Typing, e's
+-- own record is record r. A derivation is data; `lines` lists its lines.
 use Prim.Native.Nat.{ℕ, suc, _+_, _≤_, _<_}
 use mathlib.Core.List.{List, [], _∷_, _++_}
 use mathlib.Core.Option.{some}
@@ -13,7 +13,7 @@ use Rattle.formats.specs.Programs.{Expr, const, var, add, ifZero, letIn, leafOf
 use Rattle.rules.specs.Types.{Ty, Int, Tree⁻, Tree⁺, arrow, functionType}
 use Rattle.rules.specs.Limits.{mostPending}
 
--- The judgement for the tree name that a Case or a Call has.
+-- The judgement for the tree name of a Case or a Call.
 pub data ChecksName : List ℕ → ℕ → Ty → List ℕ → Type 0 where
   -- Γ | x : Tree⁻, Δ ⊢ x : Tree⁻ ↗ Δ
   T-Var1 : {x : ℕ} {Δ : List ℕ} → ChecksName (x ∷ Δ) x Tree⁻ Δ
@@ -83,11 +83,11 @@ mutual
 
 -- ---- a derivation's lines
 
--- A record, its kind, the list before it and the list after it.
+-- A record's number and kind, the pending trees before it and those after it.
 pub data Line : Type 0 where
   line : (at-record : ℕ) (kind : Kind) (before after : List ℕ) → Line
 
--- A line for each record: parts in order, before the whole.
+-- A line for each record of an expression: those of its parts in order, then its own.
 unfoldable mutual
   pub lines : {gs : List Signature} {g n r : ℕ} {Δ Δ′ : List ℕ} {e : Expr} {τ : Ty} → Checks gs g n r Δ e τ Δ′ → List Line
   lines (T-Var2 {r = r} {x = x} {Δ = Δ} bound) = line r (Var x) Δ Δ ∷ []

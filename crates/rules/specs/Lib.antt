@@ -1,5 +1,6 @@
--- The order checker: the typing rules of 000, Figure 6, the two passes of 01, Checking, and what
--- ties them.
+-- The order checker: the typing rules of 000, Figure 6, the two passes of 01, Checking, and the
+-- theorems that connect them. A citation "000, .." is of the paper that docs/REFERENCE.md lists
+-- under "Papers".
 pub mod Types
 pub mod Typing
 pub mod Leftover

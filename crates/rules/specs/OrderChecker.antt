@@ -25,26 +25,26 @@ use Rattle.rules.specs.PassTwo.{passTwo, bothPasses, checkRecords, check
 use Rattle.rules.specs.FirstFault.{FirstFault}
 use Rattle.rules.specs.Printed.{functionName, fix, Judges, functionTerm, JudgedFunction}
 
--- The record after the header and the function records.
+-- The first node: the record after the header and the function records.
 abbrev pub firstNode : Program → ℕ
 firstNode program = suc (length (program .functions))
 
 -- ---- what the rules admit
 
--- A function's body, its first node at record r, by Figure 19, with no tree left over.
+-- A function's body passes by Figure 19, its first node at record r, and leaves no tree.
 abbrev pub CheckedFunction : List Signature → ℕ → Function → Type 0
 CheckedFunction gs r f = Checks gs (f .parameters) 1 r (0 ∷ []) (f .body) (resultType (f .sort)) []
 
--- A function within the limits that has a derivation by Figure 6. The limit of 16 pending is of the
--- whole list, so it is said of derivations by Figure 19, whose lists those are: there is one, and
--- each has fewer than 16 at each Case.
+-- A function that has a derivation by Figure 6 and is within the limits. The limit of 16 pending is
+-- about the whole list, so it is stated about derivations by Figure 19, which have that list: there
+-- is one, and in each one fewer than 16 are pending at each Case.
 pub record AdmittedFunction (gs : List Signature) (r : ℕ) (f : Function) : Type 0 where
   pub typed : TypedFunction gs f
   pub few-words : wordsOf gs (f .parameters) (f .body) ≤ mostFrameWords
   pub derivation : CheckedFunction gs r f
   pub few-pending : (d : CheckedFunction gs r f) → Every FewAtCase (lines d)
 
--- Functions, the first node of the first at record r.
+-- All these functions are admitted. The first node of the first one is record r.
 abbrev pub AdmittedFrom : List Signature → ℕ → List Function → Type 0
 AdmittedFrom gs r [] = Unit {0}
 AdmittedFrom gs r (f ∷ fs) = AdmittedFunction gs r f × AdmittedFrom gs (r + size (f .body)) fs
@@ -52,7 +52,7 @@ AdmittedFrom gs r (f ∷ fs) = AdmittedFunction gs r f × AdmittedFrom gs (r + s
 abbrev pub Admitted : Program → Type 0
 Admitted program = AdmittedFrom (signatures program) (firstNode program) (program .functions)
 
--- Flat records, and a file, of an admitted program.
+-- Flat records, and a file, that hold an admitted program.
 pub record AdmittedRecords (r : List ℕ) : Type 0 where
   pub program : Program
   pub read : readProgram r ≡ done program
@@ -69,7 +69,7 @@ pub record Split (gs : List Signature) (g n : ℕ) (Δ : List ℕ) (e : Expr) (�
   pub joins : Δ ≡ used ++ Δ′
   pub types : Types gs g n used e τ
 
--- Kinds stand at records one after the other, from r on.
+-- The entries are at records one after the other, the first at record r.
 abbrev pub Numbered : ℕ → List Entry → Type 0
 Numbered r [] = Unit {0}
 Numbered r (entry sc k kind ∷ xs) = (k ≡ r) × Numbered (suc r) xs
@@ -77,17 +77,17 @@ Numbered r (entry sc k kind ∷ xs) = (k ≡ r) × Numbered (suc r) xs
 unfoldable pub kindIn : Entry → Kind
 kindIn (entry sc r kind) = kind
 
--- Record r is one of a function's, of which P holds; functions from this one on, its first node at
--- record k.
+-- Record r belongs to one of these functions, and P holds of that function. The first node of the
+-- first one is record k.
 pub data InFunction (P : Function → Type 0) (r : ℕ) : ℕ → List Function → Type 0 where
   this-one : {k : ℕ} {f : Function} {fs : List Function} → k ≤ r → r < k + size (f .body) → P f → InFunction P r k (f ∷ fs)
   after-it : {k : ℕ} {f : Function} {fs : List Function} → InFunction P r (k + size (f .body)) fs → InFunction P r k (f ∷ fs)
 
--- The function has no derivation.
+-- The function with record r has no derivation by Figure 6.
 abbrev pub Untyped : List Signature → ℕ → ℕ → List Function → Type 0
 Untyped gs r k fs = InFunction (λ f. TypedFunction gs f → ⊥) r k fs
 
--- More than 16 words stand at some point of the function's body.
+-- In the function with record r, more than 16 words stand at some point of its body.
 abbrev pub Overfull : List Signature → ℕ → ℕ → List Function → Type 0
 Overfull gs r k fs = InFunction (λ f. mostFrameWords < wordsOf gs (f .parameters) (f .body)) r k fs
 
@@ -101,11 +101,11 @@ pub record OrderChecker : Type 0 where
   -- A program passes both passes exactly when every function body has a derivation by Figure 6 and
   -- stays within the limits.
   pub passes : (program : Program) → Lawful program → (bothPasses program ≡ done tt) ↔ Admitted program
-  -- So it is of records and of files: one passes exactly where it holds a program that the rules
-  -- admit. (What they hold is always within the limits of "Program file".)
+  -- The same for flat records and for files: they pass exactly where they hold a program that the
+  -- rules admit. (Such a program is always within the limits of "Program file".)
   pub records : (r : List ℕ) → Bytes r → (checkRecords r ≡ done tt) ↔ AdmittedRecords r
   pub files : (s : List ℕ) → Bytes s → (checkFile s ≡ done tt) ↔ AdmittedFile s
-  -- The limit of 16 pending, said otherwise: no list of the derivation is longer than 16.
+  -- The limit of 16 pending, in another form: no list of the derivation is longer than 16.
   pub no-longer :
       (gs : List Signature) (g n r : ℕ) (Δ : List ℕ) (e : Expr) (τ : Ty) (Δ′ : List ℕ) (d : Checks gs g n r Δ e τ Δ′)
       → length Δ ≤ mostPending
@@ -117,8 +117,8 @@ pub record OrderChecker : Type 0 where
   -- The types that pass one expects of a record's parts are those that the one match over the kinds
   -- gives them.
   pub part-types : (kind : Kind) (i : ℕ) (sc : Scope) → PartTyped (partsOf kind) i (expectedIn sc) (expectedIn (inside kind i sc))
-  -- So is all that is known on entering a part: it is what that match says of part i, wherever the
-  -- kind has a part i.
+  -- All that is known on entering part i is also what that match says of it, wherever the kind has
+  -- a part i.
   pub part-scopes :
       (arity : ℕ → ℕ) (kind : Kind) (i : ℕ) (sc : Scope)
       → i < partCount arity (partsOf kind)
@@ -130,40 +130,40 @@ pub record OrderChecker : Type 0 where
   pub pass-one :
       (program : Program) (number r : ℕ)
       → (passOne program ≡ refusal number r) ↔ FirstFails (signatures program) (enteredAll (firstNode program) (program .functions)) number r
-  -- Where pass one refuses with 9 or 8, some function body has no derivation. (No limit is asked
-  -- for here.)
+  -- Where pass one refuses with 9 or 8, some function body has no derivation. (The program need not
+  -- be within any limit.)
   pub pass-one-no-typing :
       (program : Program) (number r : ℕ)
       → passOne program ≡ refusal number r
       → (number ≡ notBound) ⊎ (number ≡ wrongType)
       → Every (TypedFunction (signatures program)) (program .functions)
       → ⊥
-  -- It is the function that has the record of the refusal.
+  -- That function is the one with the record of the refusal.
   pub pass-one-untyped-there :
       (program : Program) (number r : ℕ)
       → passOne program ≡ refusal number r
       → (number ≡ notBound) ⊎ (number ≡ wrongType)
       → Untyped (signatures program) r (firstNode program) (program .functions)
-  -- Where pass one refuses with 10, the function that has the record of the refusal needs more than
-  -- 16 words. (Nothing is asked of the program.)
+  -- Where pass one refuses with 10, the function with the record of the refusal needs more than 16
+  -- words. (Nothing is required of the program.)
   pub pass-one-overfull-there :
       (program : Program) (r : ℕ)
       → passOne program ≡ refusal tooManyWords r
       → Overfull (signatures program) r (firstNode program) (program .functions)
-  -- Where every body has one, it refuses nothing but 10: the limit of 16 words is all that pass one
-  -- asks besides.
+  -- Where every body has a derivation, pass one refuses nothing but 10: the limit of 16 words is
+  -- all that it requires besides.
   pub only-words :
       (program : Program) (number r : ℕ)
       → Every (TypedFunction (signatures program)) (program .functions)
       → passOne program ≡ refusal number r
       → number ≡ tooManyWords
-  -- Pass two refuses at a record exactly where the first fault stands ..
+  -- Pass two refuses exactly the first fault, with its number and at its position ..
   pub pass-two :
       (program : Program) (number r : ℕ)
       → Lawful program
       → passOne program ≡ done tt
       → (passTwo program ≡ refusal number r) ↔ FirstFault (signatures program) (firstNode program) (program .functions) number r
-  -- .. and that is the only one.
+  -- .. and there is only one first fault.
   pub only-one :
       (program : Program) (number r number′ r′ : ℕ)
       → Lawful program
@@ -177,13 +177,13 @@ pub record OrderChecker : Type 0 where
       → passTwo program ≡ refusal outOfOrder r
       → Every (TypedFunction (signatures program)) (program .functions)
       → ⊥
-  -- It is that function whose record is reported.
+  -- That function is the one with the record of the refusal.
   pub untyped-there :
       (program : Program) (r : ℕ)
       → passTwo program ≡ refusal outOfOrder r
       → Untyped (signatures program) r (firstNode program) (program .functions)
-  -- Where every body has one, it refuses nothing but 12: the limit of 16 pending is all that the
-  -- checker asks besides.
+  -- Where every body has a derivation, pass two refuses nothing but 12: the limit of 16 pending is
+  -- all that it requires besides.
   pub only-full :
       (program : Program) (number r : ℕ)
       → Every (TypedFunction (signatures program)) (program .functions)
@@ -191,8 +191,8 @@ pub record OrderChecker : Type 0 where
       → number ≡ tooManyPending
   -- The rules in Typing admit the same functions as Figure 6 in printed form.
   pub printed : (gs : List Signature) (f : Function) → TypedFunction gs f ↔ JudgedFunction gs (signatureOf f) f
-  -- Where there is one function, that is T-Fix itself: its fixed point has the function's type
-  -- under no names.
+  -- For a program of one function this is T-Fix itself: the fixed point has the function's type,
+  -- with no names bound.
   pub fixed :
       (f : Function)
       → TypedFunction (signatureOf f ∷ []) f ↔ Judges [] [] (fix (functionName 0) (functionTerm f)) (functionType (signatureOf f))

@@ -1,4 +1,5 @@
--- 01, Pass one: "Pass one, in prefix order, at each record: name bound, then type, then words."
+-- Pass one: names, types and words. 01, Pass one: "Pass one, in prefix order, at each record: name
+-- bound, then type, then words."
 use Prim.Native.Nat.{ℕ, zero, suc, max}
 use mathlib.Core.Bool.{Bool, true, false}
 use mathlib.Core.List.{List, [], _∷_}
@@ -14,7 +15,7 @@ use Rattle.rules.specs.Types.{isInt, isTree, fits}
 use Rattle.rules.specs.Scopes.{Scope, scope, Entry, entry, enteredAll}
 use Rattle.rules.specs.Limits.{mostFrameWords}
 
--- The name is bound.
+-- Whether the name that the record uses is bound; most kinds use none.
 unfoldable pub named : Scope → Kind → Bool
 named (scope g n w τ) (Const i) = true
 named (scope g n w τ) (Var a) = ltb a g
@@ -26,7 +27,8 @@ named (scope g n w τ) Node = true
 named (scope g n w τ) (Case a) = ltb a n
 named (scope g n w τ) (Call a b) = ltb a n
 
--- The type is the one expected; IfZero, Let and Case have the type of their parts.
+-- Whether the record has the type that is expected. IfZero, Let and Case have the type of their
+-- parts, so any is right.
 unfoldable pub typed : List Signature → Scope → Kind → Bool
 typed gs (scope g n w τ) (Const i) = isInt τ
 typed gs (scope g n w τ) (Var a) = isInt τ
@@ -38,7 +40,7 @@ typed gs (scope g n w τ) Node = isTree τ
 typed gs (scope g n w τ) (Case a) = true
 typed gs (scope g n w τ) (Call a b) = elim (nth gs b) [ none ↦ false | some s ↦ fits (s .sort) τ ]
 
--- A number-valued function with no arguments.
+-- Whether a function gives a number and has no number parameters.
 unfoldable pub bareNumber : Signature → Bool
 bareNumber s = elim (s .sort) [ treeValued ↦ false | numberValued ↦ elim (s .parameters) [ zero ↦ true | suc k ↦ false ] ]
 
@@ -55,20 +57,22 @@ wordsTested gs Node = false
 wordsTested gs (Case a) = true
 wordsTested gs (Call a b) = elim (nth gs b) [ none ↦ false | some s ↦ bareNumber s ]
 
+-- Whether there is room for one word more, where the words are tested.
 unfoldable pub roomy : List Signature → Scope → Kind → Bool
 roomy gs (scope g n w τ) kind = elim (wordsTested gs kind) [ true ↦ ltb w mostFrameWords | false ↦ true ]
 
--- A condition that holds, or its refusal at record r.
+-- Passed where the condition holds, else its refusal at record r.
 abbrev pub holdsAt : Bool → ℕ → ℕ → Result (Unit {0})
 holdsAt condition number r = check condition number r tt
 
--- A record's own tests.
+-- The tests of one record, in their order.
 unfoldable pub atEntry : List Signature → Entry → Result (Unit {0})
 atEntry gs (entry sc r kind) =
     andThen
     (holdsAt (named sc kind) notBound r)
     (λ u. andThen (holdsAt (typed gs sc kind) wrongType r) (λ v. holdsAt (roomy gs sc kind) tooManyWords r))
 
+-- The tests of one record after the other.
 unfoldable pub passOver : List Signature → List Entry → Result (Unit {0})
 passOver gs [] = done tt
 passOver gs (x ∷ xs) = andThen (atEntry gs x) (λ u. passOver gs xs)
@@ -89,23 +93,25 @@ pub data Fails (gs : List Signature) : Entry → ℕ → ℕ → Type 0 where
       → roomy gs sc kind ≡ false
       → Fails gs (entry sc r kind) tooManyWords r
 
--- All three hold.
+-- All three conditions hold at a record.
 pub data AllHold (gs : List Signature) : Entry → Type 0 where
   all-three : {sc : Scope} {r : ℕ} {kind : Kind} → named sc kind ≡ true → typed gs sc kind ≡ true → roomy gs sc kind ≡ true → AllHold gs (entry sc r kind)
 
--- The first record, in this order, at which a condition fails.
+-- A condition fails at a record, and all three hold at each record before it.
 pub data FirstFails (gs : List Signature) : List Entry → ℕ → ℕ → Type 0 where
   here : {x : Entry} {xs : List Entry} {number r : ℕ} → Fails gs x number r → FirstFails gs (x ∷ xs) number r
   later : {x : Entry} {xs : List Entry} {number r : ℕ} → AllHold gs x → FirstFails gs xs number r → FirstFails gs (x ∷ xs) number r
 
 -- ---- the limit of 16 words
 
--- 01, Words: "The word count is that of the value stack above the frame's base". The most words
--- that stand while an expression is taken, w on entering it. A number is left on a word.
+-- The words that stand once a value is found, where w stood before: a number is left on a word, a
+-- tree is not.
 unfoldable pub wordsWithValue : Sort → ℕ → ℕ
 wordsWithValue numberValued w = suc w
 wordsWithValue treeValued w = w
 
+-- The most words that stand while an expression is taken, where w stand on entering it. 01, Words:
+-- "The word count is that of the value stack above the frame's base".
 unfoldable mutual
   pub wordsOf : List Signature → ℕ → Expr → ℕ
   wordsOf gs w (const i) = suc w

@@ -1,4 +1,5 @@
--- 01, Pass two: "The pending trees are a list of at most 16 numbers, at first the parameter alone."
+-- Pass two: trees are taken in order, each once. 01, Pass two: "The pending trees are a list of at
+-- most 16 numbers, at first the parameter alone."
 use Prim.Native.Nat.{ℕ, suc, _+_}
 use mathlib.Core.Bool.{Bool, true, false, _&&_}
 use mathlib.Core.List.{List, [], _∷_}
@@ -12,23 +13,26 @@ use Rattle.formats.specs.Blocks.{flatIn}
 use Rattle.rules.specs.Limits.{mostPending}
 use Rattle.rules.specs.PassOne.{holdsAt, passOne}
 
--- 01, Pass two: "11 not the head", at the record. What is left when the tree is taken.
+-- What is left of the list when record r takes tree a. 01, Pass two: "11 not the head", at the
+-- record.
 unfoldable pub takeHead : ℕ → ℕ → List ℕ → Result (List ℕ)
 takeHead a r [] = refusal outOfOrder r
 takeHead a r (x ∷ rest) = check (eqb x a) outOfOrder r rest
 
+-- Whether two lists are equal.
 unfoldable pub sameNames : List ℕ → List ℕ → Bool
 sameNames [] [] = true
 sameNames [] (y ∷ ys) = false
 sameNames (x ∷ xs) [] = false
 sameNames (x ∷ xs) (y ∷ ys) = eqb x y && sameNames xs ys
 
--- 01, Pass two: "Both branches of Case or IfZero must end with equal lists, compared once both are
--- through", 11 at the Case or IfZero.
+-- The list with which both branches end. 01, Pass two: "Both branches of Case or IfZero must end
+-- with equal lists, compared once both are through", else 11 at record r, the Case or IfZero.
 unfoldable pub equalBranches : ℕ → Result (List ℕ) → Result (List ℕ) → Result (List ℕ)
 equalBranches r one other = andThen one (λ Δ₁. andThen other (λ Δ₂. check (sameNames Δ₁ Δ₂) outOfOrder r Δ₂))
 
--- From the list before the expression at record r to the list after it; n tree names are bound.
+-- From the pending trees before the expression at record r to those after it; n tree names are
+-- bound.
 unfoldable mutual
   pub walk : ℕ → ℕ → List ℕ → Expr → Result (List ℕ)
   walk n r Δ (const i) = done Δ
@@ -54,12 +58,13 @@ unfoldable mutual
   walkArgs n r Δ noArgs = done Δ
   walkArgs n r Δ (arg x xs) = andThen (walk n r Δ x) (λ Δ′. walkArgs n (r + size x) Δ′ xs)
 
--- 01, Pass two: "a function ends with none", 11 "at the function's first node", record r.
+-- A function leaves no tree. 01, Pass two: "a function ends with none", else 11 "at the function's
+-- first node", record r.
 unfoldable pub noneLeft : ℕ → List ℕ → Result (Unit {0})
 noneLeft r [] = done tt
 noneLeft r (x ∷ xs) = refusal outOfOrder r
 
--- One function after the other, the first node of the first at record r.
+-- One function after the other. The first node of the first one is record r.
 unfoldable pub walkAll : ℕ → List Function → Result (Unit {0})
 walkAll r [] = done tt
 walkAll r (f ∷ fs) =

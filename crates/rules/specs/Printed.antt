@@ -7,7 +7,7 @@ use Rattle.formats.specs.Programs.{Expr, const, var, add, ifZero, letIn, leafOf
 use Rattle.rules.specs.Types.{Ty, Int, Tree⁻, Tree⁺, arrow, functionType}
 
 -- Variables. 000, section 2.1: "bound variables are always different from each other and free
--- variables"; names counted along the path are.
+-- variables"; names that are counted along the path are different.
 pub data Name : Type 0 where
   numberName : ℕ → Name
   treeName : ℕ → Name
@@ -125,7 +125,7 @@ unfoldable mutual
       case (name (treeName a)) (numberName g) (termOf (suc g) n p) (treeName n) (treeName (suc n)) (termOf g (suc (suc n)) q)
   termOf g n (call a b xs) = app (applied g n (name (functionName b)) xs) (name (treeName a))
 
-  -- A term applied to arguments, one after the other.
+  -- The term M applied to arguments, one after the other.
   pub applied : ℕ → ℕ → Term → Args → Term
   applied g n M noArgs = M
   applied g n M (arg x xs) = applied g n (app M (termOf g n x)) xs
@@ -139,12 +139,12 @@ lams k (suc j) M = lam (numberName k) (lams (suc k) j M)
 unfoldable pub functionTerm : Function → Term
 functionTerm f = lams 0 (f .parameters) (lam (treeName 0) (termOf (f .parameters) 1 (f .body)))
 
--- Γ with the names of functions, the first of them number b, each with its type.
+-- The bindings of functions for Γ, each function's name with its type. The first one is function b.
 unfoldable pub functionNames : ℕ → List Signature → List Binding
 functionNames b [] = []
 functionNames b (s ∷ ss) = has (functionName b) (functionType s) ∷ functionNames (suc b) ss
 
--- T-Fix for functions that call each other: with all their names in Γ at once, the function's term
--- has its name's type.
+-- T-Fix for functions that call each other: with the names of all functions in Γ, the function's
+-- term has the type of its name.
 abbrev pub JudgedFunction : List Signature → Signature → Function → Type 0
 JudgedFunction gs s f = Judges (functionNames 0 gs) [] (functionTerm f) (functionType s)

@@ -8,20 +8,21 @@ use Rattle.formats.specs.Records.{Kind, Const, Var, Add, IfZero, Let, Leaf, Nod
 use Rattle.formats.specs.Programs.{Expr, const, var, add, ifZero, letIn, leafOf, nodeOf, caseOf, call, Args, noArgs, arg, size, Function}
 use Rattle.rules.specs.Types.{Ty, Int, Tree⁺, resultType}
 
--- Number names and tree names bound, words above the frame's base, and the type expected.
+-- How many number names and tree names are bound, how many words stand above the frame's base, and
+-- the type that is expected.
 pub data Scope : Type 0 where
   scope : (numbers trees words : ℕ) (expected : Ty) → Scope
 
--- 01, Names: "Names count from 0 along the path: parameters first". The numbers given are a frame's
--- first words.
+-- What is known on entering a function's body. 01, Names: "Names count from 0 along the path:
+-- parameters first". Its number parameters are the first words of the frame.
 unfoldable pub startOf : Function → Scope
 startOf f = scope (f .parameters) 1 (f .parameters) (resultType (f .sort))
 
--- On entering part i of a record, counted from 0. 01, Names: "Let's body and Case's leaf part add
--- one number name, Case's node part two tree names". 01, Pass one: "Add's parts, tests, Let's first
--- part, Leaf's part and arguments are numbers; Node's parts are trees; other parts take the type
--- expected of the whole." A number found before stands on a word of its own, as does a name's; a
--- test's word is gone.
+-- What is known on entering part i of a record, counted from 0. 01, Names: "Let's body and Case's
+-- leaf part add one number name, Case's node part two tree names". 01, Pass one: "Add's parts,
+-- tests, Let's first part, Leaf's part and arguments are numbers; Node's parts are trees; other
+-- parts take the type expected of the whole." A number of an earlier part stands on a word of its
+-- own, and so does the number of a name. The word of a test is gone.
 unfoldable pub inside : Kind → ℕ → Scope → Scope
 inside (Const c) i sc = sc
 inside (Var a) i sc = sc
@@ -37,7 +38,7 @@ inside (Case a) zero (scope g n w τ) = scope (suc g) n (suc w) τ
 inside (Case a) (suc i) (scope g n w τ) = scope g (suc (suc n)) w τ
 inside (Call a b) i (scope g n w τ) = scope g n (w + i) Int
 
--- The same by what part i is, whatever the record's kind (OrderChecker: `part-scopes`).
+-- The same from what part i is, whatever the record's kind (OrderChecker: `part-scopes`).
 unfoldable pub partScope : Part → ℕ → Scope → Scope
 partScope aNumber i (scope g n w τ) = scope g n (w + i) Int
 partScope aTree i (scope g n w τ) = scope g n w Tree⁺
@@ -66,7 +67,8 @@ pub data PartTyped : Parts → ℕ → Ty → Ty → Type 0 where
 pub data Entry : Type 0 where
   entry : (known : Scope) (at-record : ℕ) (kind : Kind) → Entry
 
--- The records of the expression at record r, in prefix order.
+-- The records of the expression at record r, in prefix order, each with what is known on entering
+-- it.
 unfoldable mutual
   pub entered : Scope → ℕ → Expr → List Entry
   entered sc r (const i) = entry sc r (Const i) ∷ []
@@ -88,7 +90,7 @@ unfoldable mutual
   enteredArgs kind i sc r noArgs = []
   enteredArgs kind i sc r (arg x xs) = entered (inside kind i sc) r x ++ enteredArgs kind (suc i) sc (r + size x) xs
 
--- The nodes of functions, the first of them at record r.
+-- The same for all nodes of these functions. The first node of the first one is record r.
 unfoldable pub enteredAll : ℕ → List Function → List Entry
 enteredAll r [] = []
 enteredAll r (f ∷ fs) = entered (startOf f) r (f .body) ++ enteredAll (r + size (f .body)) fs

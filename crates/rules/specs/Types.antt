@@ -1,4 +1,4 @@
--- 000, section 3.1: types.
+-- 000, section 3.1: types, and the types of functions.
 use Prim.Native.Nat.{ℕ, zero, suc}
 use mathlib.Core.Bool.{Bool, true, false}
 use Rattle.formats.specs.Programs.{Sort, numberValued, treeValued, Signature}
@@ -16,7 +16,7 @@ unfoldable pub resultType : Sort → Ty
 resultType numberValued = Int
 resultType treeValued = Tree⁺
 
--- A function takes so many numbers, then its tree.
+-- The type of a function that takes so many numbers, then its tree.
 unfoldable pub arrows : ℕ → Ty → Ty
 arrows zero result = arrow Tree⁻ result
 arrows (suc k) result = arrow Int (arrows k result)
@@ -30,13 +30,14 @@ isInt Tree⁻ = false
 isInt Tree⁺ = false
 isInt (arrow σ τ) = false
 
+-- Whether the type is that of output trees, Tree⁺. Tree⁻, that of input trees, does not count.
 unfoldable pub isTree : Ty → Bool
 isTree Int = false
 isTree Tree⁻ = false
 isTree Tree⁺ = true
 isTree (arrow σ τ) = false
 
--- A value of this sort has the type.
+-- Whether a value of this sort has the type.
 unfoldable pub fits : Sort → Ty → Bool
 fits numberValued τ = isInt τ
 fits treeValued τ = isTree τ

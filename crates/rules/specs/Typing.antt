@@ -1,14 +1,14 @@
 -- 000, Figure 6, for the programs of 01, Program file: the rules of the typing judgement, under
 -- their names.
 --
--- A judgement Γ | Δ ⊢ M : τ is `Types gs g n Δ e τ`. Γ holds the types of all functions (gs: a
--- function's term may use every one of them, as T-Fix has it for one), and number names 0 to g − 1,
--- each an Int. Δ, the ordered linear type environment, is the list of its tree names. n is the
--- number of tree names bound so far: names count along the path (01, Names), so Case's node part
--- binds n and n + 1.
+-- A judgement Γ | Δ ⊢ M : τ is `Types gs g n Δ e τ`. Γ has the types of all functions, which are
+-- those of the signatures gs: a function may use every one of them, as with T-Fix it may use
+-- itself. Γ also has number names 0 to g − 1, each an Int. Δ, the ordered linear type environment,
+-- is the list of its tree names. n is the number of tree names bound so far: names count along the
+-- path (01, Names), so Case's node part binds n and n + 1.
 --
--- The theorem stands beside this file: OrderChecker.antt, field `passes`. The checker passes
--- precisely what these rules admit, within the limits.
+-- The theorem is in OrderChecker.antt, field `passes`: within the limits, the checker passes
+-- precisely what these rules admit.
 use Prim.Native.Nat.{ℕ, suc, _<_}
 use mathlib.Core.List.{List, [], _∷_, _++_}
 use mathlib.Core.Option.{some}
@@ -17,7 +17,7 @@ use Rattle.formats.specs.Records.{nth}
 use Rattle.formats.specs.Programs.{Expr, const, var, add, ifZero, letIn, leafOf, nodeOf, caseOf, call, Args, noArgs, arg, Signature, Function}
 use Rattle.rules.specs.Types.{Ty, Int, Tree⁻, Tree⁺, arrow, resultType, functionType}
 
--- The judgement for the tree name that a Case or a Call has.
+-- The judgement for the tree name of a Case or a Call.
 pub data TypesName : List ℕ → ℕ → Ty → Type 0 where
   -- Γ | x : Tree⁻ ⊢ x : Tree⁻
   T-Var1 : {x : ℕ} → TypesName (x ∷ []) x Tree⁻

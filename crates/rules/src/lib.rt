@@ -1,2 +1,2 @@
-// Definitions and theorems, and no code: 01, Checking, and the typing rules of 000, Figure 6. See
-// specs/.
+// No code: definitions of 01, Checking, and of the typing rules of 000, Figure 6 (specs/), and
+// theorems about them (proofs/).

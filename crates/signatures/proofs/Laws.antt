@@ -1,5 +1,5 @@
--- The fields of the header stand at the start; those of function b's record after the header and
--- the records of the functions before it.
+-- Laws of where the fields stand: those of the header at the start, those of function b's record
+-- after the header and the records of the functions before it.
 use Prim.Native.Nat.{ℕ, suc, _+_, _*_}
 use mathlib.Core.List.{List}
 use mathlib.Core.Path.{_≡_, ap, _∙_}
@@ -25,7 +25,7 @@ pub ruleset header-read = (functions-are, nodes-are)
 -- ---- a function's record
 
 module _ (s : List ℕ) (b n : ℕ) where
-  -- the record's place, as the code has it
+  -- the record's offset, as the code has it
   position : recordBytes * (1 + b) ≡ recordBytes * suc b
   position = omega arith
 

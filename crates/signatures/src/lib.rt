@@ -1,4 +1,4 @@
-// The fields of the header and of function records, right or not, read from flat records, 8 bytes
+// The fields of the header and of function records, right or not, read from flat records of 8 bytes
 // each. What is not there reads as 0.
 ghost use mathlib.Core.Path.{_≡_};
 ghost use Rattle.formats.specs.Inner.Fields.{headerIn, sortIn, arityIn, countIn};

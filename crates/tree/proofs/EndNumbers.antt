@@ -1,6 +1,6 @@
--- A law for each way out of the functions that find the end of a tree. What stands at a position
--- where a tag is due says which refusal arises there; as one number, an end is at most the buffer's
--- length, and a refusal's number is larger, since a buffer has fewer than 2^63 bytes.
+-- A law for each way out of the functions that find the end of a tree. What stands where a tag is
+-- due says which refusal arises there. As one number, an end is at most the buffer's length, and a
+-- refusal is larger, since a buffer has fewer than 2^63 bytes.
 use Prim.Native.Nat.{ℕ, suc, _+_, _-_, _^_, _≤_, _<_}
 use mathlib.Core.List.{List}
 use mathlib.Core.Logic.{_≢_}
@@ -61,7 +61,7 @@ pub reported-stop : (s : List ℕ) (r : ℕ) → length s < r → endReported s 
 unfolding endReported
 reported-stop s r h = simp (endReported, lt-leb _ _ h)
 
--- a position within the buffer, reported as a refusal's
+-- the number that stands for a refusal at an offset within the buffer
 reported-position : (s : List ℕ) (p : ℕ) → p ≤ length s → length s < 2 ^ 63 → endReported s (allOnes - p) ≡ refusalAt s p
 reported-position s p h short =
     let back : allOnes - (allOnes - p) ≡ p = omega arith in
@@ -91,7 +91,7 @@ reported-left room s p l there is some left h =
     let stop : endReported s l ≡ refusal (f .number) (f .position) = reported-stop s l h ∙ f .is in
     stop ∙ end-left room s p (f .number) (f .position) there is some (sym stop ∙ left)
 
--- a left tree that ends, and what comes of the right one
+-- a left tree that ends, and the outcome of the right one
 pub reported-right :
     (room : ℕ) (s : List ℕ) (p l r : ℕ)
     → p < length s
@@ -103,7 +103,7 @@ pub reported-right :
     → endReported s r ≡ endAt room s p
 reported-right room s p l r there is some left h right = end-right room s p l (endReported s r) there is some (sym (reported-end s l h) ∙ left) right
 
--- a tree that ends does so after its first place
+-- a tree ends after the offset where it begins
 pub reported-after : (room : ℕ) (s : List ℕ) (p l : ℕ) → endReported s l ≡ endAt room s p → l ≤ length s → p < l
 reported-after room s p l reported h = end-after room s p l (sym (reported-end s l h) ∙ reported)
 

@@ -1,4 +1,4 @@
--- A law for each way out of the tree reader's functions, by what the one number reports.
+-- A law for each way out of the tree reader's functions, by what the one number stands for.
 use Prim.Native.Nat.{ℕ, _-_, _≤_, _<_}
 use mathlib.Core.List.{List, []}
 use mathlib.Core.Path.{_≡_, sym, _∙_}

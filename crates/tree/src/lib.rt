@@ -1,5 +1,5 @@
-// 01, The tree reader: the first tree of a buffer as a part of it, and beside it the refusal with
-// its position.
+// 01, The tree reader: the first tree of a buffer as a part of it; or where that tree ends, or the
+// refusal with its position.
 use refusal::Refusal;
 ghost use mathlib.Core.Path.{_≡_};
 ghost use Rattle.formats.specs.Tokens.{firstEnd, firstTree, ownBytes};
@@ -17,21 +17,21 @@ const LEAF_BYTES: usize = 5;
 // The most nodes above a leaf.
 const MOST_DEPTH: usize = 1024;
 
-// What the tree reader finds. `treeResult` gives each case the document's number and values.
+// What the tree reader finds. `treeResult` gives each case its number and values.
 pub enum TreeAnswer {
     // A tree, and where it ends.
     Tree(usize),
-    // Why there is none, and the position.
+    // Why there is none, and the position of the refusal.
     Refused(Refusal, usize),
 }
 
-// Where the tree ends that begins at `at`, with room for at most `room` nodes above its leaves: a
-// node's left tree first, then its right tree, which begins where the left one ends. The bytes left
-// fall at each call, and the calls nest no deeper than the room.
+// The end of the tree that begins at offset `at`, with room for at most `room` nodes above its
+// leaves. A node's left tree is taken first, then its right tree, which begins where the left one
+// ends. The bytes left fall at each call, and the calls nest no deeper than the room.
 //
-// The answer is one number (`endReported` says how), and the slice comes by a reference to it, so
-// that all passes in registers: with an enum for the answer and the slice itself the reader takes
-// 1.6 to 2.2 times as long.
+// The answer is one number (`endReported` says how), and the slice is passed by a reference to it,
+// so that all is passed in registers. With an enum for the answer and the slice itself the reader
+// takes 1.6 to 2.2 times as long.
 fn tree_end(input: &&[u8], at: usize, room: usize) -> usize
     requires { ⌜ InBuffer (now (now input)) at ⌝ }
     ensures { λ r. ⌜ endReported (now (now (input .entry))) r ≡ endAt room
@@ -61,14 +61,14 @@ fn tree_end(input: &&[u8], at: usize, room: usize) -> usize
     tree_end(input, end, room - 1)
 }
 
-// Where the first tree ends, or where it is refused (`endReported` says how).
+// Where the first tree ends, or where it is refused, as one number (`endReported` says how).
 fn first_end(input: &[u8]) -> usize
     ensures { λ r. ⌜ endReported (now (input .entry)) r ≡ firstEnd (now (input .entry)) ⌝ }
 {
     tree_end(&input, 0, MOST_DEPTH)
 }
 
-// The refusal that arises where the tag at `at` is due.
+// The refusal of a tree whose tag is due at offset `at`, by what stands there.
 fn refusal_at(input: &[u8], at: usize) -> TreeAnswer
     ensures { λ r. ⌜ treeResult r ≡ refusalAt (now (input .entry)) at ⌝ }
 {
@@ -85,7 +85,7 @@ fn refusal_at(input: &[u8], at: usize) -> TreeAnswer
     TreeAnswer::Refused(Refusal::NotATag, at)
 }
 
-// The first tree's length in bytes, or why there is none and the position.
+// The first tree's length in bytes, or why there is none and the position of the refusal.
 pub fn tree_answer(input: &[u8]) -> TreeAnswer
     ensures { λ r. ⌜ treeResult r ≡ firstEnd (now (input .entry)) ⌝ }
 {

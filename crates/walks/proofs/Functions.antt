@@ -1,5 +1,5 @@
--- A row that goes through a program's functions one after the other, for functions that do: what is
--- left of it at function j, whose body is at record k. `whole` is what the row says of a program,
+-- Laws for code that goes through a program's functions one after the other: what is left of the
+-- row at function j, whose body begins at record k. `whole` is what the row says of a program,
 -- `row` what it says of functions from a record on.
 use Prim.Native.Nat.{ℕ, suc, _+_, _≤_, _<_}
 use mathlib.Core.List.{List, [], _∷_, map}

@@ -1,5 +1,5 @@
--- Where the parts of an expression stand that stands here, and the first of parts that do. The
--- signatures are those of the whole: each is an `abbrev`, so that this is seen.
+-- For an expression that stands here (`Here`): where its parts stand, and the first of them. The
+-- signatures are those of the whole; each law is an `abbrev`, so that the checker sees this.
 use Prim.Native.Nat.{ℕ, suc, _+_}
 use mathlib.Core.List.{List, _∷_}
 use mathlib.Core.Path.{_≡_}

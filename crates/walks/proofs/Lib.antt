@@ -1,4 +1,4 @@
--- The laws that the proofs of such functions cite.
+-- Laws for the proofs of functions that walk a program's records.
 pub mod Walks
 pub mod Lists
 pub mod Functions

@@ -10,7 +10,7 @@ use Rattle.rules.specs.PassTwo.{takeHead, walk, walkArgs}
 use Rattle.walks.specs.Inner.Standing.{headOf, Holds, Row, end, next, walkParts}
 use Rattle.walks.proofs.Walks.{then-nothing}
 
--- what follows may be said in another way
+-- the continuation may be replaced by one that gives the same
 then-same : {A B : Type 0} (r : Result A) (f g : A → Result B) → ((x : A) → f x ≡ g x) → andThen r f ≡ andThen r g
 then-same (done x) f g h = h x
 then-same (refusal number position) f g h = refl

@@ -154,13 +154,13 @@ pub row-upto : {s : List ℕ} {gs : List Signature} {k m : ℕ} {ps : List Place
 row-upto end = omega arith
 row-upto (next here later) = let after-it = row-upto later in omega arith
 
--- as many as there are arguments
+-- a Call has as many parts as arguments ..
 pub length-args : (k : ℕ) (xs : Args) → length (argsAt k xs) ≡ countArgs xs
 unfolding argsAt countArgs
 length-args k noArgs = refl
 length-args k (arg x xs) = ap suc (length-args (k + size x) xs)
 
--- .. and as many as the record says
+-- .. and a record has as many parts as its kind says
 pub parts-counted : (s : List ℕ) (gs : List Signature) (k : ℕ) (e : Expr) → Known s gs → Holds s gs k e
     → length (partsAt k e) ≡ partCount (arityIn s) (partsOf (headOf e))
 unfolding partsAt partCount partsOf headOf arityOf

@@ -1,3 +1,3 @@
--- What the functions share that walk a program's records: pass one, pass two, the translator and
+-- What the functions that walk a program's records share: pass one, pass two, the translator and
 -- the decoder.
 pub mod Inner

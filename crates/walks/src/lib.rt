@@ -1,2 +1,2 @@
-// Definitions and theorems, and no code: what the functions share that walk a program's records.
-// See specs/.
+// No code: what the functions that walk a program's records share: definitions (specs/), and
+// theorems about them (proofs/).

@@ -17,7 +17,7 @@ pub record Copied (s : List ℕ) (p : ℕ) (vs t : List ℕ) (k : ℕ) : Type 0 
 pub copy-none : (s : List ℕ) (p : ℕ) (vs : List ℕ) → Copied s p vs s 0
 copy-none s p vs = record { within = omega arith; same-length = refl; so-far = sym (written-none s p) }
 
--- one more after those that are there
+-- one more byte is copied, right after those that are there
 pub copy-more :
     (s : List ℕ) (p : ℕ) (vs t : List ℕ) (k : ℕ)
     → length vs ≤ length s
@@ -41,18 +41,18 @@ copy-more s p vs t k small fits more c =
           ∙ ap (written s p) (sym one);
     }
 
--- the offset of the next byte is within
+-- the next byte goes to an offset within the buffer
 pub copy-offset : (s : List ℕ) (p : ℕ) (vs t : List ℕ) (k : ℕ) → length vs ≤ length s → p ≤ length s - length vs → k < length vs → Copied s p vs t k → p + k < length t
 copy-offset s p vs t k small fits more c = omega (arith, c .same-length)
 
 pub copy-length : (s : List ℕ) (p : ℕ) (vs t : List ℕ) (k : ℕ) → Copied s p vs t k → length t ≡ length s
 copy-length s p vs t k c = c .same-length
 
--- all are there
+-- all bytes are copied
 pub copy-all : (s : List ℕ) (p : ℕ) (vs t : List ℕ) (k : ℕ) → length vs ≤ k → Copied s p vs t k → t ≡ written s p vs
 copy-all s p vs t k all c = c .so-far ∙ ap (written s p) (take-all k vs all)
 
--- they do not fit, for their number or for their place
+-- the bytes do not fit: there are too many, or the offset is too near the end
 pub copy-long : (s : List ℕ) (p : ℕ) (vs : List ℕ) → length s < length vs → s ≡ written s p vs
 copy-long s p vs h = sym (written-short s p vs (omega arith))
 

@@ -1,5 +1,5 @@
--- `block_check::word_sum` meets its contract. Before each turn the words passed are in the sum, and
--- those left make it whole; they fall.
+-- `block_check::word_sum` meets its contract. Before each turn of the loop the words passed are in
+-- the sum, and those left make it whole. The measure is the number of words left.
 use Prim.Native.Nat.{_-_}
 use borrow.Author.Needs.{needs}
 use Rattle.block_check.proofs.Checks.{Summed, summed}

@@ -1,5 +1,5 @@
--- `block_check::zero_between` meets its contract. Before each turn the bytes passed are zero, so
--- that those left decide; they fall.
+-- `block_check::zero_between` meets its contract. Before each turn of the loop the bytes passed are
+-- zero, so those left decide. The measure is the number of bytes left.
 use Prim.Native.Nat.{_-_}
 use borrow.Author.Needs.{needs}
 use Rattle.block_check.proofs.Checks.{Zeroed, zeroed}

@@ -1,5 +1,5 @@
--- `block_reader::each_block` meets its contract. Before each turn the blocks passed are right, so
--- that those left decide; they fall.
+-- `block_reader::each_block` meets its contract. Before each turn of the loop the blocks passed are
+-- right, so those left decide. The measure is the number of blocks left.
 use borrow.Author.Needs.{needs}
 use Prim.Native.Nat.{_-_}
 use Rattle.block_reader.proofs.Rows.{RowsLeft, rows-reported}

@@ -1,5 +1,5 @@
--- `block_reader::flat_bytes` meets its contract: every block but the last is full, and the last has
--- the records that it says.
+-- `block_reader::flat_bytes` meets its contract: every block but the last is full, and the last one
+-- has as many records as it says.
 use borrow.Author.Needs.{needs}
 use Rattle.block_reader.proofs.Gathered.{some-block, last-block, flat-length}
 use Rattle.block_reader.proofs.flat_bytes.Statement.{statement}

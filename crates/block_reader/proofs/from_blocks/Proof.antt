@@ -1,5 +1,5 @@
--- `block_reader::from_blocks` meets its contract: the rows refuse, or all is written; a law of
--- proofs/Gathered.antt for each.
+-- `block_reader::from_blocks` meets its contract: the block rows refuse, or all flat records are
+-- written. Each way out is a law of proofs/Gathered.antt.
 use borrow.Author.Needs.{needs}
 use Rattle.block_reader.proofs.Gathered.{taken-out}
 use Rattle.block_reader.proofs.from_blocks.Statement.{statement}

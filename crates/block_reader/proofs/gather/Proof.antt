@@ -1,5 +1,5 @@
--- `block_reader::gather` meets its contract. Before each turn the parts of the blocks passed stand
--- one after the other; the blocks left fall.
+-- `block_reader::gather` meets its contract. Before each turn of the loop the parts of the blocks
+-- passed stand one after the other. The measure is the number of blocks left.
 use borrow.Author.Needs.{needs}
 use Prim.Native.Nat.{_-_}
 use Rattle.block_reader.proofs.Gathered.{Gathered, gathered}

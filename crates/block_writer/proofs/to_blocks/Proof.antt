@@ -1,5 +1,5 @@
--- `block_writer::to_blocks` meets its contract: the buffer is too short, or the file is written; a
--- law of proofs/Laid.antt for each.
+-- `block_writer::to_blocks` meets its contract: the buffer is too short, or the file is written.
+-- Each way out is a law of proofs/Stored.antt.
 use borrow.Author.Needs.{needs}
 use Rattle.block_writer.proofs.Stored.{stored-out}
 use Rattle.block_writer.proofs.to_blocks.Statement.{statement}

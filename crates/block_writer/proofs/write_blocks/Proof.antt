@@ -1,5 +1,5 @@
--- `block_writer::write_blocks` meets its contract. Before each turn the blocks passed stand one
--- after the other; those left fall.
+-- `block_writer::write_blocks` meets its contract. Before each turn of the loop the blocks passed
+-- stand one after the other. The measure is the number of blocks left.
 use borrow.Author.Needs.{needs}
 use Prim.Native.Nat.{_-_}
 use Rattle.block_writer.proofs.Stored.{Stored, stored}

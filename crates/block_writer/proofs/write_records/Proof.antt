@@ -1,5 +1,4 @@
--- `block_writer::write_records` meets its contract: two writes, the one right after the other, are
--- one.
+-- `block_writer::write_records` meets its contract: two writes, one right after the other, are one.
 use borrow.Author.Needs.{needs}
 use Rattle.block_writer.proofs.Stored.{records-written}
 use Rattle.block_writer.proofs.write_records.Statement.{statement}

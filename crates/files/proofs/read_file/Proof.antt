@@ -1,5 +1,5 @@
--- `files::read_file` meets its contract: what the blocks gave stands at the start of the space, and
--- the rows go over it.
+-- `files::read_file` meets its contract: what the blocks gave stands at the start of the reader's
+-- own buffer, and the rows header to prefix form are tested there.
 use borrow.Author.Needs.{needs}
 use lib.Seq.{length-take-le}
 use Rattle.files.proofs.Laws.{read-ways}

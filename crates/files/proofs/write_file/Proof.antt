@@ -1,4 +1,4 @@
--- `files::write_file` meets its contract: the rows refuse, or the file is laid out.
+-- `files::write_file` meets its contract: the rows refuse, or the file is written block by block.
 use borrow.Author.Needs.{needs}
 use Rattle.files.proofs.Laws.{write-ways}
 use Rattle.files.proofs.write_file.Statement.{statement}

@@ -4,7 +4,7 @@ use mathlib.Core.List.{List}
 use Rattle.formats.specs.Results.{Result, andThen}
 use Rattle.formats.specs.Blocks.{partBytes, programRecords, mostBlocks, inRoom}
 
--- The bytes of flat records that the most blocks hold.
+-- The most bytes of flat records: those of 17 full blocks.
 abbrev pub mostBytes : ℕ
 mostBytes = partBytes * mostBlocks
 
@@ -12,5 +12,6 @@ mostBytes = partBytes * mostBlocks
 abbrev pub checkOffset : ℕ
 checkOffset = 510
 
+-- The flat records r, where they are a program and fit a buffer of `room` bytes.
 unfoldable pub programInto : ℕ → List ℕ → Result (List ℕ)
 programInto room r = andThen (programRecords r) (inRoom room)

@@ -1,9 +1,9 @@
--- Lent buffers, for the functions that fill them.
+-- Arrays that are filled from the front and listed from the back.
 use Prim.Native.Nat.{ℕ, zero, suc}
 use mathlib.Core.List.{List, [], _∷_}
 use lib.ListN.{getD}
 
--- So many entries of an array, the last of them first.
+-- The first l entries of an array, the last of them first.
 unfoldable pub fromLast : List ℕ → ℕ → List ℕ
 fromLast entries zero = []
 fromLast entries (suc l) = getD entries l 0 ∷ fromLast entries l

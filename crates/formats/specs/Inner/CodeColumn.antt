@@ -4,7 +4,7 @@ use Prim.Native.Nat.{ℕ, zero, suc}
 use mathlib.Core.List.{List, [], _∷_}
 use Rattle.formats.specs.Records.{Kind, Const, Var, Add, IfZero, Let, Leaf, Node, Case, Call}
 
--- An item of the column that is no part. Where the column goes to L, the last part begins there; M
+-- An item of the column that is not a part. In the column, L is where the last part begins, and M
 -- is after the whole.
 pub data Item : Type 0 where
   -- "push i"

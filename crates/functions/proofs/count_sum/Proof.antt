@@ -1,5 +1,5 @@
--- `functions::count_sum` meets its contract: the counts below j are summed, and those from j on are
--- missing. What is left of them falls.
+-- `functions::count_sum` meets its contract. Before each turn of the loop the counts below j are in
+-- the sum, and those from j on are missing. The measure is the number of functions left.
 use Prim.Native.Nat.{_-_}
 use Rattle.functions.proofs.Functions.{Summed, summed}
 use borrow.Author.Needs.{needs}

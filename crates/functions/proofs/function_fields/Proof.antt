@@ -1,5 +1,5 @@
--- `functions::function_fields` meets its contract: the functions below j have passed, so those from
--- j on say what all do. What is left of them falls.
+-- `functions::function_fields` meets its contract. Before each turn of the loop the functions below
+-- j have passed, so those from j on decide. The measure is the number of functions left.
 use Prim.Native.Nat.{_-_}
 use Rattle.formats.specs.Results.{verdict, each}
 use Rattle.formats.proofs.Results.{Passing}

@@ -1,5 +1,5 @@
--- `nodes::node_row` meets its contract: the nodes below record k have passed, so those from k on
--- say what all do. What is left of them falls.
+-- `nodes::node_row` meets its contract. Before each turn of the loop the nodes below record k have
+-- passed, so those from k on decide. The measure is the number of nodes left.
 use Prim.Native.Nat.{_-_}
 use Rattle.formats.specs.Results.{verdict}
 use Rattle.formats.specs.Rows.{nodeRow}

@@ -1,4 +1,4 @@
--- `numbers::signed` meets its contract. A word of the lower half is read off as it is; in the upper
+-- `numbers::signed` meets its contract. A word of the lower half is its own number. In the upper
 -- half the difference is the word's number.
 use mathlib.Core.Path.{_∙_}
 use native.Mathlib.Omega.{arith}

@@ -1,4 +1,4 @@
--- `parts::nth_part` meets its contract: one, two or three parts, or arguments.
+-- `parts::nth_part` meets its contract: none, one, two or three parts, or arguments.
 use borrow.Author.Needs.{needs}
 use Rattle.parts.proofs.Parts.{part-ways}
 use Rattle.parts.proofs.nth_part.Statement.{statement}

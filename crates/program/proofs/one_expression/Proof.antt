@@ -1,6 +1,6 @@
--- `program::one_expression` meets its contract: the records from k up to the end are as many
--- expressions as stand, and k falls. Where too few stand for the parts of the record in front,
--- there are none in the end.
+-- `program::one_expression` meets its contract. Before each turn of the loop the records from k up
+-- to the end are as many expressions as stand. Where too few stand for the parts of the record in
+-- front, there are none in the end. The measure is k.
 use Rattle.program.proofs.Expressions.{Standing, walked}
 use borrow.Author.Needs.{needs}
 use Rattle.program.proofs.one_expression.Statement.{statement}

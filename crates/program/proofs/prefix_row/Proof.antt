@@ -1,5 +1,6 @@
--- `program::prefix_row` meets its contract: the functions below j are one expression each, so those
--- from j on, whose records begin at the first, say what all do. What is left of them falls.
+-- `program::prefix_row` meets its contract. Before each turn of the loop the functions below j are
+-- one expression each, so those from j on, whose records begin at the first, decide. The measure is
+-- the number of functions left.
 use Prim.Native.Nat.{_-_}
 use Rattle.program.proofs.Bodies.{Bodied, bodies-checked}
 use borrow.Author.Needs.{needs}

@@ -1,5 +1,5 @@
--- `records::record_at` meets its contract: the fields are read where record k stands, and are those
--- of a node of the header's program.
+-- `records::record_at` meets its contract: the fields are read at the offset of record k, and are
+-- those of a node of the program that the header describes.
 use borrow.Author.Needs.{needs}
 use Rattle.records.proofs.Laws.{read-there}
 use Rattle.records.proofs.record_at.Statement.{statement}

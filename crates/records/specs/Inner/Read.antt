@@ -1,4 +1,5 @@
--- A record read, as 01, Nine kinds of record, has it: each case with its kind, operands and parts.
+-- A record read, as 01, Nine kinds of record, has it: each case of the enums with its kind,
+-- operands, parts and template.
 use Prim.Native.Nat.{ℕ, _+_, _*_, _≤_}
 use mathlib.Core.List.{List, [], _∷_}
 use mathlib.Core.Path.{_≡_}
@@ -86,16 +87,16 @@ shapeOf kind = record { kind = kind; parts = partsOf kind; template = templateOf
 abbrev pub shaped : Record → Parts → Template → Shape
 shaped r ps t = record { kind = meant r; parts = listed ps; template = columnOf t }
 
--- A record read: its kind, parts and template, or the refusal's number and place.
+-- A record read: its kind, parts and template, or the refusal's number and its position.
 abbrev pub described : RecordRead → Result Shape
 described (Read r ps t) = done (shaped r ps t)
 described (Refused why position) = refusal (number why) position
 
--- What these fields read as, in every edition.
+-- What a record with these fields is read as, in every edition.
 pub record OfKind (functions position kind a b i : ℕ) (r : RecordRead) : Type 0 where
   pub is : (edition : ℕ) → described r ≡ onValue shapeOf (nodeRecord edition functions position (fields kind a b i))
 
--- The fields read at offset p are those of record k.
+-- Record k may be read at offset p: its fields are the same there.
 pub record StandsAt (s : List ℕ) (k p : ℕ) : Type 0 where
   pub within : p ≤ length s
   pub byte-0 : getD s p 0 ≡ getD s (recordBytes * k) 0

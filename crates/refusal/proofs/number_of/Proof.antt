@@ -9,7 +9,7 @@ use Rattle.refusal.specs.Inner.Numbers.{number}
 use Rattle.refusal.proofs.number_of.Statement.{statement}
 use Rattle.refusal.proofs.number_of.Tie as tie
 
--- a refusal that is known to be q has the number of q
+-- a refusal that equals q has the number of q
 reported : (r q : Refusal) (n : ℕ) → r ≡ q → n ≡ number q → n ≡ number r
 reported r q n is e = e ∙ sym (ap number is)
 

@@ -14,8 +14,8 @@ abbrev pub filledResult : Filled → Result ℕ
 filledResult (Written bytes) = done bytes
 filledResult (Refused why position) = refusal (number why) position
 
--- Of the bytes that are to go into the buffer, or the refusal: the answer, and every byte of the
--- buffer.
+-- `due` is what is to go into the buffer: bytes, or a refusal. It decides the answer, and every
+-- byte of the buffer.
 pub record FilledBuffer (due : Result (List ℕ)) (before after : List ℕ) (r : Filled) : Type 0 where
   pub answer : filledResult r ≡ onValue length due
   pub buffer : after ≡ lent before due

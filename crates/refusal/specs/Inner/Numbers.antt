@@ -6,7 +6,6 @@ use Rattle.refusal.specs.declared.Refusal.the-variants.{OutOfOrder, TooM
 use Rattle.formats.specs.Refusals.{fileLength, blockCheck, blockField, headerField, functionField, nodeField, prefixForm, wrongType, notBound, tooManyWords}
 use Rattle.formats.specs.Refusals.{outOfOrder, tooManyPending, spaceTooShort, fuelUsedUp, inputEnded, notATag, outputFull, tooManyCalls, cannotPerform, tooDeep}
 
--- The number of a refusal.
 abbrev pub number : Refusal → ℕ
 number FileLength = fileLength
 number BlockCheck = blockCheck

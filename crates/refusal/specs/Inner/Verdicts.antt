@@ -1,5 +1,5 @@
--- What a check says, as 01, Where each refusal arises, has it: passed, or the refusal's number and
--- its position.
+-- The answer of a check, as 01, Where each refusal arises, has it: passed, or the refusal's number
+-- and its position.
 use Rattle.formats.specs.Results.{Result, done, refusal}
 use Rattle.refusal.specs.Inner.Numbers.{number}
 use Rattle.refusal.specs.declared.Verdict.{Verdict}

@@ -1,4 +1,4 @@
--- The end of a tree, or its refusal, reported by one number.
+-- The end of a tree, or its refusal, as one number.
 use Prim.Native.Nat.{ℕ, suc, _-_, _^_, _≤_, _<_}
 use mathlib.Core.Bool.{true, false}
 use mathlib.Core.List.{List}
@@ -19,7 +19,7 @@ refusalAt s p =
       | other ↦ refusal notATag p
     ]
 
--- A place of a buffer, or its end. A buffer has fewer than 2^63 bytes.
+-- An offset of a buffer, or its end. A buffer has fewer than 2^63 bytes.
 pub record InBuffer (s : List ℕ) (p : ℕ) : Type 0 where
   pub within : p ≤ length s
   pub short : length s < 2 ^ 63
@@ -28,7 +28,7 @@ pub record InBuffer (s : List ℕ) (p : ℕ) : Type 0 where
 abbrev pub allOnes : ℕ
 allOnes = 2 ^ 64 - 1
 
--- A number up to the buffer's length is an end. A larger one is all ones less the position of the
--- tag where the tree is refused.
+-- What the one number stands for. Up to the buffer's length it is an end. A larger one is all ones
+-- less the offset of the tag where the tree is refused.
 unfoldable pub endReported : List ℕ → ℕ → Result ℕ
 endReported s r = elim (leb r (length s)) [ true ↦ done r | false ↦ refusalAt s (allOnes - r) ]

@@ -12,7 +12,7 @@ use Rattle.rules.specs.PassOne.{passOver}
 use Rattle.rules.specs.PassTwo.{walk}
 use Rattle.walks.specs.Inner.Limits.{parametersOfAny}
 
--- gs are the signatures that the function records of s have.
+-- gs are the signatures in the function records of s.
 abbrev pub Known : List ℕ → List Signature → Type 0
 Known s gs = each (functionIn s) (headerIn s .functions) 0 ≡ done gs
 

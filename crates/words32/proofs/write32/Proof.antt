@@ -1,6 +1,6 @@
 -- `words32::write32` meets its contract. Where the number fits, its bytes are set one after the
--- other; a store keeps the length, so each is in range. Elsewhere nothing is set, and nothing is to
--- be written.
+-- other; a store keeps the length, so each is in range. Where it does not fit, nothing is set, and
+-- nothing is to be written.
 use native.Mathlib.Numerals.{towards-suc}
 use native.Mathlib.Omega.{arith}
 use lib.ListN.{length-set}

@@ -1,5 +1,5 @@
--- `writing::write_bytes` meets its contract. Before each turn as many bytes as were passed stand
--- where they belong; what is left of them falls.
+-- `writing::write_bytes` meets its contract. Before each turn of the loop the first k bytes stand
+-- where they belong. The measure is the number of bytes left.
 use Prim.Native.Nat.{_-_}
 use lib.ListN.{length}
 use Rattle.writing.proofs.Copied.{Copied, copied}

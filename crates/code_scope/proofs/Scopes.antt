@@ -26,7 +26,7 @@ use Rattle.code_scope.specs.Inner.Around.{around, partAround, mostNames,
 
 -- ---- `word_of`
 
--- past the entries there is none, below their number there is the array's
+-- past the last name there is no word; a name's word is the array's
 none-there : (ws : List ℕ) (n a : ℕ) → n ≤ a → atLevel (fromLast ws n) a ≡ none
 unfolding fromLast atLevel
 none-there ws zero a h = refl

@@ -9,7 +9,7 @@ ghost use Rattle.code_scope.specs.Inner.Around.{mostNames, wordsIn, unde
 // The most names, each on a word of its own.
 const MOST_NAMES: usize = 16;
 
-// What is given as the word of a name that is not bound.
+// The word of a name that is not bound.
 const NO_WORD: u16 = 0;
 
 // What is known where an expression is emitted: the words that the number names stand on, how many
@@ -44,7 +44,7 @@ pub fn word_of(scope: Scope, a: u8) -> u16
     words[name]
 }
 
-// One more number is named, on the next word.
+// The scope with one more number named, on the next word.
 fn under_number(scope: Scope) -> Scope
     ensures { λ r. ⌜ r ≡ underScope scope ⌝ }
 {

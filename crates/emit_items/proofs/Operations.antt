@@ -1,4 +1,4 @@
--- Items emitted: a law for each way out of the functions that do.
+-- Items emitted: a law for each way out of the functions that emit them.
 use Prim.Native.Nat.{ℕ, suc, _+_, _*_, _≤_, _<_}
 use mathlib.Core.Bool.{Bool, true, false}
 use mathlib.Core.List.{List, [], _∷_}

@@ -1,2 +1,2 @@
--- What the functions answer that lay items down.
+-- What the functions that emit items answer.
 pub mod Inner

@@ -33,7 +33,8 @@ const READ_NUMBER: u8 = 11;
 
 const CALL: u8 = 12;
 
-// The addresses that items go to: where the last part begins, and what is after the whole.
+// The addresses that items refer to: where the last part begins, and what comes after the whole
+// expression.
 pub struct Labels {
     pub last: usize,
     pub beyond: usize,
@@ -70,7 +71,8 @@ fn fields(opcode: u8, byte1: u8, operand: usize, number: u32) -> Instruction
     }
 }
 
-// The instruction of an item, with the entries of the functions and the addresses that items go to.
+// The instruction of an item, with the entries of the functions and the addresses that items refer
+// to.
 fn instruction_of(
     flat: &[u8],
     entries: &[u16],
@@ -100,7 +102,7 @@ fn instruction_of(
     }
 }
 
-// Lays down one item at an address, or nothing where it does not fit.
+// Emits one item at an address, or nothing where it does not fit.
 fn emit_item(
     flat: &[u8],
     entries: &[u16],
@@ -118,7 +120,7 @@ fn emit_item(
     instruction::write_instruction(code, address, x.opcode, x.byte1, x.operand, x.number);
 }
 
-// Lays down items from an address on, each where it fits.
+// Emits items from an address on, each where it fits.
 pub fn emit_items(
     flat: &[u8],
     entries: &[u16],

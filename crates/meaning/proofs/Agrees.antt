@@ -1,10 +1,10 @@
--- The reductions and the evaluation agree (Agrees).
+-- The reductions and the evaluation agree: the proof of `Agrees` (specs/Meaning).
 --
--- The simulation ties the reductions to the evaluation held to any number of open calls. A term
+-- The simulation ties the reductions to the evaluation with any bound on the open calls. A term
 -- reduces to at most one other, and a value to none: so of two ways on from one term, one goes on
--- where the other ends. For a term that k reductions lead to, the evaluation held to k open calls
--- gives a value that they lead to as well, or there are more than k reductions; so the term is that
--- value's, or reduces.
+-- where the other ends. For a term that k reductions lead to, the evaluation with at most k open
+-- calls gives a value that the reductions lead to as well, or there are more than k reductions; so
+-- the term is that value's, or reduces.
 use Prim.Native.Nat.{ℕ, suc}
 use mathlib.Core.Logic.{_⊎_, inl, inr}
 use mathlib.Core.Option.{some}
@@ -24,7 +24,7 @@ use Rattle.meaning.proofs.OneWay.{one-way, at-end}
 use Rattle.meaning.proofs.Leads.{makes-fewer}
 use Rattle.meaning.proofs.Simulation.{tree-value, value-reached, stop-makes}
 
--- ---- values' terms
+-- ---- the terms of values
 
 -- they are values
 value-is : (v : Value) → IsValue (valueTerm v)
@@ -40,7 +40,7 @@ same-tree (aLeaf x) (aNode l r) e = cc
 same-tree (aNode l r) (aLeaf y) e = cc
 same-tree (aNode l r) (aNode l′ r′) e = ap₂ aNode (same-tree l l′ (cc)) (same-tree r r′ (cc))
 
--- .. and so have different values
+-- .. and so do different values
 same-value : (v w : Value) → valueTerm v ≡ valueTerm w → v ≡ w
 unfolding valueTerm treeTerm
 same-value (Value.number i) (Value.number j) e = cc
@@ -53,14 +53,14 @@ same-value (Value.tree t) (Value.tree u) e = ap Value.tree (same-tree t u e)
 module _ (program : Program) (first : Function) (t : Tree) (proper : ProperProgram program) (is-first : nth (program .functions) 0 ≡ some first) where
   -- ---- two ways on from one term
 
-  -- where one has come to a value, the other has or goes on
+  -- where one way leads to a value, the other is at that value, or goes on
   value-or-on : {j k : ℕ} {L M W : Term} → Leads program j L M → IsValue W → Leads program k L W → (M ≡ W) ⊎ Goes program M
   value-or-on none-made v none-made = inl refl
   value-or-on none-made v (one-made r d) = inr (record { to = _; reduces = r })
   value-or-on (one-made r d) v none-made = absurd (at-end program _ _ v r)
   value-or-on (one-made r d) v (one-made r′ d′) = value-or-on d v (rw (one-way program _ _ _ r′ r) at d′)
 
-  -- where one is longer, the other goes on
+  -- where one way is longer, the other goes on
   longer-on : {k : ℕ} {L M N : Term} → Leads program k L M → Leads program (suc k) L N → Goes program M
   longer-on none-made (one-made r d) = record { to = _; reduces = r }
   longer-on (one-made r d) (one-made r′ d′) = longer-on d (rw (one-way program _ _ _ r′ r) at d′)

@@ -1,6 +1,6 @@
 -- What holds of every call of the stream run, from what holds of every run. A call is a run from
--- the start, whose bytes are written from the output's first place on, or it is refused before. So
--- each statement is one of runs, with what such a write leaves; what a run writes fits.
+-- the start, whose bytes are written from the output's start on, or it is refused before. So each
+-- statement follows from one about runs, and from what the write leaves; what a run writes fits.
 use Prim.Native.Nat.{ℕ, _≤_, zero-le}
 use mathlib.Core.Bool.{Bool, true, false, _&&_}
 use mathlib.Core.List.{List, []}
@@ -21,7 +21,7 @@ use Rattle.meaning.specs.StreamRun.{Within, Runs, Calls}
 use Rattle.meaning.specs.Running.{writtenBy}
 use Rattle.meaning.proofs.Inputs.{run-same}
 
--- ---- bytes written from the first place on, where they fit
+-- ---- bytes written from the start on, where they fit
 
 module _ (s vs : List ℕ) (fits : length vs ≤ length s) where
   first-written : take (length vs) (written s 0 vs) ≡ vs
@@ -32,13 +32,13 @@ module _ (s vs : List ℕ) (fits : length vs ≤ length s) where
 
 -- ---- outcomes
 
--- What a refusal as its outcome says of a stop where so many bytes were read.
+-- What follows for a stop, at which so many bytes were read, from a refusal as its outcome.
 record Refuses (why position read : ℕ) (w : Stop) : Type 0 where
   stops : w ≡ refused why
   there : position ≡ read
   none : numberReported w ≡ 0
 
--- it says so of every stop
+-- it follows for every stop
 refuses-so : (w : Stop) (why position read : ℕ) → outcomeOf w read ≡ refusal why position → Refuses why position read w
 unfolding outcomeOf numberReported
 refuses-so (ended number) why position read e = done-not refl e

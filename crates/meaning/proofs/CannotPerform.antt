@@ -28,8 +28,8 @@ use Rattle.meaning.specs.CannotPerform.{wordsNeeded, wordsAdded, Fetches
 use Rattle.meaning.specs.Stopping.{Prevented, no-tag, no-label, no-such-tag, no-room-for-leaf, no-room-for-node, no-room-for-number, all-open, Refused, prevented, ReturnsFirst, none-kept, one-kept}
 use Rattle.meaning.proofs.Levels.{level-found, level-below}
 
--- ---- The outcome of an instruction, and whether C holds: it is refused with 19 where C holds, and nowhere else. A number of which R holds is another
--- refusal's, one of which E holds is the run's, which ends
+-- ---- the outcome of an instruction: refused with 19 where C holds, and nowhere else. R holds of
+-- the number of every other refusal, and E of the number with which the run ends
 
 pub data Exactly (C : Type 0) (R E : ℕ → Type 0) : Step → Type 0 where
   stuck : C → Exactly C R E (refuses cannotPerform)

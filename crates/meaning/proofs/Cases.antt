@@ -46,7 +46,8 @@ record Row : Type 0 where
 ranOn : Row → Ran
 ranOn r = streamRun (r .code) (r .input) (blank (r .space)) (r .fuel) valueWords returnWords
 
--- It ends with these units, bytes read and number, having written `out`; it is refused.
+-- A call that ended with these units, bytes read and number, having written `out`; one that was
+-- refused.
 unfoldable pub ended-with : (units read number : ℕ) (out rest : List ℕ) → Ran
 ended-with units read number out rest =
     record {
@@ -61,7 +62,7 @@ refused-with why units read out rest =
       output = out ++ rest;
     }
 
--- Tree T with each label one more.
+-- Tree T with 1 added to each label.
 grown : List ℕ
 grown = 2 ∷ 1 ∷ 6 ∷ 0 ∷ 0 ∷ 0 ∷ 1 ∷ 8 ∷ 0 ∷ 0 ∷ 0 ∷ []
 
@@ -215,7 +216,7 @@ long : List ℕ
 long = codeOf (Jump 4127 ∷ []) ++ (replicate 33008 ++ codeOf (LeafTag ∷ Return 0 ∷ []))
 
 -- 01, Instructions: "an address from 4,128 up .. holds no instruction and gives 19", also where 8
--- bytes of the buffer stand there. That at 4,127 is performed.
+-- bytes of the buffer stand there. The instruction at 4,127 is performed.
 long-buffer : streamRun long [] (blank 6) 20 valueWords returnWords ≡ refused-with 19 2 0 (1 ∷ []) (blank 5)
 unfolding streamRun run step perform operate heldBy operationOf operations instructionOf nth recordAt flat bytesOfRecord bytesOf numberOf numberAt written write kept numberKept leave outcomeOf numberReported long replicate blank codeOf refused-with
 long-buffer = refl
@@ -259,8 +260,8 @@ lending : (values returns : ℕ) (code : List ℕ) (fuel : ℕ) → Ran
 lending values returns code fuel = streamRun code [] (blank 6) fuel values returns
 
 -- 01, The order of the tests: "The runs test 13 before tree or fuel." 01, Fuel and units: "Fuel is
--- looked at first." Too few value words, or return words, without fuel or code and with both; no
--- fuel; no code; then a run that ends, with just enough words and with more.
+-- looked at first." The rows: too few value words, or return words, without fuel or code and with
+-- both; no fuel; no code; then a run that ends, with just enough words and with more.
 first-refusal :
     lending 16383 2048 [] 0
     ∷ lending 16384 2047 [] 0

@@ -1,6 +1,6 @@
 -- Derivations of the evaluation: the value, the number of expressions begun and the units are
--- determined, the number is that of the rules, and a bound of the calls open is one exactly where
--- it is above the nesting of Call rules.
+-- determined, as many expressions begin as there are rules, and a number bounds the calls open
+-- exactly where it is above the nesting of Call rules.
 --
 -- Two derivations for one expression in one environment go by the same rules: they agree in number,
 -- units and value, and the second's bound is above the first's nesting (`agree`: by induction over
@@ -77,8 +77,7 @@ made-agrees :
     → Agree (suc n) (suc n′) (c + u) (c′ + u′) y y′ k o
 made-agrees parts spends e = record { begun = ap suc (parts .begun); units = omega (arith, parts .units); value = e; below = parts .below }
 
--- an expression around its parts: one more begins, with its units, and the value is that of the
--- last
+-- the same, where the value is that of the last part
 whole-agrees : {A : Type 0} {n n′ u u′ c c′ k o : ℕ} {x x′ : A} → Agree n n′ u u′ x x′ k o → c ≡ c′ → Agree (suc n) (suc n′) (c + u) (c′ + u′) x x′ k o
 whole-agrees parts spends = made-agrees parts spends (parts .value)
 
@@ -258,7 +257,7 @@ pub one-value :
     → (n ≡ n′) × (v ≡ v′)
 one-value program E e o n o′ n′ v v′ d d′ = let both = agree program d o′ n′ v′ d′ in (both .begun, both .value)
 
--- so are those of the whole
+-- so are those of a whole evaluation
 pub one-result :
     (program : Program) (t : Tree) (o n o′ n′ : ℕ) (v v′ : Value)
     → Ends program t o n v
@@ -299,11 +298,11 @@ four-each program E e o n v d =
     case-few (leaf x) = omega arith
     case-few (node l r) = omega arith
 
--- the number of expressions begun is that of the rules
+-- as many expressions begin as there are rules
 pub rules-begun : (program : Program) (E : Environment) (e : Expr) (o n : ℕ) (v : Value) (d : Takes program E e o n v) → rulesIn d ≡ n
 rules-begun program E e o n v d = sym (agree program d _ _ v (rebuilt d (nestingIn d) (omega arith)) .begun)
 
--- a bound of the calls open is one exactly where it is above the nesting
+-- a number bounds the calls open exactly where it is above the nesting
 pub least-open :
     (program : Program) (E : Environment) (e : Expr) (o n : ℕ) (v : Value) (d : Takes program E e o n v) (o′ : ℕ)
     → Takes program E e o′ n v ↔ (nestingIn d < o′)

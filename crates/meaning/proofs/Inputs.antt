@@ -32,7 +32,7 @@ drop-take (suc p) n [] = rw suc-add (sym (take-nil n))
 drop-take (suc p) n (x ∷ s) = rw suc-add (drop-take p n s)
 
 module _ (a b : List ℕ) where
-  -- what the opening reports is the same of both: ..
+  -- what an opening decides is the same for both: ..
   reported : {A : Type 0} (j : ℕ) (f g : List ℕ → A) → ((s : List ℕ) → f (take j s) ≡ g s) → take j a ≡ take j b → g a ≡ g b
   reported j f g reports e = sym (reports a) ∙ ap f e ∙ reports b
 

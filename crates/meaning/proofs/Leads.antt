@@ -1,4 +1,4 @@
--- Laws of reductions: one after the other, and in their place.
+-- Laws of reductions: one after the other, and inside a context.
 use Prim.Native.Nat.{ℕ, zero, suc}
 use mathlib.Core.Path.{_≡_, refl}
 use Rattle.formats.specs.Programs.{Program}
@@ -26,7 +26,7 @@ module _ {program : Program} where
   makes-fewer zero d = record { last = _; leads = none-made }
   makes-fewer (suc k) (one-made r d) = makes-more r (makes-fewer k d)
 
-  -- as many where others come first
+  -- as many, where others come first
   pub makes-on : {j k : ℕ} {L M : Term} → Leads program j L M → Makes program k M → Makes program k L
   makes-on none-made m = m
   makes-on (one-made r d) m = makes-fewer _ (makes-more r (makes-on d m) .leads)
@@ -54,7 +54,7 @@ module _ {program : Program} where
   reduces-in (in-let x E N) s = reduces-under (λ F. in-let x F N) (λ F L. refl) (reduces-in E s)
   reduces-in (in-test E M₁ M₂) s = reduces-under (λ F. in-test F M₁ M₂) (λ F L. refl) (reduces-in E s)
 
-  -- so many, in their place
+  -- several, inside a context
   leads-in : {k : ℕ} {M N : Term} (E : Context) → Leads program k M N → Leads program k (plug E M) (plug E N)
   leads-in E none-made = none-made
   leads-in E (one-made r d) = one-made (reduces-in E r) (leads-in E d)

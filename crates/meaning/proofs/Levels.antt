@@ -1,4 +1,4 @@
--- Laws of entries that count from the oldest on.
+-- Laws of entries counted from the oldest.
 use Prim.Native.Nat.{ℕ, _<_}
 use mathlib.Core.Bool.{Bool, true, false}
 use mathlib.Core.List.{List, [], _∷_}

@@ -1,4 +1,4 @@
--- What holds of a program's meaning (Meaning), put together.
+-- What holds of a program's meaning: the proof of `Meaning` (specs/Meaning), put together.
 use Rattle.meaning.specs.Meaning.{Meaning}
 use Rattle.meaning.proofs.Evaluation.{one-value, one-result, one-sum, four-each, rules-begun, least-open}
 use Rattle.meaning.proofs.Proper.{proper}

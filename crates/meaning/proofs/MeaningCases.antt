@@ -1,5 +1,5 @@
 -- Closed cases of what a program means, proved by computation. Each row of a table is a program, a
--- tree, and the outcome of it.
+-- tree, and the outcome.
 use Prim.Native.Nat.{ℕ, suc}
 use mathlib.Core.List.{List, [], _∷_, _++_, map}
 use mathlib.Core.Option.{Option·some-injective}
@@ -37,9 +37,9 @@ sum = programOf (numbered (caseOf 0 (var 0) (add (on 0 1) (on 0 2))) ∷ [])
 unfoldable pub two-leaves : Tree
 two-leaves = node (leaf 5) (leaf 7)
 
--- ---- the evaluation held to a number of open calls
+-- ---- the evaluation with a bound on the open calls
 
--- What it comes to, and how many expressions begin.
+-- What an evaluation comes to, and how many expressions begin.
 data Reported : Type 0 where
   value : ℕ → Value → Reported
   stop : ℕ → ℕ → ℕ → Reported
@@ -102,9 +102,9 @@ each-kind =
     ∷ row (with-two (caseOf 0 (const 9) (on-two 2 (const 3) (const 4))) (caseOf 0 (var 2) (const 9))) 2 two-leaves (value 6 (number 7))
     ∷ []
 
--- Where it stops, and at which record: in each part of each kind, one open call being allowed. Add
--- takes its left part first. A call's depth is tested after its arguments. In function 1 two calls
--- are open.
+-- Where an evaluation stops, and at which record: in each part of each kind, with one open call
+-- allowed. Add takes its left part first. A call's depth is tested after its arguments. In function
+-- 1 two calls are open.
 each-stop : List Row
 each-stop =
     in-number (add (on 0 0) (on 0 0)) (stop 2 18 3)
@@ -154,7 +154,7 @@ named : Environment
 named = record { numbers = 6 ∷ []; trees = leaf 8 ∷ (leaf 7 ∷ []) }
 
 -- One for each kind, in an environment where number 0 is 6, tree 0 a leaf 7 and tree 1 a leaf 8. A
--- call opens one more.
+-- Call opens one call more.
 const-derived : Takes sum named (const 7) 1 1 (number 7)
 const-derived = Const
 

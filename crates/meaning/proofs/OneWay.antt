@@ -19,7 +19,7 @@ use Rattle.meaning.specs.Reductions.{Reduces, in-context}
 
 -- ---- the position where a term reduces
 
--- a part of a term, and the term with another part in its position
+-- a part of a term, and the term around it as a function of that part
 record Location : Type 0 where
   part : Term
   around : Term → Term
@@ -33,7 +33,7 @@ inside : Option Location → (Term → Term) → Option Location → Option Loca
 inside none around other = other
 inside (some p) around other = some (record { part = p .part; around = λ L. around (p .around L) })
 
--- the only place where a term may reduce, whether or not a redex stands there
+-- the only position where a term may reduce, whether or not a redex stands there
 position : Term → Option Location
 position (int i) = none
 position (lam x M) = none
@@ -60,7 +60,7 @@ place-value an-abstraction = refl
 place-value (a-tree v) = place-tree v
 
 module _ {program : Program} where
-  -- a redex's place is the whole of it
+  -- a redex's position is the whole of it
   place-redex : {M N : Term} → Redex program M N → position M ≡ whole M
   unfolding position inside
   place-redex Es-Plus = refl
@@ -101,7 +101,7 @@ module _ (program : Program) where
   redex-one-way IfZero-zero IfZero-zero = refl
   redex-one-way IfZero-other IfZero-other = refl
 
-  -- a term reduces to at most one other: its position reports the redex and what stands around
+  -- a term reduces to at most one other: its position gives the redex and what stands around it
   pub one-way : (M N N′ : Term) → Reduces program M N → Reduces program M N′ → N ≡ N′
   one-way M N N′ (in-context {M = L} {N = K} E r) d = same d refl
     where

@@ -1,4 +1,4 @@
--- The evaluation held to a number of open calls gives what the rules of the source evaluation give;
+-- The evaluation with a bound on the open calls gives what the rules of the source evaluation give;
 -- where they give nothing within the bound, it stops at a call too many. The value is of function
 -- 0's sort, and its numbers fit 32 bits.
 --
@@ -37,7 +37,7 @@ use Rattle.meaning.proofs.Proper.{proper-call, proper-none, proper-arg,
 -- ---- from the rules to the function
 
 module _ (program : Program) where
-  -- What a derivation reports: where as many calls may be open as its bound says, or more, the
+  -- What a derivation promises: where as many calls may be open as its bound says, or more, the
   -- function gives its value.
   abbrev Reported : (E : Environment) (e : Expr) (o n : ℕ) (v : Value) → Type 0
   Reported E e o n v = (k r : ℕ) → o ≤ suc k → evaluate (called program k) E r e ≡ afterBegun n (gives v)
@@ -59,7 +59,7 @@ module _ (program : Program) where
   reported-call b f numbers u o n v is-function d t zero r h = absurd (omega (arith, least-open program _ _ o n v d o .0 d))
   reported-call b f numbers u o n v is-function d t (suc k) r h = rw (is-function, called) (t k _ h)
 
-  -- each derivation reports so
+  -- each derivation keeps this
   reported : {E : Environment} {e : Expr} {o n : ℕ} {v : Value} → Takes program E e o n v → Reported E e o n v
   unfolding evaluate afterBegun followedBy numberOr treeOr resultNumber resultTree picked branch inBranch
   reported d = elim d as (λ E e o n v d. Reported E e o n v) (λ E xs o n before numbers d. ReportedArgs E xs o n before numbers) [
@@ -87,18 +87,18 @@ module _ (program : Program) where
     | one-more (d → t) (ds → ts) ↦ λ k r h. simp (t, ts, next-after, after-more)
   ]
 
-  -- and that of the whole
+  -- and so does the derivation of the whole
   reported-end : (u : Tree) (o n : ℕ) (v : Value) → Ends program u o n v → evaluation program o u ≡ afterBegun n (gives v)
   unfolding evaluation
   reported-end u o n v ends = reported-call 0 (ends .first) [] u o n v (ends .is-first) (ends .takes) (reported (ends .takes)) o 0 (omega arith)
 
 -- ---- from the function to the rules
 
--- An outcome comes to a value of this form, of which this holds, or a call is one too many.
+-- An outcome comes to a value of this form, of which `Holds` is true, or to a call too many.
 abbrev Known : {X A : Type 0} (form : X → A) (Holds : ℕ → A → Type 0) → Outcome A → Type 0
 Known form Holds o = ComesTo form Holds (λ why. why ≡ tooManyCalls) o
 
--- With so many calls that may still be opened.
+-- With k calls that may still be opened.
 module _ (program : Program) (k : ℕ) where
   -- It is derived; and it fits where all that names stand for does: a value ..
   abbrev Derived : (E : Environment) (s : Sort) (e : Expr) (o n : ℕ) (v : Value) → Type 0
@@ -133,7 +133,7 @@ module _ (program : Program) (k : ℕ) where
       → length before + count ≡ all
       → Known (numbersOf all) (DerivedArgs E xs (suc k) before) (evaluateArgs (called program k) E r xs before)
 
-  -- an expression that pass one takes is known so, if the calls in it are
+  -- it is shown of an expression that pass one accepts, if it holds of the calls in it
   known : KnownCalls → {g n : ℕ} {s : Sort} {e : Expr} → Proper (program .functions) g n s e → KnownUnder g n s e
   unfolding evaluate afterBegun followedBy numberOr treeOr resultNumber resultTree picked branch inBranch
   known calls d = elim d as (λ g n s e d. KnownUnder g n s e) (λ g n count xs d. KnownArgs g n count xs) [
@@ -184,8 +184,8 @@ module _ (program : Program) (k : ℕ) where
         (known-xs E numbers trees _ (i ∷ before) all (omega arith))
   ]
 
--- calls are known so: where none may be opened, they stop; else the body is an expression that pass
--- one takes
+-- it is shown of calls: where none may be opened, they stop; else the body is an expression that
+-- pass one accepts
 known-calls : (program : Program) → ProperProgram program → (k : ℕ) → KnownCalls program k
 unfolding called afterBegun
 known-calls program proper zero b f numbers u r is-function = stopped 0 tooManyCalls r refl
@@ -198,11 +198,11 @@ known-calls program proper (suc k) b f numbers u r is-function =
 module _ (program : Program) (t : Tree) (proper : ProperProgram program) where
   open ProperProgram proper using (first, is-first, bare)
 
-  -- What is to be shown of the whole, held to so many calls.
+  -- What is to be shown of the whole, with at most so many open calls.
   abbrev KnownEnd : ℕ → Outcome Value → Type 0
   KnownEnd o p = Known (valueOf (first .sort)) (λ n v. Ends program t o n v × (Labelled t → OfSort (first .sort) v)) p
 
-  -- it is known so
+  -- it is shown
   known-end : (o : ℕ) → KnownEnd o (evaluation program o t)
   unfolding evaluation
   known-end o =

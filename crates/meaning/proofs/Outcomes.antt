@@ -37,14 +37,14 @@ gives-not n m why r x e = let z : _≡_ {A = ℕ} 0 1 = cc (after-same n m (give
 
 -- ---- what an outcome comes to
 
--- So many expressions begin; then there is a value of this form, of which this holds, or a stop, of
--- which that holds.
+-- Some expressions begin; then there is a value of this form, of which `Holds` is true, or a stop,
+-- of which `Stopped` is true.
 pub data ComesTo {X A : Type 0} (form : X → A) (Holds : ℕ → A → Type 0) (Stopped : ℕ → Type 0) : Outcome A → Type 0 where
   given : (n : ℕ) (x : X) → Holds n (form x) → ComesTo form Holds Stopped (afterBegun n (gives (form x)))
   stopped : (n why r : ℕ) → Stopped why → ComesTo form Holds Stopped (afterBegun n (stops why r))
 
 module _ {X A : Type 0} {form : X → A} {P : ℕ → A → Type 0} {S : ℕ → Type 0} where
-  -- what follows from what holds of a value, and from what holds of a stop
+  -- where other statements follow of a value and of a stop
   pub comes-map :
       {Q : ℕ → A → Type 0} {T : ℕ → Type 0} {o : Outcome A}
       → ((n : ℕ) (a : A) → P n a → Q n a)
@@ -54,7 +54,7 @@ module _ {X A : Type 0} {form : X → A} {P : ℕ → A → Type 0} {S : ℕ →
   comes-map f g (given n x h) = given n x (f n (form x) h)
   comes-map f g (stopped n why r s) = stopped n why r (g why s)
 
-  -- from what holds of a value alone
+  -- where another follows of a value alone
   pub comes-more : {Q : ℕ → A → Type 0} {o : Outcome A} → ((n : ℕ) (a : A) → P n a → Q n a) → ComesTo form P S o → ComesTo form Q S o
   comes-more f c = comes-map f (λ why s. s) c
 

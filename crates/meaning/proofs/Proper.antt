@@ -1,11 +1,11 @@
 -- What pass one says of a program, expression by expression: every name is bound, every part is of
--- the sort that is wanted, and each Call has as many arguments as its function has number
+-- the sort that is expected, and each Call has as many arguments as its function has number
 -- parameters.
 --
--- That a program which passes is proper goes by recursion on each body, with the laws of pass one
--- for each kind of record. Pass one speaks of types and of signatures: a sort is known by its
--- values' type, and a signature is that of a function. Constants' ranges and counts of arguments
--- are the limits of "Program file".
+-- That a program which passes is proper is shown by recursion on each body, with the laws of pass
+-- one for each kind of record. Pass one speaks of types and of signatures: a sort is known by its
+-- values' type, and a signature is that of a function. The ranges of constants and the counts of
+-- arguments come from the limits of "Program file".
 use Prim.Native.Nat.{ℕ, zero, suc, _+_, _^_, _≤_, _<_}
 use mathlib.Core.List.{List, [], _∷_, map}
 use mathlib.Core.Option.{some, Option·some-injective, Option·none-ne-some, map-eq-some-iff}
@@ -61,13 +61,13 @@ mutual
     proper-none : {g n : ℕ} → ProperArgs fs g n 0 noArgs
     proper-arg : {g n k : ℕ} {x : Expr} {xs : Args} → Proper fs g n numberValued x → ProperArgs fs g n k xs → ProperArgs fs g n (suc k) (arg x xs)
 
--- they are as many as it says
+-- there are as many as it says
 pub count-proper : {fs : List Function} {g n count : ℕ} {xs : Args} → ProperArgs fs g n count xs → countArgs xs ≡ count
 unfolding countArgs
 count-proper proper-none = refl
 count-proper (proper-arg x xs) = ap suc (count-proper xs)
 
--- Each function's body is, under its own parameters; function 0 has no number parameters.
+-- Each function's body is proper under its own parameters; function 0 has no number parameters.
 pub record ProperProgram (program : Program) : Type 0 where
   pub bodies : (b : ℕ) (f : Function) → nth (program .functions) b ≡ some f → Proper (program .functions) (f .parameters) 1 (f .sort) (f .body)
   pub first : Function

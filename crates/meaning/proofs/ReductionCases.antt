@@ -17,7 +17,7 @@ app-reduces : Redex again (app (lam (numberName 0) (plus (name (numberName 0)) (
 unfolding substitute replaced only sameName
 app-reduces = Es-App an-integer
 
--- Where the name is bound again, by λ, let or case, it is another's.
+-- Where the name is bound again, by λ, let or case, it is not replaced.
 bound-again : Redex again (app (lam (numberName 0) (lam (numberName 0) (name (numberName 0)))) (int 3)) (lam (numberName 0) (name (numberName 0)))
 unfolding substitute replaced only without sameName
 bound-again = Es-App an-integer
@@ -49,7 +49,7 @@ fix-reduces : Redex again (fixOf 0 calls-itself) (lam (treeName 0) (app (fixOf 0
 unfolding substitute replaced without sameName fixing fixes fixOf nth functionTerm lams termOf applied numbered on calls-itself
 fix-reduces = Es-Fix
 
--- A function that the program does not have is the paper's fix alone.
+-- The fix of a function that the program does not have is the paper's alone.
 other-fix-reduces : Redex again (fix (functionName 9) (lam (treeName 0) (name (functionName 9)))) (lam (treeName 0) (fix (functionName 9) (lam (treeName 0) (name (functionName 9)))))
 unfolding substitute replaced without sameName fixing
 other-fix-reduces = Es-Fix

@@ -1,4 +1,4 @@
--- Laws of runs. A run is its steps (`by-steps`), and a run goes through every row of steps
+-- Laws of runs. A run is its steps (`by-steps`), and a run goes through every sequence of steps
 -- (`goes-on`), so steps determine it (`only-one`). The other laws are then read off the steps.
 use Prim.Native.Nat.{ℕ, zero, suc, _+_, _-_, _≤_}
 use mathlib.Core.List.{List, [], _∷_, append-nil}
@@ -34,14 +34,14 @@ run-refuses m fuel s number e = simp (run, e)
 
 -- ---- a run and its steps
 
--- a run goes through every row of steps
+-- a run goes through every sequence of steps
 goes-on : {m : Setting} {past : List ℕ} {s t : State} (fuel : ℕ) → Steps m past s t → run m (length past + fuel) s ≡ afterAll past (run m fuel t)
 goes-on {m} fuel d = elim d as (λ past s t d. run m (length past + fuel) s ≡ afterAll past (run m fuel t)) [
   | here {s} ↦ ap (λ k. run m k s) (zero-add fuel)
   | on {past} {s} {t} e (d → h) ↦ ap (λ k. run m k s) (suc-add (length past) fuel) ∙ run-goes m _ s t e ∙ ap (afterPerforming (s .address)) h
 ]
 
--- a step before what stops
+-- a step before steps that stop
 stops-after : {m : Setting} {fuel : ℕ} {s t : State} {r : Run} → step m s ≡ goes t → Stops m fuel t r → Stops m (suc fuel) s (afterPerforming (s .address) r)
 stops-after e (used-up d h) = used-up (on e d) (ap suc h)
 stops-after e (returned d h x) = returned (on e d) (omega arith) x
@@ -105,7 +105,7 @@ module _ {m : Setting} {fuel : ℕ} {s : State} where
   settled more (returned d h e) w l = sym (only-one (returned d (le-trans h l) e))
   settled more (stuck d h e) w l = sym (only-one (stuck d (le-trans h l) e))
 
--- the state that steps lead to follows, so the one in which a run stops does
+-- the state that steps lead to follows the first, and so does the state in which a run stops
 steps-follow : {m : Setting} {past : List ℕ} {s t : State} → Steps m past s t → Follows m s t
 steps-follow {m} d = elim d as (λ past s t d. Follows m s t) [
   | here {s} ↦ follows-same m s

@@ -1,11 +1,11 @@
--- The reductions do what the evaluation held to a number of open calls does: a term leads to the
+-- The reductions do what the evaluation with a bound on the open calls does: a term leads to the
 -- term of the value; where the evaluation stops at a call too many, the term makes more reductions
 -- than calls may be opened.
 --
 -- The term is an expression's, with what its names stand for put in. The proof is by recursion on
--- the calls that may be opened and, inside a body, on the expression: each part is reduced in its
--- position, and to put a value in for a name is to have it in the environment. A call makes one
--- reduction more than its body.
+-- the calls that may be opened and, inside a body, on the expression: each part is reduced inside
+-- the whole term, and to put a value in for a name is to have it in the environment. A call makes
+-- one reduction more than its body.
 use Prim.Native.Nat.{ℕ, zero, suc, _+_}
 use mathlib.Core.List.{List, [], _∷_}
 use mathlib.Core.Option.{some}
@@ -49,15 +49,15 @@ abbrev Does : {X A : Type 0} → Program → ℕ → (X → A) → (A → Term) 
 Does program k form term M o = ComesTo form (λ n a. Reaches program M (term a)) (λ why. Makes program k M) o
 
 module _ {program : Program} {k : ℕ} {X A : Type 0} {form : X → A} {term : A → Term} where
-  -- other reductions first
+  -- other reductions come first
   does-on : {L M : Term} {o : Outcome A} → Reaches program L M → Does program k form term M o → Does program k form term L o
   does-on r = comes-map (λ n a. reaches-on (r .leads)) (λ why. makes-on (r .leads))
 
-  -- one first, which counts
+  -- one reduction comes first, and counts
   does-more : {L M : Term} {o : Outcome A} → Redex program L M → Does program k form term M o → Does program (suc k) form term L o
   does-more r = comes-map (λ n a. reaches-on (reaches-one r .leads)) (λ why. makes-more (reduces r))
 
-  -- a part in its position, then what comes next with its value there
+  -- a part is reduced inside the whole term, then what comes next has its value there
   does-part :
       {Y B : Type 0} {form′ : Y → B} {term′ : B → Term} {M : Term} {o : Outcome B} (f : B → Outcome A) (E : Context)
       → Does program k form′ term′ M o

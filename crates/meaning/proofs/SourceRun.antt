@@ -140,7 +140,7 @@ module _ (file input output : List ℕ) (values returns : ℕ) (bs : Bytes file)
   unfolding sourceRun
   call-refused number position fuel e = refused-with (rw (sourceRun, e))
 
-  -- they pass
+  -- the checks pass
   module _ (program : Program) (t : Tree) (p : Passed file input values returns program t) where
     -- so the program is proper
     proper-passed : ProperProgram program
@@ -198,7 +198,7 @@ module _ (file input output : List ℕ) (values returns : ℕ) (bs : Bytes file)
         → Answers fuel
     is-refused : (n number position : ℕ) → n ≤ fuel → RefusedWith n number position output (ran fuel) → Answers fuel
 
-  -- it comes to that where the checks pass ..
+  -- this holds where the checks pass ..
   answers-passed : (program : Program) (t : Tree) (fuel : ℕ) → Passed file input values returns program t → Answers fuel
   answers-passed program t fuel p = elim (held program t (proper-passed program t p) .ends-or-stops mostCalls) [
     | inl e ↦
@@ -223,7 +223,7 @@ module _ (file input output : List ℕ) (values returns : ℕ) (bs : Bytes file)
       (λ c e. answers-passed (c .program) (c .tree) fuel (done-passed file input values returns c e))
       (λ number position e. is-refused 0 number position zero-le (call-refused number position fuel e))
 
-  -- a refusal leaves the output
+  -- a refusal leaves the output untouched
   answers-untouched :
       (number position fuel : ℕ)
       → Answers fuel

@@ -100,7 +100,8 @@ module _ (m : Setting) (s : State) where
     within = λ w. record { words = w .words; calls = w .calls; read = w .read; written = simp length-append fits };
   }
 
--- ---- a property of whatever becomes of an instruction, through the tests that instructions make
+-- ---- a property of the outcome of an instruction, carried through the tests that instructions
+-- make
 
 module _ (P : Step → Type 0) where
   -- where a test is passed, and where it is not; where something is found
@@ -134,7 +135,7 @@ module _ (P : Step → Type 0) where
   unfolding two
   holds-two words f g h = holds-one words _ g (λ x under e. holds-one under _ g (λ y rest d. h x y rest (e ∙ ap suc d)))
 
--- ---- The outcome of an instruction is sound: the next state follows, a refusal is one of the five
+-- ---- the outcome of an instruction is sound: the next state follows, a refusal is one of the five
 
 abbrev Sound : Setting → State → Step → Type 0
 Sound m s (goes t) = Follows m s t
@@ -230,7 +231,7 @@ module _ (m : Setting) (s : State) where
   unfolding step
   sound = holds-some (Sound m s) (m .holds (s .address)) _ cannot sound-perform
 
-  -- the state gone to follows
+  -- the next state follows
   pub follows-step : {t : State} → step m s ≡ goes t → Follows m s t
   follows-step e = subst (Sound m s) e sound
 

@@ -4,8 +4,8 @@
 -- Only `called` stops, at the record that it is given, and `evaluate` gives it that of a Call. This
 -- is shown for any property P of records that each Call's has (`CallsAt`): what holds of the Calls
 -- among the program's nodes holds of those in a function's body and in each part of an expression,
--- where `evaluate` has them stand. So a body stops only at records with P, by recursion on the
--- calls that may be open and, in a body, on the expression.
+-- at the records that `evaluate` gives them. So a body stops only at records with P, by recursion
+-- on the calls that may be open and, in a body, on the expression.
 use Prim.Native.Nat.{ℕ, zero, suc, _+_}
 use mathlib.Core.List.{List, [], _∷_, _++_, map}
 use mathlib.Core.Option.{Option, none, some, Option·some-injective, Option·none-ne-some}
@@ -92,7 +92,7 @@ module _ (P : ℕ → Type 0) where
   stops-next (at-stop h) g = at-stop h
   stops-next (later h) g = later (stops-next h g)
 
-  -- .. so do two parts whose values are joined ..
+  -- .. so do two parts whose values are combined ..
   stops-both : {o p : Outcome Value} (f : Value → Value → Value) → StopsAt o → StopsAt p → StopsAt (followedBy o (λ x. followedBy p (λ y. gives (f x y))))
   stops-both f h g = stops-next h (λ x. stops-next g (λ y. no-stop))
 

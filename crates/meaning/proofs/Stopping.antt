@@ -105,7 +105,7 @@ alone-with op input space = ofCode (bytesOfRecord (instructionOf op)) input spac
 refused-with : Operation → List ℕ → ℕ → ℕ → ℕ → ℕ
 refused-with op input space words calls = numberIn (step (alone-with op input space) (standing-at words calls))
 
--- Each rule, and where it just doesn't hold.
+-- Each rule, and the nearest case in which it does not hold.
 at-the-limits :
     refused-with (ReadTag 0) [] 0 0 0 ∷ refused-with (ReadTag 0) (1 ∷ []) 0 0 0
     ∷ refused-with ReadNumber (5 ∷ 0 ∷ 0 ∷ []) 0 0 0 ∷ refused-with ReadNumber (5 ∷ 0 ∷ 0 ∷ 0 ∷ []) 0 0 0
@@ -150,7 +150,7 @@ returned-one : ReturnsFirst (alone-with (Return 1) [] 0) first-frame 5
 unfolding alone-with first-frame heldBy operationOf operations instructionOf nth recordAt bytesOfRecord bytesOf numberOf numberAt
 returned-one = one-kept 5 (7 ∷ []) (fetched (instructionOf (Return 1)) refl refl) refl refl
 
--- .. and the return of another frame doesn't.
+-- .. and the return of another frame does not.
 goes-back : (number : ℕ) → ReturnsFirst (alone-with (Return 0) [] 0) (standing-at 0 1) number → ⊥
 unfolding standing-at waiting
 goes-back number (none-kept f none-waits) = let one-waits : suc 0 ≡ 0 = ap length none-waits in omega arith

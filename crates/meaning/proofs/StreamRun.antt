@@ -1,4 +1,4 @@
--- What holds of every stream run.
+-- What holds of every stream run: the proof of `StreamRun` (specs/StreamRun), put together.
 use Prim.Native.Nat.{ℕ}
 use mathlib.Core.List.{[], _∷_, map}
 use mathlib.Core.Option.{Option, none, some}
@@ -44,7 +44,7 @@ written-zero (fields opcode byte1 operand number) op e =
     let row = nth-mapped instructionOf (operations byte1 operand number) opcode op e in
     rw (used, row-by-row byte1 operand number, row)
 
--- an opcode without an operation has none with all other fields zero
+-- an opcode that names no operation names none with all other fields zero
 none-named : (opcode byte1 operand number : ℕ) → operationOf (fields opcode byte1 operand number) ≡ none → operationOf (used (fields opcode byte1 operand number)) ≡ none
 unfolding operationOf operations used usedFields
 none-named opcode byte1 operand number e =

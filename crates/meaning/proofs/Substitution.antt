@@ -141,7 +141,7 @@ record Joins (σ τ ρ : Substitution) : Type 0 where
   functions : KeepsFunctions τ
   names : (z : Name) → Joined (σ z) (τ z) (ρ z)
 
--- so it is under a binder
+-- so they do under a binder
 joins-under : {σ τ ρ : Substitution} (x : Name) → Joins σ τ ρ → Joins (without x σ) (without x τ) (without x ρ)
 unfolding without
 joins-under {σ} {τ} {ρ} x j = record { functions = functions-under τ x (j .functions); names = λ z. by-test z (sameName x z) }
@@ -152,7 +152,7 @@ joins-under {σ} {τ} {ρ} x j = record { functions = functions-under τ x (j .f
     by-test z true = by-second
     by-test z false = j .names z
 
--- then ρ does so to a term
+-- then they do so on each term
 joined : (M : Term) {σ τ ρ : Substitution} → Joins σ τ ρ → substitute τ (substitute σ M) ≡ substitute ρ M
 unfolding substitute replaced
 joined (int i) j = refl

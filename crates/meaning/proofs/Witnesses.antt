@@ -36,7 +36,7 @@ record Witness (program : Program) (calls begun : ℕ) (v : Value) : Type 0 wher
   ends : Ends program two-leaves calls begun v
   leads : Reaches program (programOn first two-leaves) (valueTerm v)
 
--- by the theorem, from what the evaluation held to so many calls gives
+-- by the theorem, from what the evaluation gives with at most so many open calls
 witness : (program : Program) (calls begun : ℕ) (v : Value) (first : Function)
     → PassesOne program
     → nth (program .functions) 0 ≡ some first
@@ -79,12 +79,12 @@ again-passes = record {
   passes = refl;
 }
 
--- a call of it where so many may be open
+-- A call of it where so many may be open stops.
 record Stopped (calls r : ℕ) (t : Tree) : Type 0 where
   at-call : ℕ
   stopped : called again calls r 0 [] t ≡ afterBegun calls (stops tooManyCalls at-call)
 
--- stops, however many
+-- it stops, however many may be open
 again-stops : (calls r : ℕ) (t : Tree) → Stopped calls r t
 unfolding called evaluate evaluateArgs followedBy afterBegun nth atLevel treeOr again numbered programOf on
 again-stops zero r t = record { at-call = r; stopped = refl }

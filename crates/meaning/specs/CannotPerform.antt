@@ -17,7 +17,7 @@ use Rattle.meaning.specs.Performing.{Setting, State, standing}
 abbrev pub lastOpcode : ℕ
 lastOpcode = 13
 
--- How many words it needs above the frame's base: those that it takes, moves or reads.
+-- How many words an operation needs above the frame's base: those that it takes, moves or reads.
 unfoldable pub wordsNeeded : Operation → ℕ
 wordsNeeded (Push x) = 0
 wordsNeeded (Get k) = suc k
@@ -34,8 +34,8 @@ wordsNeeded ReadNumber = 0
 wordsNeeded (Call entry n) = n
 wordsNeeded (Return k) = k
 
--- By how many words the value stack, all frames together, grows. (A call's arguments only change
--- their frame.)
+-- By how many words an operation makes the value stack grow, all frames together. (A call's
+-- arguments only change their frame.)
 unfoldable pub wordsAdded : Operation → ℕ
 wordsAdded (Push x) = 1
 wordsAdded (Get k) = 1
@@ -70,5 +70,6 @@ pub data CannotPerform (m : Setting) (s : State) : Type 0 where
   return-byte : (k : ℕ) → Fetches m s (Return k) → 1 < k → CannotPerform m s
   -- "missing words": "words are missing above the frame's base"
   missing-words : (op : Operation) → Fetches m s op → length (s .frame) < wordsNeeded op → CannotPerform m s
-  -- "surplus words": "surplus above 16,384" (the most of `ofCode`), where the instruction adds some
+  -- "surplus words": "surplus above 16,384" (`mostWords`, as `ofCode` sets it), where the
+  -- instruction adds some
   surplus-words : (op : Operation) → Fetches m s op → 0 < wordsAdded op → m .mostWords < standing s + wordsAdded op → CannotPerform m s

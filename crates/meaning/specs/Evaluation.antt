@@ -1,8 +1,8 @@
 -- 01, The source evaluation: what a program means. "This is document 000's, without fuel or limits;
 -- it is fed a program's records and a tree." "Nothing is refused."
 --
--- What holds of it stands in Meaning.antt: among others that it gives the value that the reductions
--- of 000, Figure 3 (Reductions.antt) lead to.
+-- What is proved of it is stated in Meaning.antt: among other things that it gives the value that
+-- the reductions of 000, Figure 3 (Reductions.antt) lead to.
 use Prim.Native.Nat.{ℕ, zero, suc, _+_, max}
 use mathlib.Core.List.{List, [], _∷_}
 use mathlib.Core.Option.{Option, some}
@@ -13,6 +13,7 @@ use Rattle.formats.specs.Records.{nth}
 use Rattle.formats.specs.Programs.{Expr, const, var, add, ifZero, letIn, leafOf, nodeOf, caseOf, call, Args, noArgs, arg, Function, Program}
 use Rattle.meaning.specs.Levels.{atLevel}
 
+-- A value: a number or a tree.
 pub data Value : Type 0 where
   number : ℕ → Value
   tree : Tree → Value
@@ -52,6 +53,7 @@ unfoldable pub branch : Tree → Expr → Expr → Expr
 branch (leaf x) p q = p
 branch (node l r) p q = q
 
+-- The environment in which that part is taken.
 unfoldable pub inBranch : Tree → Environment → Environment
 inBranch (leaf x) E = withNumber x E
 inBranch (node l r) E = withTrees l r E
@@ -120,7 +122,7 @@ mutual
 
 -- 01, The source evaluation: "It starts in function 0's body, the tree being tree 0, with 0
 -- expressions begun and 1 call open." "It ends where finitely many expressions begin, n in all; the
--- result is function 0's value". With at most o calls open at once, the first included.
+-- result is function 0's value". At most o calls are open at once, the first included.
 pub record Ends (program : Program) (t : Tree) (o n : ℕ) (v : Value) : Type 0 where
   pub first : Function
   pub is-first : nth (program .functions) 0 ≡ some first
@@ -149,8 +151,9 @@ unfoldable pub caseUnits : Tree → ℕ
 caseUnits (leaf x) = 4
 caseUnits (node l r) = 1
 
--- `begin` is applied at each rule, to the units of its record and to what its premises count;
--- `enter` at the body that a Call opens; `join` joins what two premises count.
+-- A count along a derivation. `begin` is applied at each rule, to the units of its record and to
+-- what its premises count; `enter` is applied at the body that a Call opens; `join` joins what two
+-- premises count.
 unfoldable pub counted :
     {program : Program} {E : Environment} {e : Expr} {o n : ℕ} {v : Value} (begin : ℕ → ℕ → ℕ) (enter : ℕ → ℕ) (join : ℕ → ℕ → ℕ)
     → Takes program E e o n v
@@ -169,7 +172,7 @@ counted begin enter join d = elim d as (λ E e o n v d. ℕ) (λ E xs o n before
   | one-more (d → n) (ds → m) ↦ join n m
 ]
 
--- How many rules it has: one for each expression begun.
+-- How many rules a derivation has: one for each expression begun.
 abbrev pub rulesIn : {program : Program} {E : Environment} {e : Expr} {o n : ℕ} {v : Value} → Takes program E e o n v → ℕ
 rulesIn d = counted (λ units n. suc n) (λ m. m) _+_ d
 
@@ -177,6 +180,7 @@ rulesIn d = counted (λ units n. suc n) (λ m. m) _+_ d
 abbrev pub unitsIn : {program : Program} {E : Environment} {e : Expr} {o n : ℕ} {v : Value} → Takes program E e o n v → ℕ
 unitsIn d = counted _+_ (λ m. m) _+_ d
 
--- How deep its Call rules are nested: a call is open while its body is taken, and no longer.
+-- How deep a derivation's Call rules are nested: a call is open while its body is taken, and no
+-- longer.
 abbrev pub nestingIn : {program : Program} {E : Environment} {e : Expr} {o n : ℕ} {v : Value} → Takes program E e o n v → ℕ
 nestingIn d = counted (λ units m. m) suc max d

@@ -8,8 +8,8 @@ use lib.Dec.{ltb, leb}
 use Rattle.formats.specs.Records.{Record, fields, recordAt, nth}
 
 -- 01, Instructions: "An instruction has 8 bytes: opcode; byte 1; operand in 2–3; number in 4–7."
--- Its fields lie as a record's do, so `fields` and `recordAt` are those of records: opcode, byte 1,
--- operand, number.
+-- Its fields have the widths and the order of a record's, so `fields` and `recordAt` are those of
+-- records: opcode, byte 1, operand, number.
 abbrev pub Instruction : Type 0
 Instruction = Record
 
@@ -62,7 +62,7 @@ operations byte1 operand number =
 unfoldable pub operationOf : Instruction → Option Operation
 operationOf (fields opcode byte1 operand number) = nth (operations byte1 operand number) opcode
 
--- 01, Instructions: "Unused fields are written zero". The instruction of each operation.
+-- The instruction of each operation. 01, Instructions: "Unused fields are written zero".
 unfoldable pub instructionOf : Operation → Instruction
 instructionOf (Push n) = fields 0 0 0 n
 instructionOf (Get k) = fields 1 0 k 0
@@ -101,6 +101,6 @@ usedFields byte1 operand number =
     ∷ fields 13 byte1 0 0
     ∷ []
 
--- An instruction with its unused fields zero; of another opcode all are unused.
+-- An instruction with its unused fields zero; with an opcode above 13, all fields are unused.
 unfoldable pub used : Instruction → Instruction
 used (fields opcode byte1 operand number) = elim (nth (usedFields byte1 operand number) opcode) [ some i ↦ i | none ↦ fields opcode 0 0 0 ]

@@ -1,4 +1,4 @@
--- Entries that count from the oldest on: names along a path, words above a frame's base.
+-- Entries counted from the oldest: names along a path, words above a frame's base.
 use Prim.Native.Nat.{ℕ}
 use mathlib.Core.Bool.{true, false}
 use mathlib.Core.List.{List, [], _∷_}

@@ -27,19 +27,20 @@ pub record PassesOne (program : Program) : Type 0 where
   pub lawful : Lawful program
   pub passes : passOne program ≡ done tt
 
--- There is no derivation, under any bound.
+-- The evaluation is endless: there is no derivation, under any bound.
 abbrev pub Endless : Program → Tree → Type 0
 Endless program t = (o n : ℕ) (v : Value) → Ends program t o n v → ⊥
 
 -- ---- the evaluation
 
--- A value is of the sort that the function says; its numbers fit 32 bits.
+-- The value is of this sort, and its numbers fit 32 bits.
 abbrev pub OfSort : Sort → Value → Type 0
 OfSort numberValued (number i) = i < 2 ^ 32
 OfSort numberValued (tree t) = ⊥
 OfSort treeValued (number i) = ⊥
 OfSort treeValued (tree t) = Labelled t
 
+-- What holds of every evaluation of a program.
 pub record Evaluations (program : Program) : Type 0 where
   -- the value and the expressions begun are determined
   pub one-value :
@@ -74,7 +75,7 @@ pub record Evaluations (program : Program) : Type 0 where
       → Ends program t o n v
       → OfSort (first .sort) v
 
--- ---- held to a number of open calls
+-- ---- with a bound on the open calls
 
 -- An evaluation that ends within the bound.
 pub record EndsWithin (program : Program) (t : Tree) (o : ℕ) : Type 0 where
@@ -82,8 +83,8 @@ pub record EndsWithin (program : Program) (t : Tree) (o : ℕ) : Type 0 where
   pub value : Value
   pub ends : Ends program t o expressions value
 
--- The record at which a call is one too many, where o may be open: a Call's; where none may be
--- open, no Call opens the first, and it is 0.
+-- The record at which a call is one too many, where o may be open: the record of a Call. Where none
+-- may be open, the first call, which no Call opens, is one too many, and the record is 0.
 pub data AtCall (program : Program) : ℕ → ℕ → Type 0 where
   none-open : AtCall program 0 0
   a-call :
@@ -91,7 +92,7 @@ pub data AtCall (program : Program) : ℕ → ℕ → Type 0 where
       → nth (nodes (program .functions)) k ≡ some (Call a b)
       → AtCall program (suc o) (suc (length (program .functions)) + k)
 
--- Stopped at a call too many, after so many expressions begun.
+-- An evaluation that stops at a call too many, with the number of expressions begun before.
 pub record TooMany (program : Program) (t : Tree) (o : ℕ) : Type 0 where
   pub expressions : ℕ
   pub position : ℕ
@@ -104,8 +105,9 @@ pub data Further {A : Type 0} : Outcome A → Outcome A → Type 0 where
   goes-on : {r : ℕ} {p : Outcome A} → Further (stops tooManyCalls r) p
   both-begin : {o p : Outcome A} → Further o p → Further (begins o) (begins p)
 
+-- What holds of a program's evaluation on a tree when the number of open calls is bounded.
 pub record HeldTo (program : Program) (t : Tree) : Type 0 where
-  -- the function gives a value exactly where the evaluation ends within the bound
+  -- the function `evaluation` gives a value exactly where the rules give it within the bound
   pub gives-value : (o n : ℕ) (v : Value) → (evaluation program o t ≡ afterBegun n (gives v)) ↔ Ends program t o n v
   -- the evaluation ends within the bound, or a call is one too many, and never both
   pub ends-or-stops : (o : ℕ) → EndsWithin program t o ⊎ TooMany program t o
@@ -127,12 +129,12 @@ pub record Goes (program : Program) (M : Term) : Type 0 where
   pub to : Term
   pub reduces : Reduces program M to
 
--- So many reductions can be made.
+-- From this term k reductions can be made.
 pub record Makes (program : Program) (k : ℕ) (M : Term) : Type 0 where
   pub last : Term
   pub leads : Leads program k M last
 
--- They lead to this term.
+-- Reductions lead from the first term to the second.
 pub record Reaches (program : Program) (M N : Term) : Type 0 where
   pub steps : ℕ
   pub leads : Leads program steps M N
@@ -143,12 +145,12 @@ pub record Taken (program : Program) (t : Tree) (v : Value) : Type 0 where
   pub expressions : ℕ
   pub ends : Ends program t calls expressions v
 
--- A term of a number or of a tree.
+-- The term of a number or of a tree.
 pub record ValueReached (M : Term) : Type 0 where
   pub value : Value
   pub is-term : M ≡ valueTerm value
 
--- The program, whose function 0 is `first`, applied to the tree.
+-- What holds of the program, whose function 0 is `first`, applied to the tree.
 pub record Agrees (program : Program) (first : Function) (t : Tree) : Type 0 where
   -- the evaluation gives the value v exactly where the reductions lead to v
   pub leads : (o n : ℕ) (v : Value) → Ends program t o n v → Reaches program (programOn first t) (valueTerm v)
@@ -160,6 +162,7 @@ pub record Agrees (program : Program) (first : Function) (t : Tree) : Type 0 whe
   -- where the evaluation is endless, so are the reductions
   pub endless : Endless program t → (k : ℕ) → Makes program k (programOn first t)
 
+-- What holds of a program's reductions.
 pub record Reductions (program : Program) : Type 0 where
   -- a term reduces to at most one other
   pub one-way : (M N N′ : Term) → Reduces program M N → Reduces program M N′ → N ≡ N′
@@ -174,7 +177,7 @@ pub record Reductions (program : Program) : Type 0 where
 
 -- ---- the source run
 
--- All that comes before the evaluation passes.
+-- Every check before the evaluation passes.
 pub record Passed (file input : List ℕ) (values returns : ℕ) (program : Program) (t : Tree) : Type 0 where
   pub holds : programIn file ≡ done program
   pub passes : passOne program ≡ done tt
@@ -209,8 +212,8 @@ pub record ByReductions (program : Program) (t : Tree) (output : List ℕ) (ran 
   pub is-first : nth (program .functions) 0 ≡ some first
   pub leads : Reaches program (programOn first t) (valueTerm value)
 
--- What a call that ended came from: all that comes before the evaluation passed, the evaluation
--- ended, and fuel and output were enough.
+-- What a call that ended came from: every check before the evaluation passed, the evaluation ended,
+-- and fuel and output were enough.
 pub record EndedFrom (file input output : List ℕ) (values returns fuel : ℕ) (ran : SourceRan) : Type 0 where
   pub program : Program
   pub input-tree : Tree
@@ -222,14 +225,15 @@ pub record EndedFrom (file input output : List ℕ) (values returns fuel : ℕ) 
   pub enough-space : length (resultBytes value) ≤ length output
   pub gives : EndedWith expressions value output ran
 
--- 18 once so many expressions have begun, 14 before.
+-- With fuel for this number of expressions or more, the call is refused with 18; with less, with
+-- 14.
 pub record Refuses18 (output : List ℕ) (call : ℕ → SourceRan) : Type 0 where
   pub expressions : ℕ
   pub enough : (fuel : ℕ) → expressions ≤ fuel → RefusedWith expressions tooManyCalls 0 output (call fuel)
   pub short : (fuel : ℕ) → fuel < expressions → RefusedWith fuel fuelUsedUp 0 output (call fuel)
 
--- Calls of the source run, each with its fuel, and with one file, one input, one output and one
--- work space.
+-- What holds of calls of the source run that differ in their fuel alone: file, input, output and
+-- work space are the same.
 pub record SourceRuns (file input output : List ℕ) (values returns : ℕ) (call : ℕ → SourceRan) : Type 0 where
   -- what comes before the evaluation, the first refusal first
   pub file-refused : (number position fuel : ℕ) → programIn file ≡ refusal number position → RefusedWith 0 number position output (call fuel)
@@ -280,10 +284,10 @@ pub record SourceRuns (file input output : List ℕ) (values returns : ℕ) (cal
       → Passed file input values returns program t
       → ((n : ℕ) (v : Value) → Ends program t mostCalls n v → ⊥)
       → Refuses18 output call
-  -- a call ends in no other case than that of `ends`: its program passed pass one, and so did all
-  -- else before the evaluation, which ended
+  -- a call ends in no other case than that of `ends`: every check before the evaluation passed, and
+  -- the evaluation ended
   pub ended-from : (fuel : ℕ) → call fuel .answer .outcome ≡ done tt → EndedFrom file input output values returns fuel (call fuel)
-  -- every refusal leaves the output, and reports neither bytes nor a number
+  -- every refusal leaves the output untouched, and reports neither bytes nor a number
   pub untouched :
       (number position fuel : ℕ)
       → call fuel .answer .outcome ≡ refusal number position
@@ -300,7 +304,7 @@ pub record SourceRuns (file input output : List ℕ) (values returns : ℕ) (cal
   pub number-fits : (fuel : ℕ) → Bytes input → call fuel .answer .number < 2 ^ 32
   pub same-length : (fuel : ℕ) → length (call fuel .output) ≡ length output
 
--- Of any program.
+-- What holds of every program.
 pub record Meaning : Type 0 where
   pub evaluations : (program : Program) → Evaluations program
   pub held : (program : Program) (t : Tree) → PassesOne program → HeldTo program t

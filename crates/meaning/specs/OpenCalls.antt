@@ -1,6 +1,6 @@
--- The source evaluation held to a number of open calls. A body has no loop, so it always comes to
--- an end: with a value, or at a call too many. It is a function by recursion on the calls that may
--- still be opened and, inside a body, on the expression.
+-- The source evaluation with a bound on the open calls. A body has no loop, so the evaluation
+-- always comes to an end: with a value, or at a call too many. It is a function, by recursion on
+-- the calls that may still be opened and, inside a body, on the expression.
 use Prim.Native.Nat.{ℕ, zero, suc, _+_}
 use mathlib.Core.List.{List, [], _∷_}
 use mathlib.Core.Option.{Option, none, some}
@@ -25,7 +25,7 @@ begun (gives x) = 0
 begun (stops why r) = 0
 begun (begins o) = suc (begun o)
 
--- So many expressions begin first.
+-- An outcome with n more expressions begun before it.
 unfoldable pub afterBegun : {A : Type 0} → ℕ → Outcome A → Outcome A
 afterBegun zero o = o
 afterBegun (suc n) o = begins (afterBegun n o)
@@ -36,8 +36,8 @@ followedBy (gives x) f = f x
 followedBy (stops why r) f = stops why r
 followedBy (begins o) f = begins (followedBy o f)
 
--- What the rows of the file and pass one rule out is given a value too: an unbound name, a tree
--- where a number is wanted or a number where a tree is, a function that is not there.
+-- What the file's rows and pass one rule out is given a value too: an unbound name, a tree where a
+-- number is expected, a number where a tree is, a function that is not there.
 unfoldable pub numberOr : Option ℕ → ℕ
 numberOr none = 0
 numberOr (some i) = i
@@ -88,11 +88,11 @@ unfoldable mutual
   evaluateArgs h E r noArgs numbers = gives numbers
   evaluateArgs h E r (arg x xs) numbers = followedBy (evaluate h E r x) (λ v. evaluateArgs h E (r + size x) xs (resultNumber v ∷ numbers))
 
--- A function's first node.
+-- The record of a function's first node.
 unfoldable pub firstRecord : Program → ℕ → ℕ
 firstRecord program b = suc (length (program .functions)) + total (take b (signatures program))
 
--- A call where so many may be open, itself among them. 01, The table of refusals: "18 a call with
+-- A call where this many may be open, itself among them. 01, The table of refusals: "18 a call with
 -- 1,024 open (the first frame counts)".
 unfoldable pub called : Program → ℕ → Handler
 called program zero r b numbers t = stops tooManyCalls r
@@ -102,8 +102,8 @@ called program (suc calls) r b numbers t =
       | some f ↦ evaluate (called program calls) (inCall numbers t) (firstRecord program b) (f .body)
     ]
 
--- 01, The source evaluation: "It starts in function 0's body, the tree being tree 0". No Call opens
--- the first.
+-- 01, The source evaluation: "It starts in function 0's body, the tree being tree 0". The first
+-- call is opened by no Call.
 unfoldable pub evaluation : Program → ℕ → Tree → Outcome Value
 evaluation program calls t = called program calls 0 0 [] t
 

@@ -85,7 +85,7 @@ reading bytes s = record { address = s .address; frame = s .frame; callers = s .
 abbrev pub writing : List ℕ → State → State
 writing bytes s = record { address = s .address; frame = s .frame; callers = s .callers; read = s .read; output = s .output ++ bytes }
 
--- In a new frame with these words, while the present one waits with those.
+-- In a new frame with the arguments as its words, while the present frame waits with the rest.
 abbrev pub calling : ℕ → List ℕ → List ℕ → State → State
 calling entry arguments rest s =
     let waits : Caller = record { back = suc (s .address); words = rest } in
@@ -98,8 +98,8 @@ returning kept c cs s = record { address = c .back; frame = kept ++ c .words; ca
 -- ---- tests. 01, Instructions that cannot be performed: "19 instruction that can't be performed
 -- (.. missing or surplus words)"
 
--- 01, Instructions that cannot be performed: "words are missing above the frame's base". One word,
--- or two, the top one first, and those under them.
+-- 01, Instructions that cannot be performed: "words are missing above the frame's base". One word
+-- is taken, or two, the top one first, and handed on with those under them.
 unfoldable pub one : List ℕ → (ℕ → List ℕ → Step) → Step
 one [] f = refuses cannotPerform
 one (x ∷ rest) f = f x rest
@@ -180,7 +180,7 @@ operate m s ReadNumber = room m s (takeNumber m s)
 operate m s (Call entry n) = elim (leb n (length (s .frame))) [ true ↦ openCall m entry n s | false ↦ refuses cannotPerform ]
 operate m s (Return k) = elim (kept k (s .frame)) [ some words ↦ leave (s .callers) words s | none ↦ refuses cannotPerform ]
 
--- On its fields. 01, Instructions that cannot be performed: "19 .. (opcode ..)".
+-- An instruction, by its fields. 01, Instructions that cannot be performed: "19 .. (opcode ..)".
 unfoldable pub perform : Setting → State → Instruction → Step
 perform m s i = elim (operationOf i) [ some op ↦ operate m s op | none ↦ refuses cannotPerform ]
 

@@ -54,12 +54,13 @@ both x₁ V₁ x₂ V₂ z = elim (sameName x₁ z) [ true ↦ some V₁ | false
 unfoldable pub without : Name → Substitution → Substitution
 without x σ z = elim (sameName x z) [ true ↦ none | false ↦ σ z ]
 
+-- What a name becomes: what it is replaced by, or itself.
 unfoldable pub replaced : Name → Option Term → Term
 replaced x none = name x
 replaced x (some W) = W
 
--- [σ]M. No bound name is renamed: what programs put in for a name has no free name that could be
--- bound there (numbers and trees have none, a fix has functions' names alone).
+-- [σ]M. No bound name is renamed: what a program's reductions put in for a name has no free name
+-- that could be bound there (numbers and trees have none, a fix has functions' names alone).
 unfoldable pub substitute : Substitution → Term → Term
 substitute σ (int i) = int i
 substitute σ (lam x M) = lam x (substitute (without x σ) M)
@@ -93,7 +94,7 @@ fixing program f M z = elim (sameName f z) [ true ↦ some (fix f M) | false ↦
 
 -- ---- reductions
 
--- What stands in the hole, and what it becomes.
+-- The term in the hole of a context, and what it becomes.
 pub data Redex (program : Program) : Term → Term → Type 0 where
   -- i₁ + i₂ ⟶ plus(i₁, i₂), modulo 2^32
   Es-Plus : {i₁ i₂ : ℕ} → Redex program (plus (int i₁) (int i₂)) (int (sum32 i₁ i₂))
@@ -160,13 +161,14 @@ plug (in-test E M₁ M₂) M = ifZero-01 (plug E M) M₁ M₂
 pub data Reduces (program : Program) : Term → Term → Type 0 where
   in-context : {M N : Term} (E : Context) → Redex program M N → Reduces program (plug E M) (plug E N)
 
--- So many reductions lead from a term to another.
+-- This many reductions lead from the first term to the second.
 pub data Leads (program : Program) : ℕ → Term → Term → Type 0 where
   none-made : {M : Term} → Leads program 0 M M
   one-made : {k : ℕ} {L M N : Term} → Reduces program L M → Leads program k M N → Leads program (suc k) L N
 
 -- ---- programs and values as terms
 
+-- A tree as a term, and a value.
 unfoldable pub treeTerm : Tree → Term
 treeTerm (aLeaf x) = leafTerm (int x)
 treeTerm (aNode l r) = nodeTerm (treeTerm l) (treeTerm r)

@@ -48,22 +48,24 @@ unitsOf r = length (r .performed)
 -- 01, The answer of a stream run: "Its answer gives units, bytes read, bytes written, and the
 -- number (0 for a tree or a refusal)."
 pub record Answer : Type 0 where
-  -- ended, or the refusal's number and place
+  -- ended, or the refusal's number and position
   pub outcome : Result (Unit {0})
   pub units : ℕ
   pub bytesRead : ℕ
   pub bytesWritten : ℕ
   pub number : ℕ
 
--- The place of every refusal is "bytes read".
+-- The position of every refusal is "bytes read".
 unfoldable pub outcomeOf : Stop → ℕ → Result (Unit {0})
 outcomeOf (ended number) read = done tt
 outcomeOf (refused number) read = refusal number read
 
+-- The number that the answer gives: 0 where the run is refused.
 unfoldable pub numberReported : Stop → ℕ
 numberReported (ended number) = number
 numberReported (refused number) = 0
 
+-- The answer of a run.
 abbrev pub answerOf : Run → Answer
 answerOf r =
     record {
@@ -85,7 +87,7 @@ returnWords = 2048
 abbrev pub mostCalls : ℕ
 mostCalls = 1024
 
--- A run of any code, within the limits of 01, Limits.
+-- The setting of a run of any code, with the limits of 01, Limits.
 abbrev pub ofCode : List ℕ → List ℕ → ℕ → Setting
 ofCode code input space = record { holds = heldBy code; input = input; space = space; mostWords = valueWords; mostOpen = mostCalls }
 
@@ -103,11 +105,12 @@ ranTo output r = record { answer = answerOf r; output = written output 0 (r .las
 abbrev pub noneDone : Answer
 noneDone = record { outcome = refusal spaceTooShort 0; units = 0; bytesRead = 0; bytesWritten = 0; number = 0 }
 
+-- A call that is refused with 13: nothing is written.
 abbrev pub tooShort : List ℕ → Ran
 tooShort output = record { answer = noneDone; output = output }
 
--- 01, Instructions: "Any buffer may be run as code". With so many value words and return words
--- lent.
+-- 01, Instructions: "Any buffer may be run as code". A call with so many value words and return
+-- words lent.
 unfoldable pub streamRun : (code input output : List ℕ) (fuel values returns : ℕ) → Ran
 streamRun code input output fuel values returns =
     elim (leb valueWords values && leb returnWords returns) [
@@ -115,7 +118,7 @@ streamRun code input output fuel values returns =
       | false ↦ tooShort output
     ]
 
--- The bytes that a call has written; those of a buffer that it has not.
+-- The bytes that a call has written; and those of a buffer that come after as many bytes.
 abbrev pub writtenBy : Ran → List ℕ
 writtenBy r = take (r .answer .bytesWritten) (r .output)
 

@@ -17,7 +17,7 @@ use Rattle.meaning.specs.OpenCalls.{Outcome, gives, stops, begins, evalu
 
 -- 01, The source run: "The source run's gives expressions begun, bytes written and the number".
 pub record SourceAnswer : Type 0 where
-  -- ended, or the refusal's number and place
+  -- ended, or the refusal's number and position
   pub outcome : Result (Unit {0})
   pub begun : ℕ
   pub bytesWritten : ℕ
@@ -34,7 +34,8 @@ abbrev pub refusedAfter : ℕ → ℕ → ℕ → List ℕ → SourceRan
 refusedAfter begun number position output =
     record { answer = record { outcome = refusal number position; begun = begun; bytesWritten = 0; number = 0 }; output = output }
 
--- The value's bytes written from the output's start, its number reported.
+-- An evaluation that ended: the value's bytes are written from the output's start, its number is
+-- reported.
 abbrev pub endedAfter : ℕ → Value → List ℕ → SourceRan
 endedAfter begun v output =
     record {
@@ -58,7 +59,7 @@ reportFrom begun (gives v) output = reported begun v output
 reportFrom begun (stops why r) output = refusedAfter begun why 0 output
 reportFrom begun (begins o) output = reportFrom (suc begun) o output
 
--- A program that passes pass one, with a tree.
+-- What the checks give: a program that passes pass one, and a tree.
 pub record SourceInput : Type 0 where
   pub program : Program
   pub tree : Tree

@@ -32,7 +32,7 @@ pub data Prevented (m : Setting) (s : State) : Operation → ℕ → Type 0 wher
   no-room-for-leaf : m .space < length (s .output) + 1 → Prevented m s LeafTag outputFull
   no-room-for-node : m .space < length (s .output) + 1 → Prevented m s NodeTag outputFull
   no-room-for-number : m .space < length (s .output) + labelBytes → Prevented m s WriteNumber outputFull
-  -- "18 a call with 1,024 open (the first frame counts)" (the most of `ofCode`)
+  -- "18 a call with 1,024 open (the first frame counts)" (`mostOpen`, as `ofCode` sets it)
   all-open : {entry n : ℕ} → m .mostOpen ≤ opened s → Prevented m s (Call entry n) tooManyCalls
 
 -- The instruction at the state's address is refused with this number. 01, Instructions that cannot

@@ -21,7 +21,7 @@ use Rattle.meaning.specs.Running.{writtenBy, untouchedBy}
 
 -- ---- one step
 
--- What an instruction may be refused with. (14 is the run's.)
+-- What an instruction may be refused with. (14 is a refusal of the run.)
 pub data StepRefusal : ℕ → Type 0 where
   ended-there : StepRefusal inputEnded
   no-tag : StepRefusal notATag
@@ -41,6 +41,7 @@ pub record Grows (s t : State) : Type 0 where
   pub reads : s .read ≤ t .read
   pub writes : Opens (s .output) (t .output)
 
+-- What holds of one step.
 pub record OneStep (m : Setting) (s : State) : Type 0 where
   pub refusals : (number : ℕ) → step m s ≡ refuses number → StepRefusal number
   -- 01, Instructions that cannot be performed: "At one instruction 19 comes before 15 to 18". It is
@@ -56,13 +57,13 @@ pub record OneStep (m : Setting) (s : State) : Type 0 where
 
 -- ---- runs
 
--- The addresses of the instructions performed lead from one state to another.
+-- Steps from one state to another, with the addresses of the instructions performed.
 pub data Steps (m : Setting) : List ℕ → State → State → Type 0 where
   here : {s : State} → Steps m [] s s
   on : {past : List ℕ} {s t u : State} → step m s ≡ goes t → Steps m past t u → Steps m (s .address ∷ past) s u
 
--- A run with its fuel, from s on, reported by its steps: the fuel is used up, or there is fuel for
--- one more and the first frame returns, or that instruction is refused.
+-- A run with its fuel, from s on, described by its steps: the fuel is used up, or there is fuel for
+-- one more instruction and the first frame returns, or that instruction is refused.
 pub data Stops (m : Setting) (fuel : ℕ) (s : State) : Run → Type 0 where
   used-up : {past : List ℕ} {t : State} → Steps m past s t → length past ≡ fuel → Stops m fuel s (record { performed = past; last = t; stop = refused fuelUsedUp })
   returned :
@@ -78,16 +79,16 @@ pub data Stops (m : Setting) (fuel : ℕ) (s : State) : Run → Type 0 where
       → step m t ≡ refuses number
       → Stops m fuel s (record { performed = past; last = t; stop = refused number })
 
--- Instructions performed before a run.
+-- A run with these instructions performed before it.
 abbrev pub afterAll : List ℕ → Run → Run
 afterAll past r = record { performed = past ++ r .performed; last = r .last; stop = r .stop }
 
--- Runs of one setting from one state on.
+-- What holds of runs with one setting, from one state on.
 pub record Runs (m : Setting) (s : State) : Type 0 where
   -- units never exceed the fuel, and equal it at 14
   pub within-fuel : (fuel : ℕ) → unitsOf (run m fuel s) ≤ fuel
   pub fuel-used : (fuel : ℕ) → run m fuel s .stop ≡ refused fuelUsedUp → unitsOf (run m fuel s) ≡ fuel
-  -- a run is its steps, and nothing else is
+  -- a run is its steps, and no other run is
   pub by-steps : (fuel : ℕ) → Stops m fuel s (run m fuel s)
   pub only-one : (fuel : ℕ) (r : Run) → Stops m fuel s r → r ≡ run m fuel s
   -- with more fuel a run goes through the same states
@@ -113,13 +114,13 @@ lookedAt (refusal number position) =
 abbrev pub restsOn : Answer → ℕ
 restsOn a = a .bytesRead + lookedAt (a .outcome)
 
--- Calls of the stream run, each with its input and fuel, and with one code, one work space and one
--- output.
+-- What holds of calls of the stream run that differ in input and fuel alone: code, work space and
+-- output are the same.
 pub record Calls (output : List ℕ) (call : List ℕ → ℕ → Ran) : Type 0 where
   -- units never exceed the fuel, and equal it at 14
   pub within-fuel : (input : List ℕ) (fuel : ℕ) → call input fuel .answer .units ≤ fuel
   pub fuel-used : (input : List ℕ) (fuel position : ℕ) → call input fuel .answer .outcome ≡ refusal fuelUsedUp position → call input fuel .answer .units ≡ fuel
-  -- a refusal's position is the bytes read, and its number 0
+  -- where it is refused, the position is the bytes read, and the answer's number is 0
   pub at-read : (input : List ℕ) (fuel why position : ℕ) → call input fuel .answer .outcome ≡ refusal why position → position ≡ call input fuel .answer .bytesRead
   pub no-number : (input : List ℕ) (fuel why position : ℕ) → call input fuel .answer .outcome ≡ refusal why position → call input fuel .answer .number ≡ 0
   -- what is read is there, what is written fits, and the rest of the output is untouched
@@ -146,7 +147,7 @@ pub record Calls (output : List ℕ) (call : List ℕ → ℕ → Ran) : Type 0 
       → take (restsOn (call input fuel .answer)) other ≡ take (restsOn (call input fuel .answer)) input
       → call other fuel ≡ call input fuel
 
--- Of any code.
+-- What holds of runs of any code.
 pub record StreamRun : Type 0 where
   -- an instruction is read as it is written
   pub reads-back : (op : Operation) → operationOf (instructionOf op) ≡ some op

@@ -1,4 +1,5 @@
--- A law for each way out of `check_file`: the blocks refuse, or both passes say.
+-- A law for each way out of `check_file`: the blocks refuse, or the rows of the records and both
+-- passes decide.
 use Prim.Native.Nat.{ℕ}
 use mathlib.Core.List.{List}
 use mathlib.Core.Path.{_≡_, sym, ap, _∙_}

@@ -13,8 +13,8 @@ pub fn check_records(flat: &[u8]) -> Verdict
     pass_two::check_all_rows(flat)
 }
 
-// A program file: the rows blocks to prefix form, pass one, then pass two, each finished for the
-// whole file before the next begins.
+// Checks a program file: the rows from blocks to prefix form, pass one, then pass two, each
+// finished for the whole file before the next begins.
 pub fn check_file(file: &[u8]) -> Verdict
     ensures { λ r. ⌜ verdictResult r ≡ checkFile (now (file .entry)) ⌝ }
 {

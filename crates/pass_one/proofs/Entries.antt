@@ -77,7 +77,7 @@ unfolding isTree
 tree-expected true = refl
 tree-expected false = refl
 
--- the sort's number reports which type the function's value has
+-- the sort's number decides which type the function's value has
 tree-fits : (sort : Sort) (n : ℕ) (tree : Bool) → sortNumber sort ≡ n → n ≡ 1 → tree ≡ fits sort (expected tree)
 unfolding sortNumber fits
 tree-fits numberValued n tree e one = absurd (omega arith)
@@ -183,7 +183,7 @@ pub ruleset bare = (bare-tree, bare-number)
 -- ---- `is_roomy`
 
 module _ (s : List ℕ) (c : Scope) (node : Record) where
-  -- where words are tested there is to be a word, and elsewhere there always is
+  -- where words are tested, the answer is whether one more word fits; elsewhere it is yes
   tested : ((gs : List Signature) → Known s gs → below (headerIn s .functions) (meant node) ≡ true → wordsTested gs (meant node) ≡ true)
       → Roomy s c node (ltb (c .words) mostFrameWords)
   unfolding roomy
@@ -207,7 +207,7 @@ module _ (s : List ℕ) (c : Scope) (node : Record) where
   roomy-case v case = tested (λ gs known low. ap (λ n. wordsTested gs (meant n)) case)
 
   module _ (v : Called) (r : Bool) (case : node ≡ Call v) (reported : Bare s (v .b) r) where
-    -- a Call's words are tested where its function is a number's with no parameters
+    -- a Call's words are tested where its function gives a number and has no number parameters
     call-tested : (gs : List Signature) → Known s gs → below (headerIn s .functions) (meant node) ≡ true → wordsTested gs (meant node) ≡ r
     unfolding wordsTested
     call-tested gs known low =
@@ -239,7 +239,7 @@ pub ruleset words = (roomy-const, roomy-var, roomy-case, roomy-bare-call, roomy-
 
 -- ---- `tests`
 
--- what the three conditions say, in their order
+-- the verdict of the three conditions, in their order
 abbrev inOrder : ℕ → Bool → Bool → Bool → Result (Unit {0})
 inOrder k n t w = andThen (holdsAt n notBound k) (λ u. andThen (holdsAt t wrongType k) (λ v. holdsAt w tooManyWords k))
 

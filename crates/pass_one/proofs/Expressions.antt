@@ -75,7 +75,7 @@ module _ (s : List ℕ) (k end : ℕ) (c : Scope) where
       own-kind h = ap (λ (shape : Shape). shape .kind) (own-shape h)
 
       module _ (own : Verdict) (tested : Tested s c k node own) where
-        -- its own tests say what is said on entering it
+        -- its own tests give the verdict on entering it
         own-said : {e : Expr} (h : Here s end k e) → verdictResult own ≡ atEntry (h .signed) (entry (scopeOf c) k (headOf e))
         own-said {e} h =
             let same = own-kind h in

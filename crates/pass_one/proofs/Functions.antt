@@ -53,8 +53,8 @@ started s j m n em en = record {
 abbrev rowOne : Program → ℕ → List Function → Result (Unit {0})
 rowOne program k fs = passOver (signatures program) (enteredAll k fs)
 
--- the functions from j on, at record k, say what pass one says of every program that these records
--- are
+-- the functions from j on, the first body at record k, decide what pass one says: of every program
+-- that these records are
 pub record Walking (s : List ℕ) (functions end k j : ℕ) : Type 0 where
   pub some-program : Value (readProgram s)
   pub inside : Inside k end
@@ -93,7 +93,7 @@ module _ (s : List ℕ) (functions end k j : ℕ) where
       })
 
   module _ (c : Scope) (walked : Walked) (more : j < functions) (w : Walking s functions end k j) (starts : Starts s j c) (is : Entered s k end c walked) where
-    -- the body of function j, whose walk is reported, and then those after it
+    -- the body of function j, what its walk reports, and the functions after it
     record Walk (program : Program) : Type 0 where
       at-hand : Turn s functions end passOne rowOne program k j
       over : Result (Unit {0})

@@ -1,5 +1,5 @@
-// 01, Pass one, over flat records, 8 bytes each: at each record, in prefix order, name bound, then
-// type, then words.
+// 01, Pass one, over flat records, 8 bytes each. At each record, in prefix order, it tests that the
+// name is bound, then the type, then the words.
 use records::Part;
 use records::Parts;
 use records::Record;
@@ -69,7 +69,7 @@ fn is_typed(flat: &[u8], node: Record, scope: Scope) -> bool
     }
 }
 
-// Whether a Call of this function leaves a number and takes none.
+// Whether this function gives a number and has no number parameters.
 fn is_bare_number(flat: &[u8], b: u16) -> bool
     ensures { λ r. ⌜ Bare (now (flat .entry)) b r ⌝ }
 {
@@ -79,7 +79,7 @@ fn is_bare_number(flat: &[u8], b: u16) -> bool
     signatures::parameters(flat, b) == 0
 }
 
-// Whether there is a word for the record, where that is tested.
+// Whether there is room for the record's word, where that is tested.
 fn is_roomy(flat: &[u8], node: Record, scope: Scope) -> bool
     ensures { λ r. ⌜ Roomy (now (flat .entry)) scope node r ⌝ }
 {
@@ -149,7 +149,8 @@ fn inside(part: Part, i: usize, scope: Scope) -> Scope
 }
 
 // Pass one over the expression at record k, entered with this scope: its own tests, then its parts
-// in order. Twice the records left up to the end, and one more for the parts, falls at each call.
+// in order. The measure: twice the records left up to the end, and one more for the parts, falls at
+// each call.
 fn enter(flat: &[u8], k: usize, end: usize, scope: Scope) -> Walked
     requires { ⌜ Fits k end (scopeOf scope) ⌝ }
     ensures { λ r. ⌜ Entered (now (flat .entry)) k end scope r ⌝ }

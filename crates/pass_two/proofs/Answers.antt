@@ -15,11 +15,11 @@ use Rattle.pending.specs.declared.Pending.{Pending}
 use Rattle.pass_two.specs.declared.Checked.{Checked}
 use Rattle.pass_two.specs.Inner.Walk.{Stand, stand, Reports, Joined, WentOn}
 
--- nothing is both
+-- a verdict is not both passed and refused
 pub never : {A : Type 0} {v : Verdict} {why : Refusal} {position : ℕ} → v ≡ Refused why position → v ≡ Passed → A
 never e f = let z : _≡_ {A = ℕ} 0 1 = cc in absurd (omega arith)
 
--- it passed: the trees are pending that the answer has, and it came to m
+-- where it passed: the walk gives the trees that the answer has, and the record come to is m
 pub record Came (c : Checked) (m : ℕ) (w : Result (List ℕ)) : Type 0 where
   pub list : w ≡ done (listOf (c .pending))
   pub position : c .next ≡ m
@@ -38,7 +38,7 @@ pub follows : {c r : Checked} {m i : ℕ} {w : Result (List ℕ)} (f : List ℕ 
     → Reports r i (f (listOf (c .pending))) → Reports r i (andThen w f)
 follows {i = i} f reported passed t = record { is = t .is ∙ sym (ap (onValue (stand i)) (then-done f (came reported passed .list))) }
 
--- it refused: so does the walk ..
+-- where it refused, so does the walk ..
 pub stops : {c : Checked} {m : ℕ} {w : Result (List ℕ)} {why : Refusal} {position : ℕ} → Reports c m w → c .verdict ≡ Refused why position → w ≡ refusal (number why) position
 stops {m = m} {w = w} {why = why} {position = position} reported refused = value-refused (stand m) w (number why) position (sym (reported .is) ∙ (rw refused))
 
@@ -47,7 +47,7 @@ pub stays : {c : Checked} {m : ℕ} {w : Result (List ℕ)} {why : Refusal} {pos
     → Reports c m w → c .verdict ≡ Refused why position → Reports c i (andThen w f)
 stays i f reported refused = record { is = (rw refused) ∙ sym (ap (onValue (stand i)) (then-refused f (stops reported refused))) }
 
--- an answer made of what the walk gives
+-- an answer made from what the walk gives
 pub refuses : {p : Pending} {i m : ℕ} {w : Result (List ℕ)} {why : Refusal} {position : ℕ} → w ≡ refusal (number why) position
     → Reports (record { verdict = Refused why position; pending = p; next = i }) m w
 refuses {m = m} e = record { is = sym (ap (onValue (stand m)) e) }
@@ -61,11 +61,11 @@ pub tested : {A B : Type 0} (w : Result A) (test : A → Result (Unit {0})) (f :
 tested (done x) test f = byResult (test x) (λ u e. rw e) (λ number position e. rw e)
 tested (refusal number position) test f = refl
 
--- a refusal did not go on
+-- where a check is refused, nothing is asked of how far it went
 pub stopped : (k last : ℕ) {c : Checked} {why : Refusal} {position : ℕ} → c .verdict ≡ Refused why position → WentOn k last c
 stopped k last refused = record { went = λ passed. never refused passed }
 
--- both branches are finished
+-- where both branches have passed, they are compared
 pub both-joined : {k i m : ℕ} {u w : Result (List ℕ)} {one other r : Checked} → Reports one i u → one .verdict ≡ Passed → Reports other m w → other .verdict ≡ Passed
     → Joined (one .pending) other k r → Reports r m (equalBranches k u w)
 unfolding equalBranches

@@ -45,7 +45,7 @@ pub ruleset joins = (join-same, join-other)
 -- ---- `order_if`
 
 module _ (s : List ℕ) (k last n : ℕ) (p : Pending) (test : Checked) (ot : Ordered s (k + 1) last n p test) where
-  -- what the test reports, and then the other parts
+  -- what the test reports, and then the two parts
   if-reported : {t x y : Expr} → Here s last k (ifZero t x y) → Reports test (suc k + size t) (walk n (suc k) (listOf p) t)
   unfolding partsAt
   if-reported {t} h = let o : Ordered s (suc k) last n p test = rw add-one at ot in o .reports t (first-here (parts-here h))

@@ -34,8 +34,8 @@ abbrev rowTwo : Program → ℕ → List Function → Result (Unit {0})
 rowTwo program k fs = walkAll k fs
 
 module _ (s : List ℕ) (functions last : ℕ) where
-  -- the functions from j on, at record k, say what pass two says of every program that these
-  -- records are
+  -- the functions from j on, the first body at record k, decide what pass two says: of every
+  -- program that these records are
   pub record Walking (k j : ℕ) : Type 0 where
     pub inside : Inside k last
     pub rest : (program : Program) → readProgram s ≡ done program → Left s functions last passTwo rowTwo program k j
@@ -53,7 +53,7 @@ module _ (s : List ℕ) (functions last : ℕ) where
       }
 
   module _ (k j : ℕ) (more : j < functions) (w : Walking k j) (c : Checked) (o : OrderedFunction s k last c) where
-    -- function j, whose check is reported, and then those after it
+    -- function j, and the functions after it
     record Walk (program : Program) : Type 0 where
       at-hand : Turn s functions last passTwo rowTwo program k j
       here : Here s last k (at-hand .here .body)

@@ -131,7 +131,7 @@ pub ruleset calls = (call-stops, call-other, call-takes)
 pub at-end : (s : List ℕ) (k last n : ℕ) (p : Pending) → last ≤ k → Ordered s k last n p (record { verdict = Refused PrefixForm k; pending = p; next = k })
 at-end s k last n p over = record { went-on = stopped (suc k) last refl; reports = λ e h. absurd (omega (arith, some-record e, h .fits)) }
 
--- the arms that take parts alone are those of six kinds
+-- six kinds are walked part after part, with no test of their own
 abbrev plainTags : List ℕ
 plainTags = 0 ∷ 1 ∷ 2 ∷ 4 ∷ 5 ∷ 6 ∷ []
 
@@ -176,7 +176,7 @@ module _ (s : List ℕ) (k last n : ℕ) (p : Pending) (read : RecordRead) (repo
         by a-case h = o .reports _ _ h
 
     module _ (count : ℕ) (counted : count ≡ partCount (arityIn s) (listed parts)) where
-      -- so many parts, from the next record on
+      -- its parts stand from the next record on
       here-parts : {e : Expr} → Here s last k e → HereRow s last (k + 1) (partsAt k e) (k + size e)
       here-parts h = rw add-one (parts-here h)
 

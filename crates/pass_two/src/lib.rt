@@ -12,7 +12,7 @@ ghost use Rattle.refusal.specs.Inner.Verdicts.{verdictResult};
 ghost use Rattle.rules.specs.PassTwo.{checkRecords};
 ghost use Rattle.pass_two.specs.Inner.Walk.{Small, Joined, Ordered, OrderedCall, OrderedCase, OrderedIf, OrderedList, OrderedFunction, PassSays};
 
-// What a check says, with the trees then pending and the record after what was checked.
+// What a check answers: its verdict, the trees then pending, and the record after what was checked.
 struct Checked {
     verdict: Verdict,
     pending: Pending,
@@ -34,9 +34,9 @@ fn joined(one: Pending, other: Checked, k: usize) -> Checked
     }
 }
 
-// Pass two over the expression at record k, where so many tree names are bound. Three times the
-// records left up to the end, with one more for an expression and two more for a list, falls at
-// each call.
+// Pass two over the expression at record k, where so many tree names are bound. The measure: three
+// times the records left up to the end, with one more for an expression and two more for a list,
+// falls at each call.
 fn order_at(flat: &[u8], k: usize, end: usize, trees: u16, pending: Pending) -> Checked
     requires { ⌜ Small k end trees ⌝ }
     ensures { λ r. ⌜ Ordered (now (flat .entry)) k end trees pending r ⌝ }
@@ -67,7 +67,7 @@ fn order_at(flat: &[u8], k: usize, end: usize, trees: u16, pending: Pending) -> 
     }
 }
 
-// A Call takes the head after its arguments.
+// Pass two over the Call at record k, which takes the head after its arguments.
 fn order_call(
     flat: &[u8],
     a: u8,
@@ -130,8 +130,8 @@ fn order_list(
     order_list(flat, i + 1, count, first.next, end, trees, first.pending)
 }
 
-// A Case takes the head. Its leaf part begins with the others; its node part with its two names in
-// front of them.
+// Pass two over the Case at record k, which takes the head. Its leaf part begins with the other
+// trees; its node part with its two names in front of them.
 fn order_case(flat: &[u8], a: u8, k: usize, end: usize, trees: u16, pending: Pending) -> Checked
     requires { ⌜ Small (k + 1) end trees ⌝ }
     ensures { λ r. ⌜ OrderedCase (now (flat .entry)) a k end trees pending r ⌝ }
@@ -165,7 +165,7 @@ fn order_case(flat: &[u8], a: u8, k: usize, end: usize, trees: u16, pending: Pen
     joined(leaf.pending, node, k)
 }
 
-// IfZero's parts both begin with the trees that its test left.
+// Pass two over the IfZero at record k. Both its parts begin with the trees that its test left.
 fn order_if(flat: &[u8], k: usize, end: usize, trees: u16, pending: Pending) -> Checked
     requires { ⌜ Small (k + 1) end trees ⌝ }
     ensures { λ r. ⌜ OrderedIf (now (flat .entry)) k end trees pending r ⌝ }
@@ -188,7 +188,8 @@ fn order_if(flat: &[u8], k: usize, end: usize, trees: u16, pending: Pending) -> 
     joined(zero.pending, other, k)
 }
 
-// A function, its body at record k: begun with its parameter alone and ended with none.
+// Pass two over a function, its body at record k. At first its parameter alone is pending, at the
+// end no tree.
 fn order_function(flat: &[u8], k: usize, end: usize) -> Checked
     requires { ⌜ Small k end 1 ⌝ }
     ensures { λ r. ⌜ OrderedFunction (now (flat .entry)) k end r ⌝ }

@@ -26,7 +26,7 @@ length-list : (p : Pending) → length (listOf p) ≡ lengthOf p
 unfolding listOf
 length-list p = length-from (p .names) (lengthOf p)
 
--- so many names are there
+-- the list has as many names as are counted
 pub counted-list : (p : Pending) (l : ℕ) → l ≡ lengthOf p → listOf p ≡ fromLast (p .names) l
 unfolding listOf
 counted-list p l counted = ap (fromLast (p .names)) (sym counted)
@@ -125,7 +125,7 @@ not-same (x ∷ xs) [] h = refl
 not-same (x ∷ xs) (y ∷ ys) h = ap (λ t. eqb x y && t) (not-same xs ys (λ e. h (ap suc e))) ∙ and-false (eqb x y)
 
 module _ (these those : List ℕ) where
-  -- the first so many names are the same
+  -- the first i names of both are the same
   pub record Alike (l i : ℕ) : Type 0 where
     pub within : i ≤ l
     pub same : sameNames (fromLast these i) (fromLast those i) ≡ true
@@ -138,7 +138,7 @@ module _ (these those : List ℕ) where
   unfolding fromLast sameNames
   same-more l i more e a = record { within = omega arith; same = simp towards-suc (ap₂ _&&_ (eq-eqb _ _ e) (a .same)) }
 
-  -- a difference stays
+  -- lists that differ in one name are not the same
   differ : (l i : ℕ) → i < l → getD these i 0 ≢ getD those i 0 → sameNames (fromLast these l) (fromLast those l) ≡ false
   unfolding fromLast sameNames
   differ zero i h ne = absurd (omega arith)
@@ -156,7 +156,7 @@ module _ (one other : Pending) (l m : ℕ) (counted : l ≡ lengthOf one) (count
   same-lengths h = sym (not-same (listOf one) (listOf other) (λ e. h (omega (arith, length-list one, length-list other))))
 
   module _ (e : l ≡ m) (i : ℕ) where
-    -- both lists have so many names
+    -- both lists have l names
     both : sameNames (fromLast (one .names) l) (fromLast (other .names) l) ≡ sameNames (listOf one) (listOf other)
     both = sym (ap₂ sameNames (counted-list one l counted) (counted-list other l (e ∙ counted′)))
 
@@ -168,7 +168,8 @@ module _ (one other : Pending) (l m : ℕ) (counted : l ≡ lengthOf one) (count
 
 pub ruleset compared = (same-lengths, same-none, same-more, same-differ, same-all)
 
--- ---- for callers: what taking gives, and that two fit where a head was taken from a list that is not full
+-- ---- for callers: what taking the head gives; and two names fit after it, if the list was not
+-- full
 
 head-less : (a k : ℕ) (Δ rest : List ℕ) → takeHead a k Δ ≡ done rest → length Δ ≡ suc (length rest)
 unfolding takeHead

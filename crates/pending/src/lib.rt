@@ -10,8 +10,8 @@ ghost use Rattle.pending.specs.Inner.List.{lengthOf, listOf, Alone, Took
 // The most trees pending.
 const MOST_PENDING: usize = 16;
 
-// The pending trees: the names of so many, the head last. A length past the most counts as the
-// most.
+// The pending trees: the first `len` of these names, the head last. A length above the most counts
+// as the most.
 pub struct Pending {
     pub names: [u16; MOST_PENDING],
     pub len: usize,

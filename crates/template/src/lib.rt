@@ -7,7 +7,7 @@ ghost use lib.ListN.{length};
 ghost use Rattle.records.specs.Inner.Read.{row};
 ghost use Rattle.template.specs.Inner.Items.{ItemsBefore, entriesIn};
 
-// What the table of entries gives where it has none.
+// The entry of a function that the table does not have.
 const NO_ENTRY: u16 = 0;
 
 // How many items there are.

@@ -67,7 +67,8 @@ module _ (entries arity : ℕ → ℕ) (s : Sort) (words : Words) (w : ℕ) wher
       ∙ ap (λ (l : List Operation). own ++ l) (args-code a b (k + size x) last whole (suc i) (codeEnd x at) xs)
       ∙ (rw nothing-before)
 
-  -- where a record has as many parts as its kind says, by these numbers of parameters
+  -- an expression's code is that of its kind's parts and template, where it has as many parts as
+  -- its kind says
   pub by-column : (a k : ℕ) (e : Expr) → length (partsAt k e) ≡ partCount arity (partsOf (headOf e))
       → code entries s words w a e
       ≡ partsCode entries arity (partsOf (headOf e)) (templateOf (headOf e)) (around s words w) (lastPart (templateOf (headOf e)) a 0 a (partsAt k e)) (codeEnd e a) 0 a (partsAt k e)
@@ -82,7 +83,7 @@ module _ (entries arity : ℕ → ℕ) (s : Sort) (words : Words) (w : ℕ) wher
   by-column a k (caseOf v p q) counted = rw append-nil
   by-column a k (call v b xs) counted = (rw (sym (length-args (suc k) xs) ∙ counted, add-zero)) ∙ args-code v b (suc k) _ _ 0 a xs
 
--- the address after it
+-- the address after a Call's code
 beyond-args : (a b k i at : ℕ) (xs : Args) → beyondParts (templateOf (Call a b)) i at (argsAt k xs) ≡ suc (argsEnd xs at)
 unfolding beyondParts argsEnd argsAt templateOf past
 beyond-args a b k i at noArgs = refl

@@ -115,7 +115,7 @@ module _ {s : List ℕ} {k end : ℕ} {c : Scope} {e : Expr} (read : RecordRead)
 
 -- ---- from parts to the first of them, and the others
 
--- a part is placed where it stands
+-- the first part of a row stands where the row begins
 row-position : {s : List ℕ} {gs : List Signature} {k j m : ℕ} {e : Expr} {ps : List Placed} → Row s gs k (placedAt j e ∷ ps) m → j ≡ k
 row-position (next here later) = refl
 
@@ -143,14 +143,14 @@ module _ {s : List ℕ} {shape : Shape} {i k end m : ℕ} {c : Scope} {j : ℕ} 
   ends-by = row-upto (row-others (h .here .row))
 
   module _ (part : PartRead) (inner : Scope) (is-part : partOf part ≡ nthPart (listed (shape .parts)) i) (is : inner ≡ insideScope (partOf part) i c) where
-    -- the part read is the one of its kind, and its scope is the one wanted
+    -- the part read is that of the record's kind, and its scope is the expected one
     own-part : partOf part ≡ own
     own-part = is-part ∙ ap (λ ps. nthPart ps i) (h .from .own)
 
     scope-entered : Enters own i c inner
     scope-entered = rw (is ∙ ap (λ p. insideScope p i c) own-part) (enters own i c enterable)
 
-    -- so it is where the parts are those read
+    -- the same, with the parts as they were read
     pub around-part : aroundOf inner ≡ partAround (nthPart (listed (shape .parts)) i) i (aroundOf c)
     around-part = scope-entered .is ∙ sym (ap (λ ps. partAround (nthPart ps i) i (aroundOf c)) (h .from .own))
 

@@ -1,4 +1,4 @@
--- Proofs about laying code down.
+-- Laws that the proofs of the functions that emit code cite.
 pub mod Written
 pub mod Column
 pub mod Entering

@@ -1,4 +1,4 @@
--- The loops over a program's functions: one measures them, one lays them down.
+-- The loops over a program's functions: one measures them, one emits them.
 use Prim.Native.Nat.{ℕ, _+_, _-_, _*_, _%_, _≤_, _<_}
 use mathlib.Core.List.{List, [], _∷_, _++_, append-nil, map}
 use mathlib.Core.Path.{_≡_, refl, sym, ap, _∙_}
@@ -167,7 +167,7 @@ pub ruleset measuring = (measure-first, measure-asked, measure-index, measure-mo
 
 -- ---- `emit_all`
 
--- functions end after those before them
+-- functions end at the address at which they begin, or after it
 beyond-up : (fs : List Function) (a : ℕ) → a ≤ beyondAll fs a
 unfolding beyondAll functionEnd
 beyond-up [] a = omega arith

@@ -138,7 +138,7 @@ split {s} {shape} {i} {k} {end} {m} {c} {ps} h = by ps m (h .here .row) h
     by ps m (a-part e more) h = some h
 
 module _ (s entries code′ : List ℕ) (base at last : ℕ) (shape : Shape) (i k end : ℕ) (c : Scope) where
-  -- the parts are finished: what stands after them
+  -- the parts are finished: the last items are emitted
   pub parts-done : (n : ℕ) (after : List ℕ) → SmallParts i k end base at last → shape .count ≤ i
       → n ≡ length (row (shape .template .last))
       → after ≡ putAll code′ at (operationsFor s entries c (base + last) (base + (at + n)) (row (shape .template .last)))
@@ -173,7 +173,7 @@ module _ (s entries code′ : List ℕ) (base at last : ℕ) (shape : Shape) (i 
   module _ (items : Items) (n : ℕ) (part : Part) (inner : Scope) (emitted : Emitted) (between : List ℕ)
       (before-it : ItemsBefore (shape .template) i items) (many : n ≡ length (row items)) (is-part : partOf part ≡ nthPart (listed (shape .parts)) i)
       (inside : inner ≡ insideScope (partOf part) i c) (p : Emits s entries code′ between base (at + n) k end inner emitted) (small : SmallParts i k end base at last) (more : i < shape .count) where
-    -- a part that is not entered: none stands there
+    -- a part that is not entered: this does not happen where a part stands there
     pub parts-stuck : emitted .next ≤ k → EmitsParts s entries code′ between base at last shape i k end c emitted
     parts-stuck stuck = record {
       went-on = record {

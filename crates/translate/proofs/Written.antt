@@ -1,5 +1,5 @@
--- Instructions written into a part of the code buffer: those written in front of others, or after
--- them, are written at once.
+-- Instructions written into a part of the code buffer: instructions written in front of others, or
+-- after them, are as if all were written at once.
 use Prim.Native.Nat.{ℕ, suc, _+_, _*_, _≤_}
 use mathlib.Core.List.{List, [], _∷_, _++_, append-assoc, append-nil, map}
 use mathlib.Core.Path.{_≡_, refl, sym, ap, _∙_}

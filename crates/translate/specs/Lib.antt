@@ -1,2 +1,2 @@
--- How code is emitted, and what the functions that do so answer.
+-- How code is emitted, and what the functions that emit it answer.
 pub mod Inner

@@ -35,7 +35,7 @@ struct Emitted {
     last: usize,
 }
 
-// What a record asks for: its parts, its template, and how many parts it has.
+// What a record is made of: its parts, its template, and how many parts it has.
 struct Shape {
     parts: Parts,
     template: Template,
@@ -48,8 +48,8 @@ struct Table {
     count: usize,
 }
 
-// Lays down the expression at record k from address `at` of `code` on, which is address base + at
-// of the program. Where it does not fit nothing is written, and the addresses are reported all the
+// Emits the expression at record k from address `at` of `code` on, which is address base + at of
+// the program. Instructions that do not fit are not written; the addresses are reported all the
 // same.
 fn emit(
     flat: &[u8],
@@ -102,9 +102,9 @@ fn emit(
     }
 }
 
-// Lays down the parts of a record from part i on, the next of them at record k, each after what
-// stands before it, and after them all what stands last. What stands before a part is emitted once
-// the parts are finished: then its addresses are known.
+// Emits the parts of a record from part i on, the next of them at record k, each after the
+// template's items before it, and after them all the template's last items. The items before a part
+// are emitted after all parts, because only then their addresses are known.
 fn emit_parts(
     flat: &[u8],
     entries: &[u16],
@@ -192,7 +192,7 @@ fn words_kept(tree: bool) -> u8
     1
 }
 
-// Lays down function j, its body at record k, at the start of `code`, which is the part of the code
+// Emits function j, its body at record k, at the start of `code`, which is the part of the code
 // buffer that begins at its entry: its body, then return.
 fn emit_function(
     flat: &[u8],
@@ -217,7 +217,8 @@ fn emit_function(
     }
 }
 
-// The table of entries: each function is emitted where nothing fits, and so only measured.
+// The table of entries. Each function is emitted into a buffer in which nothing fits, and so only
+// measured.
 fn measure(flat: &[u8]) -> Table
     requires { ⌜ verdict (checkedRecords (now flat)) ≡ done tt ⌝ }
     ensures { λ r. ⌜ Tabled (now (flat .entry)) r ⌝ }
@@ -243,7 +244,7 @@ fn measure(flat: &[u8]) -> Table
     }
 }
 
-// Lays down all functions, each in the part of the code buffer that begins at its entry.
+// Emits all functions, each in the part of the code buffer that begins at its entry.
 fn emit_all(flat: &[u8], entries: &[u16], code: &mut [u8])
     requires { ⌜ Ready (now flat) (now entries) (now code) ⌝ }
     ensures { λ _. ⌜ EmitsAll (now (flat .entry)) (now (code .entry)) (now (code .exit)) ⌝ }
@@ -263,8 +264,8 @@ fn emit_all(flat: &[u8], entries: &[u16], code: &mut [u8])
 }
 
 // The code of flat records that are a program which both passes accept, written to the start of a
-// lent buffer; or the first refusal of the rows header to prefix form, pass one and pass two, and
-// last 13 where the buffer is too short. A refusal leaves the buffer untouched.
+// lent buffer; or the first refusal: of the rows from header to prefix form, of pass one, of pass
+// two, and last 13 where the buffer is too short. A refusal leaves the buffer untouched.
 pub fn translate_records(flat: &[u8], code: &mut [u8]) -> Filled
     ensures { λ r. ⌜ FilledBuffer
         (translateRecords (length (now (code .entry))) (now (flat .entry))) (now (code .entry))
@@ -284,7 +285,7 @@ pub fn translate_records(flat: &[u8], code: &mut [u8]) -> Filled
     Filled::Written(bytes)
 }
 
-// The same from a program file: the block rows first.
+// The same for a program file: the block rows come first.
 pub fn translate_file(file: &[u8], code: &mut [u8]) -> Filled
     ensures { λ r. ⌜ FilledBuffer (translateFile (length (now (code .entry))) (now (file .entry)))
         (now (code .entry)) (now (code .exit)) r ⌝ }

@@ -57,8 +57,8 @@ module _ (entries : ℕ → ℕ) where
 
 -- ---- instructions from an address on
 
--- These stand there, one after the other. `Has a op` says what it is for op to stand at address a:
--- in a list, or in a machine's code.
+-- These instructions stand from address a on, one after the other. `Has a op` says what it is for
+-- op to stand at address a: in a list, or in a machine's code.
 abbrev pub At : (Has : ℕ → Operation → Type 0) → ℕ → List Operation → Type 0
 At Has a [] = Unit {0}
 At Has a (op ∷ ops) = Has a op × At Has (suc a) ops
@@ -68,13 +68,13 @@ abbrev pub Held : (ℕ → Option Instruction) → ℕ → Operation → Type 0
 Held holds a op = holds a ≡ some (instructionOf op)
 
 module _ (Has : ℕ → Operation → Type 0) where
-  -- they do where each of them stands at its number, counted from a on
+  -- instructions stand so where instruction i of them stands at address a + i
   pub each-at : (a : ℕ) (ops : List Operation) → ((i : ℕ) (op : Operation) → nth ops i ≡ some op → Has (a + i) op) → At Has a ops
   unfolding nth
   each-at a [] h = tt
   each-at a (op ∷ ops) h = (rw add-zero at (h 0 op refl), each-at (suc a) ops (λ i x e. rw (suc-add, ← add-suc) (h (suc i) x e)))
 
-  -- Joined ones stand part after part.
+  -- Of two joined lists, each stands in its own range of addresses.
   pub record Split (a b : ℕ) (xs ys : List Operation) : Type 0 where
     pub first : At Has a xs
     pub then : At Has b ys
@@ -84,7 +84,7 @@ module _ (Has : ℕ → Operation → Type 0) where
   split a b (x ∷ xs) ys e h =
       let rest = split (suc a) b xs ys (omega arith) (h .1) in record { first = (h .0, rest .first); then = rest .then }
 
-  -- so do the code of an expression, or of arguments, and what follows it
+  -- the code of an expression, or of arguments, and what follows it
   pub at-code :
       (entries : ℕ → ℕ) (s : Sort) (words : Words) (w a : ℕ) (e : Expr) (ys : List Operation)
       → At Has a (code entries s words w a e ++ ys)

@@ -1,9 +1,9 @@
 -- What an input begins with: a tree's tokens, or a first fault.
 --
--- A tree that stands at a position is carried there, by recursion on the tree. What stands at a
--- position of any bytes is found by the tag there: a whole leaf; a node, whose left tree is found
+-- A tree that stands at an offset is carried there, by recursion on the tree. What stands at an
+-- offset of any bytes is found by the tag there: a whole leaf; a node, whose left tree is found
 -- next, and then its right tree after it; or a fault. In front of a fault the tokens are those of
--- some tree, whatever trees come after it. The place grows with each tag, so the recursion is on a
+-- some tree, whatever trees come after it. The offset grows with each tag, so the recursion is on a
 -- bound of the bytes that are left.
 use Prim.Native.Nat.{ℕ, zero, suc, _+_, _≤_, _<_}
 use mathlib.Core.List.{List, [], _∷_, _++_}
@@ -21,7 +21,7 @@ use Rattle.formats.proofs.Buffers.{lies-append, lies-first, lies-left, lies-par
 use Rattle.formats.proofs.Tokens.{Look, past, at-leaf, at-node, at-other, look, tag-is, read-leaf, label-whole, reads-at, stands}
 use Rattle.translation.proofs.Carried.{Carries, carried, a-leaf, a-node, no-tag, other-tag, label-cut}
 
--- the position goes by its number
+-- the same offset, written differently
 carries-position : {Faulty : Type 0} {s : List ℕ} {end p q : ℕ} {ts : List Tree} → p ≡ q → Carries Faulty s end p ts → Carries Faulty s end q ts
 carries-position {Faulty} {s} {end} {ts = ts} e h = subst (λ (k : ℕ). Carries Faulty s end k ts) e h
 
@@ -33,7 +33,7 @@ carries-node :
     → Carries Faulty s end p (node l r ∷ ts)
 carries-node {p = p} k h = a-node (tag-is k) (carries-position (sym (add-one p)) h)
 
--- a tree that stands at a position is carried there, in front of what is carried after it
+-- a tree that stands at an offset is carried there, in front of what is carried after it
 carries-tree :
     {Faulty : Type 0} (s : List ℕ) (end p : ℕ) (t : Tree) (ts : List Tree)
     → Labelled t
@@ -64,7 +64,7 @@ pub data Begins (s : List ℕ) : Type 0 where
   with-tree : (t : Tree) → Labelled t → Opens (tokens t) s → Begins s
   with-fault : (t : Tree) → Carries (Unit {0}) s (suc (length s)) 0 (t ∷ []) → Begins s
 
--- What is found at a position: a tree that stands there, or some tree's tokens up to a first fault,
+-- What is found at an offset: a tree that stands there, or some tree's tokens up to a first fault,
 -- whatever trees come after it.
 data Found (s : List ℕ) (p : ℕ) : Type 0 where
   a-tree : (t : Tree) → Labelled t → Lies s p (tokens t) → Found s p
@@ -104,12 +104,12 @@ by-tag s p bs after (at-leaf there is) = found-leaf s p bs (at-leaf there is)
 by-tag s p bs after (at-node there is) = found-node s p (at-node there is) (after there)
 by-tag s p bs after (at-other there nl nn) = a-fault (leaf 0) (λ ts. other-tag tt (tag-is (at-other there nl nn)))
 
--- at any place
+-- at any offset
 found : (room : ℕ) (s : List ℕ) (p : ℕ) → Bytes s → length s ≤ p + room → Found s p
 found zero s p bs h = by-tag s p bs (λ there q later. absurd (omega arith)) (look s p)
 found (suc room) s p bs h = by-tag s p bs (λ there q later. found room s q bs (omega arith)) (look s p)
 
--- what lies at the first place opens the buffer
+-- what lies at offset 0 opens the buffer
 lies-opens : {vs s : List ℕ} → Lies s 0 vs → Opens vs s
 lies-opens {vs} {s} h = record {
   rest = drop (length vs) s;

@@ -1,5 +1,5 @@
--- `MovesWords` is what the machine does with the words of a frame: a step that opens no call and
--- leaves none leads so. Opcode by opcode.
+-- `MovesWords` is what the machine does with the words of a frame, in a step that neither opens a
+-- call nor leaves one: shown opcode by opcode.
 use Prim.Native.Nat.{ℕ, suc, _+_}
 use mathlib.Core.Bool.{Bool, true, false}
 use mathlib.Core.List.{List, [], _∷_}
@@ -20,14 +20,14 @@ use Rattle.meaning.proofs.Steps.{holds-if, holds-some, holds-one, holds-two}
 use Rattle.translation.specs.CodeLimits.{MovesWords, by-push, by-get, by-add, by-ifnot-zero, by-ifnot-other, by-jump, by-slide, by-drop, by-leaf-tag, by-node-tag, by-write-number, by-read-leaf, by-read-node, by-read-number}
 
 module _ (program : Program) (m : Setting) (s : State) where
-  -- What is to be shown of each thing that may be the outcome of an instruction.
+  -- What is to be shown of each outcome of an instruction.
   abbrev Led : Operation → Step → Type 0
   Led op (goes t) =
       length (t .callers) ≡ length (s .callers) → MovesWords program op (s .address) (length (s .frame)) (t .address) (length (t .frame))
   Led op (ends n) = Unit {0}
   Led op (refuses n) = Unit {0}
 
-  -- a state that is gone to if a test passes
+  -- a state that comes next if a test passes
   led-goes : (op : Operation) (test : Bool) (t : State) (n : ℕ)
       → MovesWords program op (s .address) (length (s .frame)) (t .address) (length (t .frame))
       → Led op (elim test [ true ↦ goes t | false ↦ refuses n ])
@@ -94,7 +94,7 @@ module _ (program : Program) (m : Setting) (s : State) where
       by-kept k none = tt
       by-kept k (some words) = by-left k words (s .callers) refl
 
--- a step that opens no call and leaves none
+-- a step that neither opens a call nor leaves one
 pub as-counted :
     (program : Program) (m : Setting) (s t : State) (op : Operation)
     → operate m s op ≡ goes t

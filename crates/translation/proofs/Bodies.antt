@@ -41,7 +41,7 @@ admitted-body {r = r} a = record {
   in-order = walks (record { derivation = a .derivation; few = a .few-pending (a .derivation) });
 }
 
--- so has each of admitted functions
+-- so has each function of an admitted list
 admitted-bodies :
     (gs : List Signature) (r : ℕ) (fs : List Function)
     → AdmittedFrom gs r fs

@@ -34,7 +34,7 @@ use Rattle.translation.proofs.EveryRun.{every-run}
 
 -- ---- what comes before a run
 
--- what the checks say is what is said of the program that they accept
+-- the verdict of the checks is that of reading the program and checking it
 pub as-checked : (s : List ℕ) → checkRecords s ≡ verdict (checkedRecords s)
 unfolding checkRecords checkedRecords
 as-checked s = by (readProgram s)
@@ -146,7 +146,7 @@ translated room s program e passes fits =
     then-done _ (then-done _ e ∙ ap (onValue (λ u. program)) passes) ∙ within-room room (codeOf program) fits
 
 module _ (file code : List ℕ) (values returns : ℕ) (bytes : Bytes file) (program : Program) (ready : Ready file code values returns program) where
-  -- its code is what the run is made of
+  -- its code is what is run
   pub ready-prepared : prepared (length code) values returns file ≡ done (codeOf program)
   unfolding translateFile programIn
   ready-prepared =
@@ -215,7 +215,7 @@ module _ (file code : List ℕ) (values returns : ℕ) (bytes : Bytes file) (pro
         one-for-one = λ first known sort ended. holds .one-for-one first input output fuel known sort bs ended;
       }
 
-  -- what was answered, and the output at exit, are those
+  -- the call's answer, and the output at exit, are those
   module _ (input output : List ℕ) (fuel : ℕ) (answer : Answer) (after : List ℕ)
       (answered : answer ≡ runFile file input output code fuel values returns .answer)
       (left : after ≡ runFile file input output code fuel values returns .output) where
@@ -267,7 +267,7 @@ all-runnable program checked =
       };
     }
 
--- and every one listed
+-- and every one can be listed
 pub never-short : NeverShort
 unfolding translateFile translateRecords checkedRecords
 never-short file bytes = byResult (flatIn file)

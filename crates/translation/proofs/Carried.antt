@@ -39,7 +39,7 @@ picks-one (picked {y = y} e h) (picked {y = z} d k) =
     let rest = picks-one h k in
     cc
 
--- those of an end of the numbers
+-- the entries of a tail of the numbers
 pub record PickedTail {A : Type 0} (xs : List A) (ks : List ℕ) : Type 0 where
   pub entries : List A
   pub picks : Picks xs ks entries
@@ -72,9 +72,9 @@ on-first-words (i ∷ numbers) = picked (level-newest i (length numbers) numbers
 
 -- ---- the input
 
--- From place p on the input carries the tokens of these trees, in order, up to the position `end`.
+-- From offset p on the input carries the tokens of these trees, in order, up to the offset `end`.
 -- Where `Faulty` allows it, only up to a first fault: a tag that is not there, a byte that is no
--- tag, or a label that is not whole; what the trees are from there on is then of no matter.
+-- tag, or a label that is not whole; what the trees are from there on does not matter then.
 pub data Carries (Faulty : Type 0) (s : List ℕ) (end : ℕ) : ℕ → List Tree → Type 0 where
   carried : Carries Faulty s end end []
   a-leaf :

@@ -234,7 +234,7 @@ grow-units = refl
 
 -- ---- a listing as text
 
--- A sign, a number of 10 digits, an address and a byte of the greatest length.
+-- A sign, a number of 10 digits, and an address and a byte with the most digits.
 long-lines :
     text (listed 2 (listingLine 0 10 0 4127 (pos 0) ∷ listingLine 1 0 255 0 (negsuc 2147483647) ∷ []))
     ≡ ascii "code 2\n0 10 0 4127 0\n1 0 255 0 -2147483648\n"

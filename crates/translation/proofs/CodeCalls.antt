@@ -40,7 +40,7 @@ pub data StopsFor (Faulty : Type 0) : Stop → Type 0 where
   no-call : StopsFor Faulty (refused tooManyCalls)
   at-fault : {why : ℕ} → Faulty → InputFault why → StopsFor Faulty (refused why)
 
--- a run whose course stops so does
+-- a run whose course stops for one of these reasons does so too
 came-for :
     {Faulty : Type 0} {last : State} {units counts space fuel : ℕ} {why : Stop} {r : Run}
     → StopsFor Faulty why
@@ -68,7 +68,7 @@ module _ (given : Given) where
   unfolding streamRun
   call-runs input output fuel = simp (streamRun, le-leb _ _ words-lent, le-leb _ _ returns-lent)
 
-  -- what it has read, its units, how it came out, and what it has written
+  -- what it has read, its units, its outcome, and what it has written
   pub call-reads : (input output : List ℕ) (fuel : ℕ) → runOn given input output fuel .answer .bytesRead ≡ runOf input output fuel .last .read
   call-reads input output fuel = ap (λ (r : Ran). r .answer .bytesRead) (call-runs input output fuel)
 
@@ -100,7 +100,7 @@ module _ (given : Given) where
       → Came c (length output) fuel (runOf input output fuel)
   goes-along c output fuel = came c (length output) fuel zero-le
 
-  -- one that is done was not refused, so it has gone the whole way
+  -- a call that ended was not refused, so its run has gone the whole way
   refused-not-done : (input output : List ℕ) (fuel : ℕ) {why : ℕ} → runOf input output fuel .stop ≡ refused why
       → runOn given input output fuel .answer .outcome ≢ done tt
   unfolding outcomeOf
@@ -116,7 +116,7 @@ module _ (given : Given) where
     | whole a l ↦ a
   ]
 
-  -- and none is done whose course is refused
+  -- a call whose course is refused does not end
   pub refused-call : {input : List ℕ} {why : ℕ} → Course (on input) start (refused why) → (output : List ℕ) (fuel : ℕ)
       → runOn given input output fuel .answer .outcome ≢ done tt
   refused-call {input} c output fuel e = refused-not-done input output fuel (done-whole-way c output fuel e .stops) e

@@ -1,4 +1,4 @@
--- The limits of a program's code (CodeLimits), put together.
+-- The limits of a program's code: the proof of `CodeLimitsHold` (specs/CodeLimits), put together.
 use Rattle.translation.specs.CodeLimits.{CodeLimitsHold}
 use Rattle.translation.proofs.AsCounted.{as-counted}
 use Rattle.translation.proofs.InPlace.{in-place}

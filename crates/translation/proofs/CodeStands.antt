@@ -76,7 +76,7 @@ same-entry a (h ∷ fs) (suc b) zero f g e d same =
     absurd (omega (arith, ends (h .body) a, entry-after (functionEnd h a) fs b))
 same-entry a (h ∷ fs) (suc b) (suc c) f g e d same = same-entry (functionEnd h a) fs b c f g e d same
 
--- so it is with a program's functions
+-- the same for a program's functions
 pub one-function : (program : Program) (b c : ℕ) (f g : Function)
     → nth (program .functions) b ≡ some f
     → nth (program .functions) c ≡ some g

@@ -26,7 +26,7 @@ use Rattle.translation.specs.CodeLimits.{Sound}
 use Rattle.translation.proofs.Addresses.{At, at-code, at-args}
 use Rattle.translation.proofs.CodeStands.{Holds, code-stands}
 
--- ---- code in its position
+-- ---- expressions and their code
 
 -- `Coded program s e a b`: the expression e has a value of sort s, and its code stands from address
 -- a to the one before b.
@@ -210,7 +210,7 @@ module _ (program : Program) where
     first : ℕ
     sound : SoundIn (startOf f) first (f .body)
 
-  -- so it is with each function, if it is with all records
+  -- each function's body is so, if all records are
   sound-body : (r : ℕ) (fs : List Function) → Every (Sound (signatures program)) (enteredAll r fs)
       → (b : ℕ) (f : Function) → nth fs b ≡ some f → SoundBody f
   unfolding enteredAll nth

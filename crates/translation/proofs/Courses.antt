@@ -17,8 +17,8 @@ use Rattle.translation.proofs.Paths.{withSpace, Path, no-step, join}
 use Rattle.translation.proofs.Wider.{step-fits, goes-too, full, narrowed}
 use Rattle.translation.proofs.Meets.{steps-grow}
 
--- The machine goes no further: the first frame returns, or the instruction is refused. The step,
--- why the run stops, and the units that this last instruction counts.
+-- The machine goes no further: the first frame returns, or the instruction is refused. The indices:
+-- the step, why the run stops, and the units that this last instruction counts.
 pub data Final : Step → Stop → ℕ → Type 0 where
   returns : {number : ℕ} → Final (ends number) (ended number) 1
   refused-there : {why : ℕ} → Final (refuses why) (refused why) 0
@@ -34,7 +34,7 @@ pub record Course (m : Setting) (s : State) (why : Stop) : Type 0 where
   pub is-final : Final final why counts
   pub there : (space : ℕ) → length (last .output) ≤ space → step (withSpace space m) last ≡ final
 
--- one that is refused at once; and one after a path
+-- a course that is refused at once; and one after a path
 pub refused-at-once : {m : Setting} {why : ℕ} (s : State) → ((space : ℕ) → step (withSpace space m) s ≡ refuses why) → Course m s (refused why)
 refused-at-once s e =
     record { last = s; units = 0; path = no-step s; final = _; counts = 0; is-final = refused-there; there = λ space fits. e space }
@@ -98,7 +98,7 @@ grown-length {s} {t} g = omega (arith, ap length (g .writes .joined), length-app
 
 module _ (m : Setting) (space : ℕ) {final : Step} {why : Stop} {counts : ℕ} (f : Final final why counts) where
   -- Where what has been written still fits, a run from s with any fuel comes to `last`, and stops
-  -- there if that can be.
+  -- there if fuel and space allow it.
   abbrev Leading : List ℕ → State → State → Type 0
   Leading past s last =
       (fuel : ℕ)
@@ -106,7 +106,7 @@ module _ (m : Setting) (space : ℕ) {final : Step} {why : Stop} {counts : ℕ} 
       → (length (last .output) ≤ space → step (withSpace space m) last ≡ final)
       → CameTo last (length past) counts why space fuel (run (withSpace space m) fuel s)
 
-  -- a step before: it is made with this space too, or does not fit
+  -- one step before: it is made with this space too, or what it writes does not fit
   step-before :
       {past : List ℕ} (s : State) {t last : State}
       → step m s ≡ goes t
@@ -131,7 +131,7 @@ module _ (m : Setting) (space : ℕ) {final : Step} {why : Stop} {counts : ℕ} 
     | on {s = s} e (d → h) ↦ step-before s e d h
   ]
 
--- along the path, as it is with the space that its end needs
+-- along the steps that the course has with the space that its end needs
 pub came : {m : Setting} {s : State} {why : Stop} (c : Course m s why) (space fuel : ℕ) → length (s .output) ≤ space
     → Came c space fuel (run (withSpace space m) fuel s)
 came {m} c space fuel fits =

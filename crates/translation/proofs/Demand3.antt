@@ -1,8 +1,8 @@
 -- Demand 3: the proof of specs/Demand3.antt.
 --
 -- The run on a tree's own tokens has a known course (WholeRuns), so it ends, or is refused with 14,
--- 17 or 18: it looks at no byte that it has not read. What stands after the tree is then of no
--- matter (StreamRun, `same-input`), and no more is read than the tree's tokens. What is written is
+-- 17 or 18: it looks at no byte that it has not read. So what stands after the tree does not matter
+-- (StreamRun, `same-input`), and no more is read than the tree's tokens. What is written is
 -- compared with the run of a wider machine, on which the evaluation's calls can all be open: its
 -- steps go on from those of the narrow one.
 use Prim.Native.Nat.{ℕ, suc, _+_, _*_, _≤_, _<_}
@@ -90,7 +90,7 @@ module _ (given : Given) (t : Tree) (labelled : Labelled t) where
       let looked = ap lookedAt (call-outcome given (tokens t ++ []) output fuel refl) ∙ none-looked-at _ (stops-for given (course []) output fuel) in
       omega (arith, length-append (tokens t) [], read, looked)
 
-  -- so what stands after it is of no matter
+  -- so what stands after it does not matter
   pub nothing-after : (rest output : List ℕ) (fuel : ℕ) → runOn given (tokens t ++ rest) output fuel ≡ runOn given (tokens t ++ []) output fuel
   nothing-after rest output fuel =
       let k = restsOn (runOn given (tokens t ++ []) output fuel .answer) in
@@ -102,7 +102,7 @@ module _ (given : Given) (t : Tree) (labelled : Labelled t) where
   reads-no-more : (rest output : List ℕ) (fuel : ℕ) → runOn given (tokens t ++ rest) output fuel .answer .bytesRead ≤ length (tokens t)
   reads-no-more rest output fuel = rw (nothing-after rest output fuel) (omega (arith, rests-on-tokens output fuel))
 
-  -- what is read are opening bytes of it
+  -- the bytes read are opening bytes of it
   reads-opening : (rest output : List ℕ) (fuel : ℕ) → Opens (readBy (runOn given (tokens t ++ rest) output fuel) (tokens t ++ rest)) (tokens t)
   reads-opening rest output fuel =
       let k = runOn given (tokens t ++ rest) output fuel .answer .bytesRead in

@@ -1,5 +1,5 @@
--- The code of a program lies where its entries say: among its bytes, with whatever bytes after
--- them, each function's code stands from its entry on.
+-- The code of a program stands where its entries say: in its bytes, whatever bytes come after them,
+-- each function's code stands from its entry on.
 --
 -- An instruction has eight bytes, at eight times its address; they are read as the instruction
 -- because its fields fit (Operands). Bytes after do not change what is read. So each instruction
@@ -24,7 +24,7 @@ use Rattle.translation.proofs.Addresses.{Held}
 use Rattle.translation.proofs.CodeStands.{Holds, FunctionStands, code-stands}
 use Rattle.translation.proofs.Operands.{few-instructions, operands-fit}
 
--- a number, and a record, are read as they are without the bytes after
+-- a number, and a record, are read as if there were no bytes after them
 number-front : (width : ℕ) (s rest : List ℕ) (p : ℕ) → p + width ≤ length s → numberAt width (s ++ rest) p ≡ numberAt width s p
 number-front width s rest p h =
     numberAt-whole width (s ++ rest) p (omega (arith, length-append s rest))
@@ -43,14 +43,14 @@ record-front s rest k h =
       number-front 4 s rest (p + 4) (omega arith),
     )
 
--- what stands in a list is within it, for past its end stands nothing
+-- an entry of a list has an index below the list's length
 nth-within : {A : Type 0} (xs : List A) (k : ℕ) (x : A) → nth xs k ≡ some x → k < length xs
 nth-within xs k x e = elim (decLe (length xs) k) [
   | yes h ↦ absurd (Option·none-ne-some x (sym (none-past xs k h) ∙ e))
   | no h ↦ omega arith
 ]
 
--- what holds of all mapped entries holds of the mapped list
+-- what holds of each entry's image holds of every entry of the mapped list
 every-map : {A B : Type 0} (P : B → Type 0) (h : A → B) (xs : List A) → Every (λ x. P (h x)) xs → Every P (map h xs)
 every-map P h [] e = tt
 every-map P h (x ∷ xs) e = (e .0, every-map P h xs (e .1))
@@ -64,7 +64,7 @@ held-there :
 unfolding heldBy
 held-there bytes a h k = rw (heldBy, lt-ltb a mostInstructions h, le-leb (instructionBytes * a + instructionBytes) (length bytes) k)
 
--- an instruction of a lawful program is held at its address
+-- a lawful program's code holds each of its instructions at its address
 operation-held :
     (program : Program)
     → Lawful program

@@ -1,8 +1,9 @@
--- What else holds of every run of a checked program's code: the proof of specs/EveryRun.antt.
+-- What holds of every run of a checked program's code, besides demand 3: the proof of
+-- specs/EveryRun.antt.
 --
 -- Any input begins with a tree's tokens or has a fault (AnyInput), and in both cases the course of
--- the run is known. It is never 19; and with a fault it is never to the end: the trees pending are
--- then carried up to a position that no run can come to.
+-- the run is known. It is never 19; and with a fault the run never ends: the pending trees are then
+-- carried up to an offset that no run can come to.
 use Prim.Native.Nat.{ℕ, suc, _+_, _≤_, _<_}
 use mathlib.Core.List.{List, [], _∷_, _++_}
 use mathlib.Core.Logic.{_≢_}

@@ -1,5 +1,5 @@
 -- What pass two says of the pending trees: a tree that is taken stands at the head, two branches
--- end with one list, and what is left is an end of the list.
+-- end with one list, and what is left is a tail of the list.
 use Prim.Native.Nat.{ℕ, suc, _+_}
 use mathlib.Core.List.{List, [], _∷_}
 use mathlib.Core.Path.{_≡_, refl, ap, _∙_}
@@ -53,7 +53,7 @@ case-in-order n r a Δ Δ′ p q e =
 
 -- ---- what is left
 
--- The second list is an end of the first.
+-- The second list is a tail of the first.
 pub data Tail : List ℕ → List ℕ → Type 0 where
   all-left : {Δ : List ℕ} → Tail Δ Δ
   one-taken : {x : ℕ} {Δ Δ′ : List ℕ} → Tail Δ Δ′ → Tail (x ∷ Δ) Δ′

@@ -1,6 +1,6 @@
--- Steps from one state on are one row: each state has at most one next one. So a state that the row
--- comes to leads on to every state at which the row ends, and what has been read and written by
--- then only grows.
+-- Steps from one state on form one sequence: each state has at most one next state. So a state in
+-- the sequence leads on to the state at which it ends, and what has been read and written by then
+-- only grows.
 use Prim.Native.Nat.{ℕ, _+_, zero-le}
 use mathlib.Core.List.{List}
 use mathlib.Core.Path.{_≡_, subst}
@@ -22,7 +22,7 @@ pub record LeadsOn (m : Setting) (u w : State) : Type 0 where
   pub steps : Steps m rest u w
 
 module _ {m : Setting} where
-  -- after a first step, which is the other row's too
+  -- after a first step, which is also that of the other sequence
   after-first :
       {q : List ℕ} {s t u w : State}
       → ((v : State) → step m w ≡ goes v → ⊥)
@@ -33,13 +33,13 @@ module _ {m : Setting} where
   after-first {t = t} none e onward here = absurd (none t e)
   after-first {t = t} none e onward (on {t = v} d k) = let same : v ≡ t = cc in onward _ (rw same at k)
 
-  -- where a row goes no further, every other from the same state leads to its end
+  -- where a sequence goes no further, every other from the same state leads to its end
   meets : {p q : List ℕ} {s u w : State} → Steps m p s u → Steps m q s w → ((t : State) → step m w ≡ goes t → ⊥) → LeadsOn m u w
   meets {q = q} {w = w} d k none = elim d as (λ p s u d. (q : List ℕ) → Steps m q s w → LeadsOn m u w) [
     | here ↦ λ q k. record { rest = q; steps = k }
     | on e (d → h) ↦ λ q k. after-first none e h k
   ] q k
 
-  -- so what has been read and written grows to what has been at that end
+  -- so what has been read and written only grows up to that end
   pub meets-grows : {p q : List ℕ} {s u w : State} → Steps m p s u → Steps m q s w → ((t : State) → step m w ≡ goes t → ⊥) → Grows u w
   meets-grows d k none = steps-grow (meets d k none .steps)

@@ -53,7 +53,7 @@ mutual
   ends-args (arg x xs) a = omega (arith, length-append (prefix x) (prefixes xs), ends x a, ends-args xs (codeEnd x a))
 
 module _ (entries : ℕ → ℕ) where
-  -- a function's code ends where the next one's begins
+  -- a function's code ends where the next function's begins
   pub length-function : (a : ℕ) (f : Function) → a + length (functionCode entries a f) ≡ functionEnd f a
   unfolding functionCode functionEnd
   length-function a f =
@@ -61,7 +61,7 @@ module _ (entries : ℕ → ℕ) where
       let body = code entries (f .sort) words (f .parameters) a (f .body) in
       omega (arith, length-append body (Return (wordsKept (f .sort)) ∷ []), length-code entries (f .sort) words (f .parameters) a (f .body))
 
-  -- and the code of those after it follows
+  -- and the code of the functions after it follows
   length-functions :
       (a : ℕ) (f : Function) (fs : List Function)
       → a + length (functionsCode entries a (f ∷ fs)) ≡ functionEnd f a + length (functionsCode entries (functionEnd f a) fs)
@@ -118,7 +118,7 @@ unfolding firstWords
 first-small zero h = tt
 first-small (suc n) h = (omega arith, first-small n (omega arith))
 
--- and a Call has few arguments, whichever function it names
+-- and a Call has at most so many arguments, whichever function it names
 few-arguments :
     (gs : List Signature) (j : ℕ) (fs : List Function)
     → LawfulFunctions gs j fs

@@ -13,7 +13,7 @@ use Rattle.meaning.specs.StreamRun.{Steps, here, on}
 abbrev pub withSpace : ℕ → Setting → Setting
 withSpace space m = record { holds = m .holds; input = m .input; space = space; mostWords = m .mostWords; mostOpen = m .mostOpen }
 
--- So many instructions lead from s to t. (The setting's own space is not looked at.)
+-- This many instructions lead from s to t. (The setting's own space is not looked at.)
 pub record Path (m : Setting) (s t : State) (units : ℕ) : Type 0 where
   pub past : List ℕ
   pub many : length past ≡ units

@@ -99,7 +99,7 @@ module _ (m : Setting) (s : State) where
   abbrev written : List ℕ → List ℕ → State
   written words bytes = record { address = suc (s .address); frame = words; callers = s .callers; read = s .read; output = s .output ++ bytes }
 
-  -- bytes go out where they fit
+  -- bytes are written where they fit
   writes : (op : Operation) (words bytes : List ℕ) → Next m s op
       → ((space : ℕ) → operate (withSpace space m) s op ≡ write (withSpace space m) bytes (moved (s .address) words s))
       → Path m s (written words bytes) 1
@@ -160,7 +160,7 @@ module _ (m : Setting) (s : State) where
 
   -- ---- calls
 
-  -- In a new frame with these words, while the present one waits with those.
+  -- In a new frame with the arguments as its words, while the present frame waits with the rest.
   abbrev pub inside : ℕ → List ℕ → List ℕ → State
   inside entry arguments rest =
       let waits : Caller = record { back = suc (s .address); words = rest } in

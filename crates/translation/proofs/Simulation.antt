@@ -145,8 +145,8 @@ module _ (Faulty : Type 0) (m : Setting) (program : Program) (end : ℕ) (wide :
     pub counts : 2 + unitsIn derivation ≡ units
     pub carries : Carries Faulty (m .input) end read beyond
 
-  -- What is to be shown of an expression of a sort under so many names, of arguments, and of calls.
-  -- (r and q are record numbers, of pass two and of the evaluation.)
+  -- What is to be shown of an expression of a sort, with g number names and n tree names; of
+  -- arguments; and of calls. (r and q are record numbers, of pass two and of the evaluation.)
   abbrev pub Sim : (g n : ℕ) (sort : Sort) (e : Expr) → Type 0
   Sim g n sort e =
       (E : Environment) (words : Words) (w r : ℕ) (Δ Δ′ : List ℕ) (beyond : List Tree) (s : State)
@@ -322,7 +322,7 @@ module _ (Faulty : Type 0) (m : Setting) (program : Program) (end : ℕ) (wide :
       (goes-next Faulty m _ (sim-t E words w _ Δ (parts .value) beyond s b (parts .first) (omega arith) (emitted-t .first) _) λ n₁ i u₁ read₁ after₁.
       picks i n₁ u₁ read₁ after₁)
 
-  -- after a part under one more name, the word of that name goes
+  -- after a part with one more name, the word of that name is removed
   does-end : (sort : Sort) (x : ValuesOf sort) (i a b read read′ : ℕ) (s : State) → Has a (endOf sort)
       → Path m (finished sort x a read (finished numberValued i b read′ s)) (finished sort x (suc a) read s) 1
   unfolding endOf
@@ -385,7 +385,8 @@ module _ (Faulty : Type 0) (m : Setting) (program : Program) (end : ℕ) (wide :
       (after-by (Node (after₁ .derivation) (after₂ .derivation))
       (omega (arith, after₁ .is-begun, after₂ .is-begun)) (omega (arith, after₁ .counts, after₂ .counts)) (after₂ .left))))
 
-  -- names that were pending before a node's parts were named are so without them
+  -- trees that were named before a node's parts, and are still pending, stay so when the parts'
+  -- names go
   older-left :
       {trees : List Tree} {Δ : List ℕ} {beyond : List Tree} {read : ℕ} (l u : Tree) {ts : List Tree}
       → Picks trees Δ ts
@@ -547,7 +548,7 @@ module _ (Faulty : Type 0) (m : Setting) (program : Program) (end : ℕ) (wide :
           (omega (arith, after₁ .is-begun, after₂ .is-begun)) (omega (arith, after₁ .counts, after₂ .counts))
           (record { pending = ts; named = named; carries = after₂ .carries }))
 
-  -- every expression that pass one takes keeps up, if the calls in it do
+  -- every expression that pass one accepts keeps up, if the calls in it do
   pub sim : SimCalls → {g n : ℕ} {sort : Sort} {e : Expr} → Proper (program .functions) g n sort e → Sim g n sort e
   sim calls d = elim d as (λ g n sort e d. Sim g n sort e) (λ g n count xs d. SimArgs g n count xs) [
     | proper-const {i = i} small ↦ sim-const i

@@ -1,7 +1,7 @@
 -- The run of a program's code from its start: its course is known from the evaluation. Where the
 -- evaluation ends within the calls that may be open, the run comes to the end of function 0 with
--- the value; where a call is one too many, it is refused there; or the input has a fault, and it is
--- refused at it.
+-- the value; where a call is one too many, it is refused there; or the input has a fault, and the
+-- run is refused at it.
 use Prim.Native.Nat.{ℕ, suc, _*_, _≤_}
 use mathlib.Core.List.{List, [], _∷_}
 use mathlib.Core.Path.{_≡_, refl, sym, _∙_}

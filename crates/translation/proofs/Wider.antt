@@ -1,7 +1,7 @@
 -- Wider limits. Under smaller limits an instruction does what it does under larger ones, or is
 -- refused because words, calls or space are too few (`Widened`). That is shown once, by cases over
--- the operation: each line is made of tests that both settings make alike, and at most one test
--- against a limit. What steps do under other limits is read off it.
+-- the operation: each line is made of tests that come out the same in both settings, and at most
+-- one test against a limit. What steps do under other limits is read off it.
 use Prim.Native.Nat.{ℕ, suc, _+_, _≤_, _<_}
 use mathlib.Core.Bool.{Bool, true, false}
 use mathlib.Core.List.{List, [], _∷_}
@@ -207,7 +207,7 @@ step-fits m s e = subst (Fits m s) e (wide-fits (wide-step (more-space m (m .spa
 
 -- ---- another space
 
--- With this space too the step goes to t, or the output is full, for t has written more.
+-- With this space too the step goes to t, or the output is full, because t has written more.
 pub data Narrowed (m : Setting) (space : ℕ) (s t : State) : Type 0 where
   goes-too : step (withSpace space m) s ≡ goes t → Narrowed m space s t
   full : step (withSpace space m) s ≡ refuses outputFull → space < length (t .output) → Narrowed m space s t

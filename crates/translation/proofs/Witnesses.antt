@@ -1,7 +1,7 @@
 -- Witnesses for demand 3: a checked program and a tree for each way that an evaluation may go. It
 -- ends within 1,024 open calls, with a tree or with a number; it ends, but with more calls open; it
--- is endless. So none of what is stated of checked programs (Demand3) is empty. And a program that
--- pass one refuses with 10 alone: its code has a word count above 16 (CodeLimits).
+-- is endless. So none of what is stated of checked programs (Demand3) is empty. And a program in
+-- which pass one finds nothing wrong but 10: its code has a word count above 16 (CodeLimits).
 use Prim.Native.Nat.{ℕ, zero, suc, _+_, _*_, _^_, _≤_, _<_}
 use mathlib.Core.List.{List, [], _∷_}
 use mathlib.Core.Path.{_≡_, refl, sym, ap, _∙_}
@@ -154,7 +154,7 @@ record Stopped (o : Outcome Value) : Type 0 where
   position : ℕ
   stopped : o ≡ afterBegun begun (stops tooManyCalls position)
 
--- one after expressions begun before
+-- so does one with more expressions begun before
 stopped-after : (n : ℕ) {o : Outcome Value} → Stopped o → Stopped (afterBegun n o)
 stopped-after n s = record { begun = n + s .begun; position = s .position; stopped = ap (afterBegun n) (s .stopped) ∙ after-more n _ _ }
 
@@ -171,7 +171,7 @@ from-first : (calls : ℕ) (t : Tree) → evaluation countdown (suc calls) t ≡
 unfolding evaluation called evaluate followedBy afterBegun resultNumber treeOr atLevel nth firstRecord total countdown numbered programOf with-one
 from-first calls t = refl
 
--- its evaluation on a leaf ends with 1,102 calls open at once, and not within 1,024
+-- its evaluation on a leaf ends within 1,102 calls open at once, and not within 1,024
 ends-too-deep :
     Witness countdown (leaf 9)
     (Ends countdown (leaf 9) 1102 6606 (number 9) × ((n : ℕ) (v : Value) → Ends countdown (leaf 9) mostCalls n v → ⊥))

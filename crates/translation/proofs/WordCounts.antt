@@ -194,7 +194,7 @@ module _ (program : Program) (sound : Every (Sound (signatures program)) (entere
       let reached = most-reached program (coded .body) _ (at-entry (o .index) (o .known)) in
       record { address = reached .address; count = reached .count; stands = reached .stands; above = lt-of-lt-of-le (o .over) (reached .enough) }
 
-  -- where none does, no count exceeds 16: none on the ways from an entry, so none that stands
+  -- where none does, no count exceeds 16: none on the ways from an entry, and so none at all
   module _ (few : (b : ℕ) (f : Function) → nth (program .functions) b ≡ some f → wordsIn program f ≤ mostFrameWords) where
     entry-safe : (b : ℕ) (f : Function) → nth (program .functions) b ≡ some f → Safe program (entryOf program b) (f .parameters)
     entry-safe b f known =

@@ -1,13 +1,14 @@
 -- Word counts along the code of an expression. `wordsOf` is the most words that stand while the
 -- expression is taken; in its code:
 --
--- - a way leads through it, and leaves the word of a number (`finished`), so a count of `wordsOf` or more is reached (`most-reached`);
--- - where `wordsOf` is at most 16, and so is every count on the ways from the address after it, every count on the ways from its first address is
---   (`all-safe`).
+-- - a way leads through it, and leaves the word of a number (`finished`), so a count of `wordsOf`
+--   or more is reached (`most-reached`);
+-- - where `wordsOf` is at most 16, and so is every count on the ways from the address after it,
+--   every count on the ways from its first address is at most 16 (`all-safe`).
 --
--- Both by induction on the expression's parts with their code. A jump leads after what it stands
--- in, and a call to the address after it, so a way through the code is made of ways through its
--- parts.
+-- Both by induction on the expression's parts with their code. A jump leads to the address after
+-- the code that it stands in, and a call to the address after itself, so a way through the code is
+-- made of ways through its parts.
 use Prim.Native.Nat.{ℕ, suc, pred, _+_, _≤_, max}
 use mathlib.Core.Option.{some, Option·some-injective}
 use mathlib.Core.Path.{_≡_, refl, sym, _∙_}
@@ -184,7 +185,8 @@ module _ (program : Program) where
   value-grows numberValued w = omega arith
   value-grows treeValued w = omega arith
 
-  -- after a call those of its function's value, since no other function begins at its entry
+  -- after a call the words of its function's value are left, since no other function begins at its
+  -- entry
   call-safe : (k : ℕ) (f : Function) → nth (program .functions) k ≡ some f → (n a w : ℕ) → Safe (suc a) (wordsWithValue (f .sort) w)
       → SafeAfter (Call (entryOf program k) n) a (n + w)
   call-safe k f known n a w h u j many leaves =

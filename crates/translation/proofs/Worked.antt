@@ -104,8 +104,8 @@ printed (l ∷ ls) = ascii l ++ (newline ∷ printed ls)
 nines : ℕ → List ℕ
 nines n = replicate n 9
 
--- All that a run answers: outcome (a refusal with its number and place), units, bytes read, bytes
--- written, number. Then every byte of the output and of the code buffer.
+-- All that a run answers: outcome (a refusal with its number and position), units, bytes read,
+-- bytes written, number. Then every byte of the output and of the code buffer.
 answers : Result (Unit {0}) → (units read wrote number : ℕ) (output code : List ℕ) → Gives
 answers outcome units read wrote number output code =
     aRun
@@ -123,7 +123,7 @@ source-answers outcome begun wrote number output =
 
 -- ---- the worked programs
 
--- Records, what is asked of their file, and what is due.
+-- Records, what is asked of their file, and what it must give.
 record Row : Type 0 where
   records : List Record
   asked : Asked
@@ -165,7 +165,7 @@ grow-code rest =
     ∷ 13 ∷ 0 ∷ 0 ∷ 0 ∷ 0 ∷ 0 ∷ 0 ∷ 0
     ∷ nines rest
 
--- That of Call 0 on 0, where its result is a number.
+-- The code of Call 0 on 0, where its result is a number, and so many bytes after it.
 again-code : ℕ → List ℕ
 again-code rest =
     12 ∷ 0 ∷ 0 ∷ 0 ∷ 0 ∷ 0 ∷ 0 ∷ 0
@@ -237,13 +237,13 @@ worked = refl
 
 -- ---- other bytes, and the buffers' lengths
 
--- Bytes as a file, what is asked of it, and what is due.
+-- Bytes as a file, what is asked of it, and what it must give.
 record OnFile : Type 0 where
   file : List ℕ
   asked : Asked
   due : Gives
 
--- The file of records, be they a program or not.
+-- The file of records, whether they are a program or not.
 filed : List Record → List ℕ
 filed records = fileOf (flat records)
 

@@ -18,12 +18,12 @@ use Rattle.translation.specs.Templates.{codeOf}
 
 -- ---- the translator
 
--- The program that flat records are, where both passes accept it.
+-- The program that flat records hold, where both passes accept it.
 unfoldable pub checkedRecords : List ℕ → Result Program
 checkedRecords s = andThen (readProgram s) (λ program. onValue (λ u. program) (bothPasses program))
 
--- 01, Checking: "the translator needs both passes, then tests 13." The code of flat records, where
--- the code buffer has so much room.
+-- 01, Checking: "the translator needs both passes, then tests 13." The code of flat records, with
+-- so many bytes of code buffer.
 unfoldable pub translateRecords : ℕ → List ℕ → Result (List ℕ)
 translateRecords room s = andThen (checkedRecords s) (λ program. inRoom room (codeOf program))
 
@@ -39,8 +39,8 @@ pub record ProgramRan : Type 0 where
   pub output : List ℕ
   pub code : List ℕ
 
--- All that comes before the run, in this order: the rows of the file, both passes, then 13 for each
--- lent buffer. The code.
+-- The code, if all that comes before the run passes, in this order: the rows of the file, both
+-- passes, then 13 for each lent buffer.
 unfoldable pub prepared : (room values returns : ℕ) (file : List ℕ) → Result (List ℕ)
 prepared room values returns file =
     andThen (translateFile room file) (λ code. check (leb valueWords values && leb returnWords returns) spaceTooShort 0 code)

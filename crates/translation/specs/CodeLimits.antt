@@ -20,7 +20,7 @@ use Rattle.translation.specs.Templates.{wordsKept, functionCode, entryOf
 
 -- ---- word counts in code, without running it
 
--- A call of a function that begins at this address leaves so many words.
+-- A call of the function that begins at this address leaves so many words.
 pub record Leaves (program : Program) (entry words : ℕ) : Type 0 where
   pub index : ℕ
   pub function : Function
@@ -29,10 +29,10 @@ pub record Leaves (program : Program) (entry words : ℕ) : Type 0 where
   pub kept : wordsKept (function .sort) ≡ words
 
 -- `MovesWords program op a w b v`: an instruction at address a, with w words above the base before
--- it, leads to address b with v words. A test leads both ways, as does a tag; a return leads to no
--- other. A step of the machine within one frame leads so (`as-counted` below). A call's arguments
--- leave the frame, and its result is counted when it is back; the frame of the function that is
--- called is counted from its own entry on.
+-- it, leads to address b with v words. A test leads both ways, as does a tag; a return leads
+-- nowhere. Each step of the machine within one frame is of this kind (`as-counted` below). A call's
+-- arguments leave the frame, and its result is counted when it is back; the frame of the function
+-- that is called is counted from its own entry on.
 pub data MovesWords (program : Program) : Operation → (a w b v : ℕ) → Type 0 where
   by-push : {i a w : ℕ} → MovesWords program (Push i) a w (suc a) (suc w)
   by-get : {k a w : ℕ} → MovesWords program (Get k) a w (suc a) (suc w)
@@ -88,7 +88,7 @@ pub record InPlace (program : Program) (b : ℕ) (f : Function) : Type 0 where
 
 -- ---- the theorems
 
--- Of a program within the limits of "Program file".
+-- What holds of a program within the limits of "Program file".
 pub record CodeLimits (program : Program) : Type 0 where
   -- 01, Limits: "At most 4,128 instructions."
   pub few : length (operationsOf program) ≤ mostInstructions
@@ -97,7 +97,8 @@ pub record CodeLimits (program : Program) : Type 0 where
   -- 01, Addresses and entries: "each one's instructions go into the part of the code buffer that
   -- begins at its entry"
   pub in-place : (b : ℕ) (f : Function) → nth (program .functions) b ≡ some f → InPlace program b f
-  -- words are counted as the machine moves them, in a step that opens no call and leaves none
+  -- words are counted as the machine moves them, in every step that neither opens a call nor leaves
+  -- one
   pub as-counted :
       (m : Setting) (s t : State) (op : Operation)
       → operate m s op ≡ goes t
@@ -109,6 +110,6 @@ pub record CodeLimits (program : Program) : Type 0 where
       Every (Sound (signatures program)) (enteredAll (firstNode program) (program .functions))
       → RefusedFor10 program ↔ Exceeds program
 
--- Every such program.
+-- It holds of every such program.
 abbrev pub CodeLimitsHold : Type 0
 CodeLimitsHold = (program : Program) → Lawful program → CodeLimits program

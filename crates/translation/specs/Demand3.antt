@@ -6,8 +6,8 @@
 --
 -- Its words. A program's code: `codeOf` (Templates), by 01, Templates. The stream run: `streamRun`
 -- (meaning, Running), its answer and every byte of the output. The source evaluation: `Ends program
--- t o n v` (meaning, Evaluation), it ends with the value v after n expressions, with at most o
--- calls open at once, the first included; it is endless where there are no such o, n and v.
+-- t o n v` (meaning, Evaluation) says that it ends with the value v after n expressions, with at
+-- most o calls open at once, the first included; it is endless where there are no such o, n and v.
 -- `mostCalls` is 1,024. The source's result: `resultBytes v`, a tree's tokens, none for a number;
 -- `resultNumber v`, the number, 0 for a tree. `Opens vs s`: vs are opening bytes of s, none or all
 -- included. `writtenBy`: the output's first bytes, as many as the answer says are written;
@@ -35,7 +35,7 @@ pub record Checked (program : Program) : Type 0 where
   pub passes : bothPasses program ≡ done tt
 
 -- A checked program, with what its runs are given besides input, output and fuel: a code buffer
--- that begins with its code, and work space, that of 01, Work words, or more.
+-- that begins with its code, and at least the work space of 01, Work words.
 pub record Given : Type 0 where
   pub program : Program
   pub checked : Checked program
@@ -45,7 +45,7 @@ pub record Given : Type 0 where
   pub words-lent : valueWords ≤ values
   pub returns-lent : returnWords ≤ returns
 
--- The stream run of its code.
+-- The stream run of that program's code.
 abbrev pub runOn : Given → (input output : List ℕ) (fuel : ℕ) → Ran
 runOn given input output fuel = streamRun (codeOf (given .program) ++ given .after-code) input output fuel (given .values) (given .returns)
 
@@ -89,6 +89,6 @@ pub record Demand3 (program : Program) (t : Tree) (run : (input output : List �
       → (rest output : List ℕ) (fuel : ℕ)
       → run (tokens t ++ rest) output fuel .answer .outcome ≢ done tt
 
--- For every checked program, and every tree of 32-bit labels, however deep.
+-- It holds of every checked program, and every tree of 32-bit labels, however deep.
 abbrev pub Demand3Holds : Type 0
 Demand3Holds = (given : Given) (t : Tree) → Labelled t → Demand3 (given .program) t (runOn given)

@@ -1,5 +1,5 @@
--- What a run that ended gives: a whole result, what the program means, one whole tree for one whole
--- tree.
+-- What a run that ended gives: the whole result, and that is what the program means; where the
+-- result is a tree, one whole tree is written for one whole tree read.
 use Prim.Native.Nat.{ℕ}
 use mathlib.Core.List.{List}
 use mathlib.Core.Path.{_≡_}
@@ -11,7 +11,8 @@ use Rattle.meaning.specs.Evaluation.{Value, resultBytes, resultNumber, Ends}
 use Rattle.formats.specs.Buffers.{Opens}
 use Rattle.formats.specs.Programs.{Program}
 
--- What a run gives where the fuel suffices: of a tree t, a value v and the output at the start.
+-- What a run on the tree t gives where the fuel suffices: v is the value, `output` the output
+-- before the run.
 pub record Whole (t : Tree) (v : Value) (output : List ℕ) (ran : Ran) : Type 0 where
   -- "the run ends unrefused,"
   pub unrefused : ran .answer .outcome ≡ done tt
@@ -25,7 +26,8 @@ pub record Whole (t : Tree) (v : Value) (output : List ℕ) (ran : Ran) : Type 0
   -- `resultNumber` is 0.)
   pub same-number : ran .answer .number ≡ resultNumber v
 
--- An ended run was one on a tree, whose evaluation ends, and gave what that means.
+-- What a run that ended came from: the input begins with a tree, the evaluation on it ends, and the
+-- run gave its value.
 pub record Meant (program : Program) (input output : List ℕ) (ran : Ran) : Type 0 where
   pub on-tree : Tree
   pub labelled : Labelled on-tree

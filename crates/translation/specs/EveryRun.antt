@@ -1,5 +1,5 @@
--- What else holds of every run of a checked program's code, beside demand 3: the statements. They
--- are proved in proofs/EveryRun.antt.
+-- What holds of every run of a checked program's code, besides demand 3: the statements. They are
+-- proved in proofs/EveryRun.antt.
 use Prim.Native.Nat.{ℕ, suc, _≤_, _<_}
 use mathlib.Core.List.{List, _++_}
 use mathlib.Core.Logic.{_≢_}
@@ -18,7 +18,7 @@ use Rattle.translation.specs.Demand3.{Given, runOn}
 use Rattle.translation.specs.EndedRuns.{Whole}
 use Rattle.translation.specs.EndedRuns.{Meant, OneForOne}
 
--- A run that is refused for this reason, at the bytes read, after so many units.
+-- A run that is refused with the number `why`, at the bytes read, after so many units.
 pub record RefusedAfter (units why : ℕ) (ran : Ran) : Type 0 where
   pub outcome : ran .answer .outcome ≡ refusal why (ran .answer .bytesRead)
   pub counted : ran .answer .units ≡ units
@@ -33,7 +33,8 @@ pub record WholeAfter (units : ℕ) (t : Tree) (v : Value) (output : List ℕ) (
 abbrev pub evaluationUnits : {program : Program} {t : Tree} {o n : ℕ} {v : Value} → Ends program t o n v → ℕ
 evaluationUnits ends = suc (unitsIn (ends .takes))
 
--- Enough fuel, and enough space, to come to a call too many.
+-- Runs on a tree that come to a call too many, if there is fuel for more than `units` and an output
+-- of at least `space` bytes.
 pub record Refused18 (t : Tree) (run : (input output : List ℕ) (fuel : ℕ) → Ran) : Type 0 where
   pub units : ℕ
   pub space : ℕ
@@ -49,7 +50,7 @@ pub record Refused18 (t : Tree) (run : (input output : List ℕ) (fuel : ℕ) �
       → space ≤ length output
       → RefusedAfter fuel fuelUsedUp (run (tokens t ++ rest) output fuel)
 
--- The runs of a checked program's code, each with its input, output and fuel.
+-- What holds of the runs of a checked program's code, each with its input, output and fuel.
 pub record EveryRun (program : Program) (run : (input output : List ℕ) (fuel : ℕ) → Ran) : Type 0 where
   -- With space for the result, the units of the evaluation are spent, with every fuel from there up
   -- ..
@@ -79,7 +80,7 @@ pub record EveryRun (program : Program) (run : (input output : List ℕ) (fuel :
   -- 01, Instructions that cannot be performed: "19 never follows translated code." On any input,
   -- trees or not.
   pub never-19 : (input output : List ℕ) (fuel position : ℕ) → Bytes input → run input output fuel .answer .outcome ≢ refusal cannotPerform position
-  -- A run ends on nothing else than a tree, and then it gives what the program means.
+  -- A run ends only on an input that begins with a tree, and then it gives what the program means.
   pub ended-is-meant :
       (input output : List ℕ) (fuel : ℕ)
       → Bytes input
@@ -94,6 +95,6 @@ pub record EveryRun (program : Program) (run : (input output : List ℕ) (fuel :
       → run input output fuel .answer .outcome ≡ done tt
       → OneForOne input (run input output fuel)
 
--- For every checked program.
+-- It holds of every checked program.
 abbrev pub EveryRunHolds : Type 0
 EveryRunHolds = (given : Given) → EveryRun (given .program) (runOn given)

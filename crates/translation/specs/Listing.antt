@@ -48,8 +48,8 @@ listingOf (refusal number position) = refusedListing number position
 unfoldable pub listing : List ℕ → Listing
 listing file = listingOf (translateFile (instructionBytes * mostInstructions) file)
 
--- 01, Limits: "At most 4,128 instructions." With room for so many, the code is that of the program
--- which both passes accept, or the first refusal before 13.
+-- 01, Limits: "At most 4,128 instructions." With room for that many, the translator gives the code
+-- of the program, which both passes accept, or the first refusal before 13.
 abbrev pub NeverShort : Type 0
 NeverShort =
     (file : List ℕ) → Bytes file

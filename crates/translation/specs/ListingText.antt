@@ -6,7 +6,7 @@ use Rattle.formats.specs.Characters.{newline, space, minus, ascii}
 use Rattle.formats.specs.Decimal.{decimal}
 use Rattle.translation.specs.Listing.{ListingLine, listingLine, Listing, listed, refusedListing}
 
--- A number and the character after it.
+-- A number in decimal, and the character after it.
 unfoldable pub field : ℕ → ℕ → List ℕ
 field n after = decimal n ++ (after ∷ [])
 
@@ -24,7 +24,7 @@ unfoldable pub linesText : List ListingLine → List ℕ
 linesText [] = []
 linesText (l ∷ ls) = lineText l ++ linesText ls
 
--- The first word of a listing and a space, and that of a refusal.
+-- The first word of a listing, and of a refused file's line, each with a space after it.
 unfoldable pub codeWord : List ℕ
 codeWord = ascii "code "
 

@@ -24,6 +24,7 @@ unfoldable mutual
   codeEnd (caseOf k p q) a = codeEnd q (suc (suc (codeEnd p (suc (suc a)))))
   codeEnd (call k b xs) a = suc (argsEnd xs a)
 
+  -- The address after the code of a Call's arguments.
   pub argsEnd : Args → ℕ → ℕ
   argsEnd noArgs a = a
   argsEnd (arg x xs) a = argsEnd xs (codeEnd x a)
@@ -37,7 +38,7 @@ unfoldable mutual
 abbrev pub Words : Type 0
 Words = List ℕ
 
--- The word of a name; 0 where pass one finds it not bound.
+-- The word of a name; 0 for a name that is not bound, which pass one refuses.
 unfoldable pub wordOf : Words → ℕ → ℕ
 wordOf words a = elim (atLevel words a) [ none ↦ 0 | some w ↦ w ]
 
@@ -54,11 +55,11 @@ unfoldable pub endOf : Sort → Operation
 endOf numberValued = Slide
 endOf treeValued = Drop
 
--- The code of an expression, by the table's column "code": in a program whose functions have these
--- entries; a value of sort s is expected; the names stand on these words, and w words stand above
--- the base on entering; the code begins at address a. 01, Names: "Let's body and Case's leaf part
--- add one number name": it stands on word w, where its number was pushed. A label of the table (L,
--- M) is the address that it stands at.
+-- The code of an expression, by the table's column "code". Its program's functions have these
+-- entries; a value of sort s is expected; the names stand on these words; w words stand above the
+-- base on entering; the code begins at address a. 01, Names: "Let's body and Case's leaf part add
+-- one number name": it stands on word w, where its number was pushed. L and M of the table are
+-- addresses.
 unfoldable mutual
   pub code : (entries : ℕ → ℕ) (s : Sort) (words : Words) (w a : ℕ) → Expr → List Operation
   -- "push i"
@@ -120,7 +121,7 @@ entryFrom a fs zero = a
 entryFrom a [] (suc b) = a
 entryFrom a (f ∷ fs) (suc b) = entryFrom (functionEnd f a) fs b
 
--- Their code, if the first begins at a.
+-- The code of these functions, if the first begins at a.
 unfoldable pub functionsCode : (entries : ℕ → ℕ) → ℕ → List Function → List Operation
 functionsCode entries a [] = []
 functionsCode entries a (f ∷ fs) = functionCode entries a f ++ functionsCode entries (functionEnd f a) fs
@@ -135,6 +136,6 @@ entryOf program b = entryFrom 0 (program .functions) b
 unfoldable pub operationsOf : Program → List Operation
 operationsOf program = functionsCode (entryOf program) 0 (program .functions)
 
--- The same as bytes. 01, Instructions: "Unused fields are written zero".
+-- The code of a program, as bytes. 01, Instructions: "Unused fields are written zero".
 unfoldable pub codeOf : Program → List ℕ
 codeOf program = flat (map instructionOf (operationsOf program))

@@ -1,5 +1,6 @@
--- Demand 3, and what holds on any input, about one call: what was answered, and the output at exit.
--- The contracts of `runner: run`, `run_calls: run` and `hogvax_run` carry both (`ProgramRun`).
+-- Demand 3, and what holds on any input, said of one call: of what it answered, and of the output
+-- at exit. The contracts of `runner: run`, `run_calls: run` and `hogvax_run` carry both
+-- (`ProgramRun`).
 --
 -- `before` is the output at entry and `after` the output at exit; `answer` is what the call
 -- answered. The words are those of Demand3.
@@ -59,7 +60,7 @@ pub record ThisCall (program : Program) (t : Tree) (rest before : List ℕ) (fue
 pub record AnyCall (program : Program) (input before : List ℕ) (answer : Answer) (after : List ℕ) : Type 0 where
   -- 01, Instructions that cannot be performed: "19 never follows translated code."
   pub never-19 : (position : ℕ) → answer .outcome ≢ refusal cannotPerform position
-  -- It ends on nothing else than a tree, and then it gives what the program means.
+  -- It ends only on an input that begins with a tree, and then it gives what the program means.
   pub ended-is-meant : answer .outcome ≡ done tt → Meant program input before (ranWith answer after)
   -- Where function 0 gives a tree: one whole tree read for one whole tree written.
   pub one-for-one :
@@ -82,11 +83,11 @@ pub record ProgramRun (file input output code : List ℕ) (fuel values returns :
       → Labelled t
       → input ≡ tokens t ++ rest
       → ThisCall program t rest output fuel (runFile file (tokens t) output code fuel values returns) answer after
-  -- and on any input, trees or not
+  -- What holds on any input, trees or not.
   pub any-input : (program : Program) → Ready file code values returns program → AnyCall program input output answer after
 
--- Every checked program can be run so: it has a file, and with code buffer and work space of the
--- lengths in 01, Limits, the call comes to its run.
+-- A program that can be run so: it has a file, and with code buffer and work space of the lengths
+-- in 01, Limits, the call comes to its run.
 pub record Runnable (program : Program) : Type 0 where
   pub file : List ℕ
   pub bytes : Bytes file
@@ -97,5 +98,6 @@ pub record Runnable (program : Program) : Type 0 where
       → returnWords ≤ returns
       → Ready file code values returns program
 
+-- Every checked program is one.
 abbrev pub AllRunnable : Type 0
 AllRunnable = (program : Program) → Checked program → Runnable program

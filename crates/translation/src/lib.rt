@@ -1,2 +1,2 @@
-// Definitions and theorems, no code: the stream code of a program, and that the stream gives what
-// the program means.
+// Definitions and theorems, and no code: the stream code of a program, and that its run gives what
+// the program means. See specs/.

@@ -11,8 +11,8 @@ use Rattle.formats.specs.Programs.{Sort, numberValued, treeValued}
 use Rattle.translation.specs.Templates.{Words}
 use Rattle.code_scope.specs.declared.Scope.{Scope}
 
--- The sort of the value expected, the word that each number name stands on, the newest first, and
--- how many words stand above the base.
+-- What is known: the sort of the value expected, the word that each number name stands on, the
+-- newest first, and how many words stand above the base.
 pub record Around : Type 0 where
   pub sort : Sort
   pub words : Words
@@ -21,8 +21,8 @@ pub record Around : Type 0 where
 abbrev pub around : Sort → Words → ℕ → Around
 around sort words standing = record { sort = sort; words = words; standing = standing }
 
--- On entering part i of a record, by what the part is (rules, Scopes: `partScope` has the same for
--- pass one). A number that is named stands on the next word.
+-- What is known on entering part i of a record, by what the part is (rules, Scopes: `partScope` has
+-- the same for pass one). A number that is named stands on the next word.
 unfoldable pub partAround : Part → ℕ → Around → Around
 partAround aNumber i x = around numberValued (x .words) (x .standing + i)
 partAround aTree i x = around treeValued (x .words) (x .standing)
@@ -50,7 +50,7 @@ aroundOf c = around (sortOf (c .tree)) (wordsIn c) (c .standing)
 pub record Named (c : Scope) : Type 0 where
   pub few : c .names ≤ c .standing
 
--- A number is named in such a part.
+-- A number is named in a part of this kind.
 abbrev pub Binds : Part → Type 0
 Binds aNumber = ⊥
 Binds aTree = ⊥
@@ -66,7 +66,7 @@ pub record Enterable (p : Part) (i : ℕ) (c : Scope) : Type 0 where
   pub fits : c .standing + i + 1 < 2 ^ 16
   pub room : Binds p → c .standing < mostNames
 
--- Then the scope on entering it is the one wanted.
+-- The scope r on entering part i is the one that `partAround` gives.
 pub record Enters (p : Part) (i : ℕ) (c r : Scope) : Type 0 where
   pub is : aroundOf r ≡ partAround p i (aroundOf c)
   pub named : Named r
@@ -75,8 +75,8 @@ pub record Enters (p : Part) (i : ℕ) (c r : Scope) : Type 0 where
 
 -- ---- the scope on entering a part, of any scope
 
--- One more number is named, on the next word. With 16 names nothing changes. (A scope counts in 64
--- bits.)
+-- The scope with one more number named, on the next word. With 16 names nothing changes. (A scope
+-- counts in 64 bits.)
 unfoldable pub underScope : Scope → Scope
 underScope c =
     let n = min (c .names) mostNames in
@@ -86,7 +86,7 @@ underScope c =
           record { words = set (c .words) n (c .standing % 65536); names = n + 1; standing = (c .standing + 1) % 2 ^ 64; tree = c .tree }
     ]
 
--- Part i of a record is entered, by what the part is.
+-- The scope on entering part i of a record, by what the part is.
 unfoldable pub insideScope : Part → ℕ → Scope → Scope
 insideScope aNumber i c = record { words = c .words; names = c .names; standing = (c .standing + i) % 2 ^ 64; tree = false }
 insideScope aTree i c = record { words = c .words; names = c .names; standing = c .standing; tree = true }

@@ -1,4 +1,4 @@
--- The instructions that a template's items are, and how they are emitted.
+-- The instruction of each item of a template, and how items are emitted.
 use Prim.Native.Nat.{ℕ, suc, _*_}
 use mathlib.Core.Bool.{Bool, true, false}
 use mathlib.Core.List.{List, [], _∷_, map}
@@ -13,8 +13,9 @@ use Rattle.code_scope.specs.Inner.Around.{Around, aroundOf}
 use Rattle.template.specs.Inner.Items.{entriesIn}
 use Rattle.emit_items.specs.declared.Instruction.{Instruction}
 
--- The instruction of an item, where functions have these entries and number parameters: `last` is
--- where the last part begins, `beyond` is after the whole.
+-- The instruction of an item, where functions have these entries and so many number parameters.
+-- `last` is the address at which the last part begins, `beyond` the address after the whole
+-- expression.
 unfoldable pub operationFor : (entries arity : ℕ → ℕ) → Around → (last beyond : ℕ) → Item → Operation
 operationFor entries arity x last beyond (pushNumber i) = Push i
 operationFor entries arity x last beyond (getName a) = Get (wordOf (x .words) a)
@@ -29,11 +30,11 @@ operationFor entries arity x last beyond readTagLast = ReadTag last
 operationFor entries arity x last beyond readNumber = ReadNumber
 operationFor entries arity x last beyond (callFunction b) = Call (entries b) (arity b)
 
--- What items are emitted as, with the flat records s, a table of entries and a scope.
+-- The instructions of items, with the flat records s, a table of entries and a scope.
 abbrev pub operationsFor : (s entries : List ℕ) → Scope → (last beyond : ℕ) → List Item → List Operation
 operationsFor s entries c last beyond items = map (operationFor (entriesIn entries) (arityIn s) (aroundOf c) last beyond) items
 
--- The fields of the instruction that an item is.
+-- The fields of an item's instruction.
 abbrev pub instructionFor : (s entries : List ℕ) → Scope → (last beyond : ℕ) → Item → Record
 instructionFor s entries c last beyond item = instructionOf (operationFor (entriesIn entries) (arityIn s) (aroundOf c) last beyond item)
 

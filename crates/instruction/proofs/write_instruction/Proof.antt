@@ -17,7 +17,7 @@ unfolding bytesOf bytesOfRecord
 write-instruction-spec =
     tie.close
     (tie.spec
-    -- no 8 bytes there
+    -- there are no 8 bytes at the address
     (λ c. sym (written-short _ _ _ (omega arith)))
     (λ c. search needs)
     -- each byte fits, and is within the buffer

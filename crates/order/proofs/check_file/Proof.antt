@@ -1,5 +1,5 @@
--- `order::check_file` meets its contract: what the blocks gave stands at the start of the space,
--- and both passes go over it.
+-- `order::check_file` meets its contract: the flat records from the blocks stand at the start of
+-- the array `flat`, and the checks are made on these.
 use borrow.Author.Needs.{needs}
 use lib.Seq.{length-take-le}
 use Rattle.order.proofs.Laws.{check-ways}

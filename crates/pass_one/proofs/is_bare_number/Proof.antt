@@ -1,4 +1,4 @@
--- `pass_one::is_bare_number` meets its contract: the fields of the function's record report.
+-- `pass_one::is_bare_number` meets its contract: the fields of the function's record decide.
 use borrow.Author.Needs.{needs}
 use Rattle.pass_one.proofs.Entries.{bare}
 use Rattle.pass_one.proofs.is_bare_number.Statement.{statement}

@@ -1,4 +1,5 @@
--- `pass_one::is_named` meets its contract: a name is bound where it is below as many as are.
+-- `pass_one::is_named` meets its contract: a name is bound where it is below the number of names
+-- bound.
 use borrow.Author.Needs.{needs}
 use Rattle.pass_one.proofs.Entries.{names}
 use Rattle.pass_one.proofs.is_named.Statement.{statement}

@@ -1,5 +1,5 @@
 -- `pass_one::is_roomy` meets its contract: words are tested at four kinds, at a Call only where its
--- function is a number with no parameters.
+-- function gives a number and has no number parameters.
 use borrow.Author.Needs.{needs}
 use Rattle.pass_one.proofs.Entries.{words}
 use Rattle.pass_one.proofs.is_roomy.Statement.{statement}

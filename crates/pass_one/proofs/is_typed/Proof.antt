@@ -1,5 +1,5 @@
--- `pass_one::is_typed` meets its contract: a kind has its type, a Call its function's, and the
--- others that of their parts.
+-- `pass_one::is_typed` meets its contract: five kinds have a type of their own, a Call has its
+-- function's, and the others that of their parts.
 use borrow.Author.Needs.{needs}
 use Rattle.pass_one.proofs.Entries.{typings}
 use Rattle.pass_one.proofs.is_typed.Statement.{statement}

@@ -1,5 +1,5 @@
--- `pass_one::pass` meets its contract: the bodies below function j have passed, so those from j on,
--- the first of them at record k, say what all do. What is left of them falls.
+-- `pass_one::pass` meets its contract: the bodies before function j have passed, so those from j
+-- on, the first of them at record k, decide. The number of those left falls.
 use Prim.Native.Nat.{_-_}
 use native.Mathlib.Omega.{arith}
 use borrow.Author.Needs.{needs}

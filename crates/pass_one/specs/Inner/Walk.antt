@@ -1,4 +1,4 @@
--- What the functions of pass one answer, over flat records s.
+-- What the functions of pass one answer; s are the flat records.
 use Prim.Native.Nat.{ℕ, suc, _+_, _-_, _*_, _≤_, _<_}
 use mathlib.Core.Bool.{Bool, true, false}
 use mathlib.Core.List.{List}
@@ -25,15 +25,16 @@ use Rattle.pass_one.specs.declared.Scope.{Scope}
 use Rattle.pass_one.specs.declared.Walked.{Walked}
 use Rattle.pass_one.specs.declared.Walked.the-variants.{To, Refused}
 
--- The type expected.
+-- The type expected, by whether it is a tree.
 abbrev pub expected : Bool → Ty
 expected true = Tree⁺
 expected false = Int
 
+-- The scope that a `Scope` of the code stands for.
 abbrev pub scopeOf : Scope → ScopeThere
 scopeOf c = scope (c .numbers) (c .trees) (c .words) (expected (c .tree))
 
--- The record come to, or the refusal's number and its record.
+-- What a walk answers: the record come to, or the refusal's number and its record.
 abbrev pub reported : Walked → Result ℕ
 reported (To k) = done k
 reported (Refused why position) = refusal (number why) position
@@ -49,37 +50,39 @@ pub record Small (k end g n w : ℕ) : Type 0 where
   pub trees : n + 2 * (end - k) ≤ mostTreeNames
   pub words : w + (end - k) ≤ mostCount
 
--- On entering record k.
+-- The counts are small on entering record k.
 abbrev pub Fits : ℕ → ℕ → ScopeThere → Type 0
 Fits k end (scope g n w τ) = Small k end g n w
 
--- On entering part i of a record at record k.
+-- The counts are small on entering part i of a record, the part at record k.
 abbrev pub FitsParts : ℕ → ℕ → ℕ → ScopeThere → Type 0
 FitsParts i k end (scope g n w τ) = Small k end (suc g) (suc (suc n)) (suc (w + i))
 
--- Tests of a node that was read, by the signatures of the function records.
+-- The type test of a record that was read, by the signatures of the function records.
 pub record Typed (s : List ℕ) (c : Scope) (node : Record) (r : Bool) : Type 0 where
   pub is : (gs : List Signature) → Known s gs → below (headerIn s .functions) (meant node) ≡ true → r ≡ typed gs (scopeOf c) (meant node)
 
--- A function that gives a number and takes none.
+-- Whether a function gives a number and has no number parameters.
 pub record Bare (s : List ℕ) (b : ℕ) (r : Bool) : Type 0 where
   pub is : (g : Signature) → functionIn s b ≡ done g → r ≡ bareNumber g
 
+-- The words test of a record that was read.
 pub record Roomy (s : List ℕ) (c : Scope) (node : Record) (r : Bool) : Type 0 where
   pub is : (gs : List Signature) → Known s gs → below (headerIn s .functions) (meant node) ≡ true → r ≡ roomy gs (scopeOf c) (meant node)
 
+-- All tests of a record that was read.
 pub record Tested (s : List ℕ) (c : Scope) (k : ℕ) (node : Record) (r : Verdict) : Type 0 where
   pub is : (gs : List Signature) → Known s gs → below (headerIn s .functions) (meant node) ≡ true
       → verdictResult r ≡ atEntry gs (entry (scopeOf c) k (meant node))
 
--- The expression at record k, entered so.
+-- Pass one over the expression at record k, entered with the scope c.
 pub record Entered (s : List ℕ) (k end : ℕ) (c : Scope) (r : Walked) : Type 0 where
   pub went : (next : ℕ) → r ≡ To next → Went (suc k) end next
   pub is : (e : Expr) (here : Here s end k e)
       → reported r ≡ onValue (λ u. k + size e) (passOver (here .signed) (entered (scopeOf c) k e))
 
--- The parts of a record from part i on, so many in all, the next of them at record k: for the kind
--- whose parts these are.
+-- Pass one over the parts of a record from part i on, `count` in all, the next of them at record k;
+-- for the kind whose parts these are.
 pub record EnteredParts (s : List ℕ) (parts : Parts) (i count k end : ℕ) (c : Scope) (r : Walked) : Type 0 where
   pub went : (next : ℕ) → r ≡ To next → Went k end next
   pub is : (kind : Kind) (ps : List Placed) (m : ℕ) (here : HereRow s end k ps m)

@@ -1,8 +1,8 @@
 -- The proof of the cycle of calls {order_at, order_call, order_case, order_if, order_list}. The
 -- measure is the records left, three times, so that at the same record a list is above its first
 -- expression, and an expression above the Call, Case or IfZero that it is. Each way out is a law of
--- proofs/Branches or proofs/Walk; the last of `order_case` is reported where the tests of the head
--- and of the room lie, far back.
+-- proofs/Branches or proofs/Walk; the last way out of `order_case` also needs what the tests of the
+-- head and of the room gave, earlier on its way.
 use Prim.Native.Nat.{ℕ, _+_, _-_, _*_, _<_}
 use borrow.Author.Needs.{needs}
 use borrow.Fn.Kinds.{In}

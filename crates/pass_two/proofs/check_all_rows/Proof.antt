@@ -1,4 +1,4 @@
--- `pass_two::check_all_rows` meets its contract: pass one refuses, or pass two says what both do.
+-- `pass_two::check_all_rows` meets its contract: pass one refuses, or pass two decides.
 use borrow.Author.Needs.{needs}
 use Rattle.pass_two.proofs.Rows.{orders}
 use Rattle.pass_two.proofs.check_all_rows.Statement.{statement}

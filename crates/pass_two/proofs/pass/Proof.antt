@@ -1,5 +1,5 @@
--- `pass_two::pass` meets its contract: the functions below j have passed, so those from j on say
--- what all do. What is left of them falls.
+-- `pass_two::pass` meets its contract: the functions before j have passed, so those from j on
+-- decide. The number of those left falls.
 use Prim.Native.Nat.{_-_}
 use borrow.Author.Needs.{needs}
 use denote.Ref.{now}

@@ -1,4 +1,4 @@
--- What the functions of pass two answer, over flat records s.
+-- What the functions of pass two answer; s are the flat records.
 use Prim.Native.Nat.{ℕ, suc, _+_, _-_, _*_, _≤_}
 use mathlib.Core.List.{List, [], _∷_}
 use mathlib.Core.Path.{_≡_}
@@ -18,12 +18,12 @@ use Rattle.pending.specs.Inner.List.{listOf}
 use Rattle.pending.specs.declared.Pending.{Pending}
 use Rattle.pass_two.specs.declared.Checked.{Checked}
 
--- Names bound stay small up to the end.
+-- The number of tree names bound stays small up to the end.
 pub record Small (k end n : ℕ) : Type 0 where
   pub inside : Inside k end
   pub trees : n + 2 * (end - k) ≤ mostTreeNames
 
--- Trees pending, and the record come to.
+-- The trees pending, and the record come to.
 pub record Stand : Type 0 where
   pub trees : List ℕ
   pub next : ℕ
@@ -36,7 +36,7 @@ stand next trees = record { trees = trees; next = next }
 abbrev pub found : Checked → Result Stand
 found c = onValue (λ u. stand (c .next) (listOf (c .pending))) (verdictResult (c .verdict))
 
--- It is what a walk w gives, which comes to record m.
+-- The answer c is what the walk w gives, with the record m come to.
 pub record Reports (c : Checked) (m : ℕ) (w : Result (List ℕ)) : Type 0 where
   pub is : found c ≡ onValue (stand m) w
 
@@ -51,12 +51,12 @@ pub record Joined (one : Pending) (other : Checked) (k : ℕ) (r : Checked) : Ty
 pub record WentOn (k end : ℕ) (r : Checked) : Type 0 where
   pub went : r .verdict ≡ Passed → Went k end (r .next)
 
--- The expression at record k.
+-- Pass two over the expression at record k.
 pub record Ordered (s : List ℕ) (k end n : ℕ) (p : Pending) (r : Checked) : Type 0 where
   pub went-on : WentOn (suc k) end r
   pub reports : (e : Expr) → Here s end k e → Reports r (k + size e) (walk n k (listOf p) e)
 
--- It is a Call, a Case, an IfZero.
+-- The same where the expression is a Call, a Case or an IfZero.
 pub record OrderedCall (s : List ℕ) (a count k end n : ℕ) (p : Pending) (r : Checked) : Type 0 where
   pub went-on : WentOn (suc k) end r
   pub reports : (ps : List Placed) (m : ℕ) → HereRow s end (k + 1) ps m → length ps ≡ count
@@ -70,7 +70,7 @@ pub record OrderedIf (s : List ℕ) (k end n : ℕ) (p : Pending) (r : Checked) 
   pub went-on : WentOn (suc k) end r
   pub reports : (t x y : Expr) → Here s end k (ifZero t x y) → Reports r (k + size (ifZero t x y)) (walk n k (listOf p) (ifZero t x y))
 
--- Parts from number i on, so many in all, the next of them at record k.
+-- Pass two over parts from number i on, `count` in all, the next of them at record k.
 pub record OrderedList (s : List ℕ) (i count k end n : ℕ) (p : Pending) (r : Checked) : Type 0 where
   pub went-on : WentOn k end r
   pub reports : (ps : List Placed) (m : ℕ) → HereRow s end k ps m → i + length ps ≡ count → Reports r m (walkParts n (listOf p) ps)
@@ -79,6 +79,7 @@ pub record OrderedList (s : List ℕ) (i count k end n : ℕ) (p : Pending) (r :
 abbrev pub walkFunction : ℕ → Expr → Result (List ℕ)
 walkFunction k e = andThen (walk 1 k (0 ∷ []) e) (λ Δ. andThen (noneLeft k Δ) (λ u. done Δ))
 
+-- Pass two over that function.
 pub record OrderedFunction (s : List ℕ) (k end : ℕ) (r : Checked) : Type 0 where
   pub went-on : WentOn (suc k) end r
   pub reports : (e : Expr) → Here s end k e → Reports r (k + size e) (walkFunction k e)

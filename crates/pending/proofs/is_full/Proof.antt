@@ -1,4 +1,4 @@
--- `pending::is_full` meets its contract: as many as the list has are counted.
+-- `pending::is_full` meets its contract: `count` gives the length of the list.
 use borrow.Author.Needs.{needs}
 use Rattle.pending.proofs.Laws.{full-counted}
 use Rattle.pending.proofs.is_full.Statement.{statement}

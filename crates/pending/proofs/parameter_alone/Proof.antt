@@ -1,4 +1,4 @@
--- `pending::parameter_alone` meets its contract: one name is there, 0.
+-- `pending::parameter_alone` meets its contract: one name counts, 0.
 use Rattle.pending.proofs.Laws.{alone-first}
 use Rattle.pending.proofs.parameter_alone.Statement.{statement}
 use Rattle.pending.proofs.parameter_alone.Tie as tie

@@ -13,8 +13,8 @@ use Rattle.rules.specs.PassTwo.{takeHead}
 use Rattle.pending.specs.declared.Pending.{Pending}
 use Rattle.pending.specs.declared.Taken.{Taken}
 
--- 01, Pass two: "The pending trees are a list of at most 16 numbers". How many they are, and the
--- list, its head first.
+-- 01, Pass two: "The pending trees are a list of at most 16 numbers". How many there are, and their
+-- list, the head first.
 abbrev pub lengthOf : Pending → ℕ
 lengthOf p = min (p .len) mostPending
 
@@ -25,6 +25,7 @@ listOf p = fromLast (p .names) (lengthOf p)
 abbrev pub parameterAlone : Pending
 parameterAlone = record { names = replicate mostPending 0; len = 1 }
 
+-- The parameter alone is pending.
 pub record Alone (r : Pending) : Type 0 where
   pub whole : r ≡ parameterAlone
   pub list : listOf r ≡ 0 ∷ []
@@ -42,7 +43,8 @@ headTaken p a =
       | false ↦ record { head = false; pending = p }
     ]
 
--- 01, Pass two: "11 not the head", whichever record takes tree a. What is no head is not taken.
+-- 01, Pass two: "11 not the head", whichever record takes tree a. A tree that is not the head is
+-- not taken.
 pub record Took (p : Pending) (a : ℕ) (r : Taken) : Type 0 where
   pub whole : r ≡ headTaken p a
   pub reports : (k : ℕ) → takeHead a k (listOf p) ≡ check (r .head) outOfOrder k (listOf (r .pending))
@@ -60,6 +62,7 @@ twoAfter p left right l = record { names = set (set (p .names) l right) (l + 1) 
 unfoldable pub twoPut : Pending → ℕ → ℕ → Pending
 twoPut p left right = elim (leb (lengthOf p + 2) mostPending) [ true ↦ twoAfter p left right (lengthOf p) | false ↦ p ]
 
+-- The pending trees with two more in front, where they fit.
 pub record InFront (p : Pending) (left right : ℕ) (r : Pending) : Type 0 where
   pub whole : r ≡ twoPut p left right
   pub list : listOf r ≡ putTwo left right (listOf p)

@@ -1,4 +1,4 @@
--- `template::entry_of` meets its contract: the table has the entry, or it has none.
+-- `template::entry_of` meets its contract: the table has the entry, or it does not.
 use borrow.Author.Needs.{needs}
 use Rattle.template.proofs.Items.{entry-past}
 use Rattle.template.proofs.entry_of.Statement.{statement}

@@ -8,8 +8,8 @@ use Rattle.records.specs.Inner.Read.{row, columnOf}
 use Rattle.records.specs.declared.Items.{Items}
 use Rattle.records.specs.declared.Template.{Template}
 
--- What stands before part i of a template. There are at most two items, and before a fourth part
--- and later ones none.
+-- What stands before part i of a template. There are at most two items, and none before a fourth
+-- part or a later one.
 pub record ItemsBefore (template : Template) (i : ℕ) (r : Items) : Type 0 where
   pub is : row r ≡ itemsBefore (columnOf template) i
   pub few : length (row r) + 2 * (3 - (i + 1)) ≤ 2 * (3 - i)

@@ -1,4 +1,4 @@
--- The proof of the cycle of calls {lay, lay_parts}. The measure is the records left, doubled, so
+-- The proof of the cycle of calls {emit, emit_parts}. The measure is the records left, doubled, so
 -- that at the same record the parts are above the first of them. Each way out is a law of
 -- proofs/Walk.
 use Prim.Native.Nat.{ℕ, _+_, _-_, _*_, _<_}
@@ -41,7 +41,7 @@ abbrev emit-parts-below : ℕ → In 3 emit-parts-kinds.ps
 emit-parts-below t =
     and 3 emit-parts-kinds.ps (falls 3 emit-parts-kinds.ps _<_ μ-emit-parts t) emit-parts.Pre
 
--- ---- where the needs of `emit_parts` look back to: places on its way, by name
+-- ---- points on the way through `emit_parts` that its proof looks back to, by name
 
 module _ (t : ℕ) where
   abbrev claims : emit-parts-lts.Claims
@@ -74,7 +74,7 @@ module _ (t : ℕ) where
       → emit-parts-lts.After-length-of2 claims (emit-parts-at t) emit-parts.Post
   at-length c = c .before .before .before .before
 
-  -- .. and lay_parts was entered
+  -- .. and `emit_parts` was entered
   abbrev at-entry :
       emit-parts-lts.After-emit claims (emit-parts-at t) emit-parts.Post
       → emit-parts-lts.Start claims (emit-parts-at t) emit-parts.Post

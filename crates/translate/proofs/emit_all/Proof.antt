@@ -1,5 +1,5 @@
--- `translate::emit_all` meets its contract: the functions below j are emitted, each in the part of
--- the buffer that begins at its entry. What is left of the functions falls.
+-- `translate::emit_all` meets its contract: the functions before j are emitted, each in the part of
+-- the buffer that begins at its entry. The number of functions left falls.
 use Prim.Native.Nat.{_-_}
 use borrow.Author.Needs.{needs}
 use denote.Ref.{now}

@@ -1,5 +1,5 @@
--- `translate::measure` meets its contract: the entries of the functions below j are in the table,
--- and the next one begins after them. What is left of the functions falls.
+-- `translate::measure` meets its contract: the entries of the functions before j are in the table,
+-- and the next function begins after them. The number of functions left falls.
 use Prim.Native.Nat.{_-_}
 use borrow.Author.Needs.{needs}
 use denote.Ref.{now}

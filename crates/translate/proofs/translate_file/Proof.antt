@@ -1,5 +1,5 @@
--- `translate::translate_file` meets its contract: what the blocks gave stands at the start of the
--- space, and the translator goes over it.
+-- `translate::translate_file` meets its contract: the flat records from the blocks stand at the
+-- start of the array `flat`, and these are translated.
 use borrow.Author.Needs.{needs}
 use lib.Seq.{length-take-le}
 use Rattle.translate.proofs.Calls.{file-ways}

@@ -1,4 +1,4 @@
--- `translate::words_kept` meets its contract: a tree keeps none, a number one.
+-- `translate::words_kept` meets its contract: for a tree no word is kept, for a number one.
 use Rattle.translate.proofs.Functions.{kept}
 use Rattle.translate.proofs.words_kept.Statement.{statement}
 use Rattle.translate.proofs.words_kept.Tie as tie

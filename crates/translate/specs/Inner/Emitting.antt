@@ -1,5 +1,5 @@
--- How an expression's code is emitted: by the column "code" as data (formats, CodeColumn). It comes
--- to Templates' code: proofs/Column.
+-- How an expression's code is emitted: by the column "code" as data (formats, CodeColumn). It is
+-- the code of Templates (translation): proofs/Column.
 use Prim.Native.Nat.{ℕ, suc, _*_}
 use mathlib.Core.List.{List, [], _∷_, _++_, map}
 use Rattle.formats.specs.Inner.CodeColumn.{Item, Template, itemsBefore}
@@ -21,9 +21,9 @@ unfoldable pub past : List Item → ℕ → ℕ
 past [] a = a
 past (x ∷ xs) a = past xs (suc a)
 
--- The code of a record with these parts and this template from part i on, with what stands before
--- each part and after them all, the next of it at address a. `last` is where the last part begins,
--- `whole` is after the whole.
+-- The code of a record with these parts and this template, from part i on and from address a on,
+-- with the items before each part and after them all. `last` is the address at which the last part
+-- begins, `whole` the address after the whole expression.
 unfoldable pub partsCode : (entries arity : ℕ → ℕ) → Parts → Template → Around → (last whole i a : ℕ) → List Placed → List Operation
 partsCode entries arity parts t x last whole i a [] = map (operationFor entries arity x last whole) (t .last)
 partsCode entries arity parts t x last whole i a (p ∷ ps) =
@@ -40,7 +40,7 @@ lastPart t last i a (p ∷ ps) =
     let begins = past (itemsBefore t i) a in
     lastPart t begins (suc i) (codeEnd (p .expr) begins) ps
 
--- The address after that code.
+-- The address after the code of `partsCode`.
 unfoldable pub beyondParts : Template → (i a : ℕ) → List Placed → ℕ
 beyondParts t i a [] = past (t .last) a
 beyondParts t i a (p ∷ ps) = beyondParts t (suc i) (codeEnd (p .expr) (past (itemsBefore t i) a)) ps

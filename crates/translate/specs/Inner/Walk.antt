@@ -1,6 +1,6 @@
--- What the functions answer that lay code down, over flat records s, a table of entries, and a part
--- of the code buffer that begins at address `base`: `code` holds its bytes at entry and `after`
--- those at exit.
+-- What the functions that emit code answer, over flat records s, a table of entries, and a part of
+-- the code buffer that begins at address `base`: `code′` holds its bytes at entry and `after` those
+-- at exit.
 use Prim.Native.Nat.{ℕ, _+_, _-_, _*_, _≤_, _<_}
 use mathlib.Core.List.{List}
 use mathlib.Core.Path.{_≡_}
@@ -28,23 +28,23 @@ use Rattle.translate.specs.declared.Shape.{Shape}
 use Rattle.translate.specs.declared.Table.{Table}
 use Rattle.translate.specs.Inner.Emitting.{emittedAt, partsCode, lastPart, beyondParts}
 
--- Addresses stay small up to the end, by the instructions that a record emits at most. Those still
--- due at this record are `due`.
+-- Addresses stay small up to the end, since a record emits at most `recordInstructions`. Still due
+-- at this record are `due` instructions.
 pub record Small (k end base at due : ℕ) : Type 0 where
   pub inside : Inside k end
   pub base-small : base ≤ mostEmitted
   pub small : at + recordInstructions * (end - k) + due ≤ mostEmitted
 
--- What may still be emitted at a record from part i on.
+-- How many instructions a record itself may still emit, from part i on.
 abbrev pub dueFrom : ℕ → ℕ
 dueFrom i = 2 * (3 - i) + 2
 
--- On entering part i of a record; `last` is where the part before it begins.
+-- Addresses stay small on entering part i of a record; `last` is where the part before it begins.
 pub record SmallParts (i k end base at last : ℕ) : Type 0 where
   pub small : Small k end base at (dueFrom i)
   pub last-small : last ≤ mostEmitted
 
--- How far it went on, and no further than a record's instructions.
+-- How far the records and the addresses went on, and that no more is emitted than may be.
 pub record WentOn (k end at due : ℕ) (r : Emitted) : Type 0 where
   pub went : Went k end (r .next)
   pub up : at ≤ r .at
@@ -63,7 +63,7 @@ pub record Entering (s : List ℕ) (k end : ℕ) (c : Scope) (e : Expr) : Type 0
   pub named : Named c
   pub words : c .standing + (end - k) ≤ mostCount
 
--- The record and the address after it.
+-- The answer r has the record after the expression, and the address after its code.
 pub record Came (base at k : ℕ) (e : Expr) (r : Emitted) : Type 0 where
   pub next : r .next ≡ k + size e
   pub address : base + r .at ≡ codeEnd e (base + at)
@@ -91,12 +91,14 @@ pub record EnteringParts (s : List ℕ) (shape : Shape) (i k end : ℕ) (c : Sco
   pub words : c .standing + i + 1 + (end - k) ≤ mostCount
   pub room : (j : ℕ) → Binds (nthPart (partsOf kind) j) → c .standing < mostNames
 
+-- The answer r has the record after the parts, the address after their code, and where the last
+-- part begins.
 pub record CameParts (base at last : ℕ) (t : Template) (i : ℕ) (ps : List Placed) (m : ℕ) (r : Emitted) : Type 0 where
   pub next : r .next ≡ m
   pub address : base + r .at ≡ beyondParts t i (base + at) ps
   pub last-part : base + r .last ≡ lastPart t (base + last) i (base + at) ps
 
--- The parts from number i on, with what stands before and after them.
+-- The parts from number i on, emitted with the items before and after them.
 pub record EmitsParts (s entries code′ after : List ℕ) (base at last : ℕ) (shape : Shape) (i k end : ℕ) (c : Scope) (r : Emitted) : Type 0 where
   pub went-on : WentOn k end at (dueFrom i) r
   pub came : (ps : List Placed) (m : ℕ) → EnteringParts s shape i k end c ps m → CameParts base at last (columnOf (shape .template)) i ps m r

@@ -1,4 +1,4 @@
--- Laws of calls from C and Rust, one for each way out of them: what was found is answered.
+-- Calls from C and Rust: a law for each way out of them. What was found is answered.
 use Prim.Native.Nat.{ℕ}
 use mathlib.Core.Bool.{Bool, true, false, not}
 use mathlib.Core.List.{List}

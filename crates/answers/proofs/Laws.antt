@@ -1,4 +1,4 @@
--- What a call answers, a law for each way out of the functions that report it.
+-- Answers of two slots: a law for each way out of the functions that report them.
 use Prim.Native.Nat.{ℕ, _<_}
 use mathlib.Core.List.{List, [], _∷_}
 use mathlib.Core.Path.{_≡_, refl, sym, ap, subst, _∙_}

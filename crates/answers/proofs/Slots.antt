@@ -1,4 +1,4 @@
--- Laws of answers with any number of slots, one for each way out of the functions that report them.
+-- Answers with any number of slots: a law for each way out of the functions that report them.
 use Prim.Native.Nat.{ℕ, _+_, _≤_, _<_}
 use mathlib.Core.Bool.{true, false}
 use mathlib.Core.List.{List}
@@ -28,7 +28,7 @@ module _ (row : List ℕ) (n : ℕ) (before : List ℕ) where
   pub stored-short : (r : ℕ) → length before < length row → r ≡ spaceTooShort → Stored row n before before r
   stored-short r h e = record { given = rw (lt-ltb _ _ h) e; slots = sym (written-short before 0 row (omega arith)) }
 
-  -- as many numbers as were passed are in their slots
+  -- as many numbers as the loop has passed are in their slots
   pub row-none : Copied before 0 row before 0
   row-none = copy-none before 0 row
 

@@ -9,8 +9,8 @@ use Rattle.formats.specs.Results.{Result, onValue}
 use Rattle.formats.specs.Blocks.{lent}
 use Rattle.answers.specs.Answer.{answerSlots, Answers}
 
--- A call that fills a lent buffer besides. Where the answer has too few slots, the buffer is
--- untouched too.
+-- A call that also fills a lent buffer, which is `buffer` at entry and `filled` at exit. Where the
+-- answer array has too few slots, this buffer is untouched too.
 pub record Fills (due : Result (List ℕ)) (buffer filled before after : List ℕ) (r : ℕ) : Type 0 where
   pub answers : Answers (onValue length due) before after r
   pub buffer-is : filled ≡ elim (ltb (length before) answerSlots) [ true ↦ buffer | false ↦ lent buffer due ]

@@ -1,4 +1,4 @@
--- What a call answers.
+-- What a call from C or Rust answers.
 pub mod Slots
 pub mod Answer
 pub mod Fills

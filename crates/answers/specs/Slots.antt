@@ -1,5 +1,4 @@
--- What every call answers: a number, and a row of numbers in the first slots of a lent answer
--- array.
+-- What every call answers: a number, and numbers in the first slots of a lent answer array.
 use Prim.Native.Nat.{ℕ}
 use mathlib.Core.Bool.{true, false}
 use mathlib.Core.List.{List}
@@ -10,17 +9,19 @@ use Rattle.formats.specs.Refusals.{spaceTooShort}
 use Rattle.formats.specs.Results.{Result, done, refusal}
 use Rattle.formats.specs.Written.{written}
 
--- 0 where all is done, else the refusal's number; and its position.
+-- 0 where all is done, else the number of the refusal.
 unfoldable pub refusalOf : Result (Unit {0}) → ℕ
 refusalOf (done u) = 0
 refusalOf (refusal number position) = number
 
+-- 0 where all is done, else the position of the refusal.
 unfoldable pub positionOf : Result (Unit {0}) → ℕ
 positionOf (done u) = 0
 positionOf (refusal number position) = position
 
--- An answer of so many slots, with the row that it has for a refusal's position, and what the slots
--- then hold.
+-- An answer of `count` slots: `row` gives them from the position of a refusal. The call gives `r`:
+-- 13 where the array has too few slots, else 0 or the number of the refusal. The array is `before`
+-- at entry and `after` at exit; with too few slots it is untouched.
 pub record Reported (count : ℕ) (row : ℕ → List ℕ) (outcome : Result (Unit {0})) (before after : List ℕ) (r : ℕ) : Type 0 where
   pub number : r ≡ elim (ltb (length before) count) [ true ↦ spaceTooShort | false ↦ refusalOf outcome ]
   pub slots : after ≡ written before 0 (row (positionOf outcome))

@@ -13,17 +13,17 @@ ghost use Rattle.answers.specs.Inner.Stores.{Stored};
 ghost use Rattle.answers.specs.Answer.{answerSlots, Answers};
 ghost use Rattle.answers.specs.Inner.Stores.{Stores};
 
-// How many slots an answer takes. Later ones will stand after these.
+// How many slots an answer takes. Slots that a later version adds come after these.
 const ANSWER_SLOTS: usize = 2;
 
-// Whether all slots of the answer are lent.
+// Whether the answer array has all slots.
 pub fn has_room(answer: &[u64]) -> bool
     ensures { λ r. ⌜ r ≡ leb answerSlots (length (now (answer .entry))) ⌝ }
 {
     ANSWER_SLOTS <= answer.len()
 }
 
-// Stores a row of numbers in the answer's first slots, and gives `number`. With fewer slots: 13,
+// Stores a row of numbers in the answer's first slots, and gives `number`. With too few slots: 13,
 // and the answer is untouched.
 pub fn store_row(answer: &mut [u64], row: &[u64], number: u32) -> u32
     ensures { λ r. ⌜ Stored (now (row .entry)) number (now (answer .entry)) (now (answer .exit))
@@ -41,7 +41,7 @@ pub fn store_row(answer: &mut [u64], row: &[u64], number: u32) -> u32
     number
 }
 
-// The row of a refusal's position and a number of bytes.
+// Stores the position of a refusal and a number of bytes, and gives `number`.
 pub fn store(answer: &mut [u64], number: u32, position: usize, bytes: usize) -> u32
     ensures { λ r. ⌜ Stores number position bytes (now (answer .entry)) (now (answer .exit)) r ⌝ }
 {
@@ -59,7 +59,7 @@ pub fn report(filled: Filled, answer: &mut [u64]) -> u32
     }
 }
 
-// The answer of a check: it has no bytes to report of.
+// The answer of a check, which has no bytes to report.
 pub fn report_verdict(verdict: Verdict, answer: &mut [u64]) -> u32
     ensures { λ r. ⌜ Answers (onValue (λ u. 0) (verdictResult verdict)) (now (answer .entry))
         (now (answer .exit)) r ⌝ }

@@ -1,4 +1,4 @@
--- A record begins: a law for each way out of the functions, and what it is to the steps.
+-- A record begins: a law for each way out of the functions; and the steps say the same.
 use Prim.Native.Nat.{ℕ, suc, _+_, _*_, _≤_, _<_}
 use mathlib.Core.List.{List}
 use mathlib.Core.Logic.{_≢_}
@@ -106,7 +106,7 @@ module _ (T input values : List ℕ) (s : Stage) where
       rw e (record { is = λ returns. rw (begun-past T input (s .node) (stateOf values returns s) past) (reach-stuck values returns s) })
 
   module _ (few : s .node < recordLimit) (k : ℕ) (action : k ≡ actionAt T (s .node)) where
-    -- The place in front of the record, whatever the return words hold.
+    -- The offset of the tree that the record names, whatever the return words hold.
     abbrev at : List ℕ → ℕ
     at returns = namedBy T input (s .node) (stateOf values returns s)
 

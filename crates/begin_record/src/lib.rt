@@ -1,4 +1,4 @@
-// A record of a program begins, in the source run: the next stage.
+// A step of the source run: a record begins, and this is the next stage.
 use frames::ACTION;
 use frames::AFTER;
 use frames::CALLS_FUNCTION;
@@ -19,7 +19,7 @@ ghost use Rattle.formats.specs.Numbers.{numberAt};
 ghost use Rattle.stepwise.specs.Inner.Steps.{operandAt, moreAt, frameWords, recordLimit};
 ghost use Rattle.begin_record.specs.Inner.Begins.{Looks, Begins};
 
-// Records are numbered below.
+// The numbers of records are below this limit.
 const RECORD_LIMIT: u16 = 2048;
 
 const LEAF_TAG: u8 = 1;
@@ -34,7 +34,7 @@ fn constant(table: &[u16], r: u16) -> u32
     (frames::field(table, r, OPERAND) as u32) + 65536 * (frames::field(table, r, MORE) as u32)
 }
 
-// Puts the label that begins at an offset on the word that the stage's Case names it by.
+// Reads the label at an offset, and puts it on the word by which the stage's Case names it.
 fn put_label(table: &[u16], input: &[u8], at: usize, values: &mut [u32], s: Stage)
     ensures { λ _. ⌜ now (values .exit) ≡ set (now (values .entry))
         (frameWords * s .calls + operandAt (now (table .entry)) (s .node))
@@ -49,8 +49,8 @@ fn put_label(table: &[u16], input: &[u8], at: usize, values: &mut [u32], s: Stag
     )
 }
 
-// A Case looks at its tree: a label is put on its word, and the leaf part begins; or the node part
-// does.
+// A Case looks at its tree. At a leaf its label is put on its word, and the leaf part begins; else
+// the node part begins.
 fn look(table: &[u16], input: &[u8], values: &mut [u32], s: Stage) -> Stage
     requires { ⌜ s .node < recordLimit ⌝ }
     ensures { λ r. ⌜ Looks (now (table .entry)) (now (input .entry)) (now (values .entry))

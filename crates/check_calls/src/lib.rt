@@ -4,7 +4,7 @@ ghost use Rattle.rules.specs.PassTwo.{checkRecords, checkFile};
 ghost use Rattle.answers.specs.Answer.{Answers};
 
 // Whether the program of a file passes both passes. The refusal's number, 0 where it passes; the
-// refusal's position goes to the answer's first place, and its second is 0. With fewer slots: 13,
+// refusal's position goes to the answer's first slot, and 0 to its second. With fewer slots: 13,
 // and the answer is untouched.
 pub fn check(file: &[u8], answer: &mut [u64]) -> u32
     ensures { λ r. ⌜ Answers (onValue (λ u. 0) (checkFile (now (file .entry))))

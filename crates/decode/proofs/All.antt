@@ -1,5 +1,5 @@
--- A program's functions one after the other: what is left of them at function j, whose body is at
--- record k.
+-- The functions of a program, one after the other: what is still to be done at function j, whose
+-- body is at record k.
 use Prim.Native.Nat.{ℕ, zero, suc, _+_, _*_, _≤_, _<_}
 use mathlib.Core.List.{List, [], _∷_, _++_, map}
 use mathlib.Core.Path.{_≡_, refl, sym, ap, ap₂, subst, _∙_}
@@ -34,7 +34,7 @@ use Rattle.decode.specs.Inner.Walk.{Agrees, Small, Entering, Filled, Fil
 
 -- ---- the first records and the arities of a program's functions
 
--- the counts of functions that were read are summed
+-- the node counts of functions that were read, summed
 total-is : (s : List ℕ) (n j : ℕ) (gs : List Signature) → each (functionIn s) n j ≡ done gs → total gs ≡ countsFrom n s j
 unfolding total countsFrom
 total-is s zero j gs e = ap total (each-none (functionIn s) j gs e)
@@ -42,14 +42,14 @@ total-is s (suc n) j gs e =
     let i = each-inv (functionIn s) n j gs e in
     ap total (i .both) ∙ ap₂ _+_ (function-read s j (i .head) (i .here) .count) (total-is s n (suc j) (i .tail) (i .later))
 
--- fewer functions have no more nodes
+-- the first functions have no more nodes than all of them
 total-front : (b : ℕ) (gs : List Signature) → total (take b gs) ≤ total gs
 unfolding total
 total-front zero gs = omega arith
 total-front (suc b) [] = omega arith
 total-front (suc b) (g ∷ gs) = omega (arith, total-front b gs)
 
--- so they are as the function records say
+-- the first records and arities are as the function records say
 pub agreeing : (s : List ℕ) (program : Program) → Bytes s → readProgram s ≡ done program → Agrees s (firstRecord program) (arityOf (signatures program))
 unfolding firstRecord firstIn arityOf
 agreeing s program bytes e =
@@ -78,7 +78,8 @@ pub record Left (s : List ℕ) (functions end : ℕ) (table₀ table : List ℕ)
   pub ends : k + total (map signatureOf others) ≡ end
   pub due : tabled table₀ program ≡ written table (rowWords * k) (rowsOfAll (firstRecord program) (arityOf (signatures program)) k others)
 
--- The same of every program that the records are, with the lengths of the table and of the stack.
+-- The same for every program that the records stand for, with the lengths of the table and of the
+-- stack.
 pub record Filling (s : List ℕ) (functions end : ℕ) (table₀ cases₀ table cases : List ℕ) (k j : ℕ) : Type 0 where
   pub some-program : Value (readProgram s)
   pub inside : Inside k end
@@ -88,7 +89,7 @@ pub record Filling (s : List ℕ) (functions end : ℕ) (table₀ cases₀ table
   pub stack : mostRecords ≤ length cases₀
   pub left : (program : Program) → readProgram s ≡ done program → Left s functions end table₀ table k j program
 
--- at first all of them
+-- at the start all functions are still to be done
 pub fill-first : (s table cases : List ℕ) (functions nodes end : ℕ) → Bytes s → Ready s table cases → functions ≡ headerIn s .functions → nodes ≡ headerIn s .nodes → end ≡ 1 + functions + nodes
     → Filling s functions end table cases table cases (1 + functions) 0
 unfolding headerIn recordAt tabled
@@ -118,7 +119,7 @@ fill-first s table cases functions nodes end bytes ready ef en el =
     }
 
 module _ (s : List ℕ) (functions end : ℕ) (table₀ cases₀ table cases : List ℕ) (k j : ℕ) (l : Filling s functions end table₀ cases₀ table cases k j) where
-  -- at last none
+  -- at the end none is
   pub fill-all : functions ≤ j → FillsAll s table₀ table
   unfolding rowsOfAll
   fill-all over = record { is = λ program e. let f = l .left program e in by program (f .others) (f .many) (f .due) }
@@ -142,7 +143,7 @@ module _ (s : List ℕ) (functions end : ℕ) (table₀ cases₀ table cases : L
       ends : k + size (here .body) + total (map signatureOf others) ≡ end
       due : tabled table₀ program ≡ written table (rowWords * k) (rowsOfAll (firstRecord program) (arityOf (signatures program)) k (here ∷ others))
 
-    -- there is one
+    -- there is a function j
     turn : (program : Program) → readProgram s ≡ done program → Turn program
     unfolding total signatureOf
     turn program e = let f = l .left program e in by (f .others) (f .held) (f .many) (f .ends) (f .due)
@@ -163,7 +164,7 @@ module _ (s : List ℕ) (functions end : ℕ) (table₀ cases₀ table cases : L
           due = due;
         }
 
-    -- where it begins
+    -- the location of its body
     starts-at : (program : Program) (e : readProgram s ≡ done program) → p ≡ startLocation (turn program e .here)
     starts-at program e = let t = turn program e in starts .is (t .here) (t .signed) (t .few)
 
@@ -196,7 +197,7 @@ module _ (s : List ℕ) (functions end : ℕ) (table₀ cases₀ table cases : L
           stacked = record { room = omega (arith, l .inside .few, l .stack, l .cases-long); low = λ n below. absurd (omega arith) };
         }
 
-    -- its place is the one wanted
+    -- its location is the one wanted
     body-location : (program : Program) (e : readProgram s ≡ done program)
         → locationWith p cases ≡ bodyLocation (firstRecord program) (arityOf (signatures program)) (turn program e .here)
     body-location program e = ap (λ q. locationWith q cases) (starts-at program e)
@@ -213,7 +214,7 @@ module _ (s : List ℕ) (functions end : ℕ) (table₀ cases₀ table cases : L
           let v = l .some-program in
           ap length (filled (v .value) (v .is) .rows) ∙ wrote table (rowWords * k) _ .same-length
 
-      -- those after it are left
+      -- the functions after it are still to be done
       rest-left : (program : Program) → readProgram s ≡ done program → Left s functions end table₀ table′ next (j + 1) program
       unfolding rowsOfAll
       rest-left program e =

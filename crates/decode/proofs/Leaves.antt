@@ -1,4 +1,4 @@
--- A row's first half, where counts are small: it is the one wanted.
+-- The first half of a row, where counts are small: it is the one wanted.
 use Prim.Native.Nat.{ℕ, zero, suc, _/_, _%_, _≤_, _<_}
 use mathlib.Core.Bool.{true}
 use mathlib.Core.List.{List}
@@ -19,7 +19,7 @@ use Rattle.record_rows.specs.Inner.Halves.{firstIn, operandIn, treeIn, ownIn}
 use Rattle.record_rows.proofs.Halves.{case-above}
 use Rattle.decode.specs.Inner.Walk.{Agrees, Stacked, Reported}
 
--- codes are small where a stack has records
+-- codes are small where the entries of the stack are records
 module _ {cases : List ℕ} {depth more : ℕ} (h : Stacked cases depth more) where
   entry-low : (n : ℕ) → getD (take depth cases) n 0 ≤ mostRecords
   entry-low n = elim (decLe depth n) [
@@ -32,7 +32,7 @@ module _ {cases : List ℕ} {depth more : ℕ} (h : Stacked cases depth more) wh
   code-low zero = refl
   code-low (suc j) = omega (arith, entry-low (j / 2))
 
--- a word that is small is itself
+-- a number below 65,536 is its own remainder
 low-word : (n most : ℕ) → n ≤ most → most < 65536 → n % 65536 ≡ n
 low-word n most h g = omega arith
 

@@ -1,4 +1,4 @@
--- Where a part stands, where counts are small, and what then holds of it.
+-- The location of a part where counts are small, and what holds of it.
 use Prim.Native.Nat.{ℕ, zero, suc, _+_, _%_, _≤_, _<_}
 use mathlib.Core.Bool.{Bool, true, false}
 use mathlib.Core.List.{List, [], _∷_, _++_}
@@ -78,7 +78,7 @@ started s j m p em e = record {
   is = λ f signed few. e ∙ ap (λ n. placed 0 0 0 n 0 0) (em ∙ sym (function-read s j (signatureOf f) signed .arity));
 }
 
--- ---- what holds of a part's place
+-- ---- what holds of a part's location
 
 -- counts grow by one at most, or by the parts before it
 record Near (r i : ℕ) (p q : Location) : Type 0 where
@@ -107,7 +107,7 @@ depth-near asWhole n = omega arith
 depth-near underNumber n = omega arith
 depth-near underTrees n = omega arith
 
--- a place that is so, by its counts
+-- a location that is near, by its counts
 near-to : (part : Part) (r i : ℕ) (p : Location) (role slot keeps : ℕ) → role ≤ lastArgument → slot ≤ p .names + lastWord → keeps ≤ p .keeps + i
     → Near r i p (placed role r slot (namesUnder part (p .names)) keeps (deeper part (p .depth)))
 near-to part r i p role slot keeps hr hs hk =
@@ -118,7 +118,7 @@ last-role : (b : Bool) → elim b [ true ↦ lastArgument | false ↦ kept ] ≤
 last-role true = omega arith
 last-role false = omega arith
 
--- so is each part's
+-- each part's location is near
 near : (part : Part) (kind : Kind) (r i count : ℕ) (p : Location) → Near r i p (insideLocation part kind r i count p)
 unfolding insideLocation roleOf slotOf keepsIn
 near part (aConst c) r i count p = near-to part r i p _ _ _ (omega arith) (omega arith) (omega arith)
@@ -135,11 +135,11 @@ near part aNode r (suc i) count p = near-to part r (suc i) p _ _ _ (omega arith)
 near part (aCase a) r i count p = near-to part r i p _ _ _ (omega arith) (omega arith) (omega arith)
 near part (aCall a b) r i count p = near-to part r i p _ _ _ (last-role (eqb (suc i) count)) (omega arith) (omega arith)
 
--- a part of a record's counts can grow
+-- the counts can grow on entering a part
 pub grows : (r i k end : ℕ) (p : Location) → SmallParts r i k end p → Grows i p
 grows r i k end p small = record { names = omega (arith, small .names); keeps = omega (arith, small .keeps); depth = omega (arith, small .depth) }
 
--- so its counts are small
+-- so the counts of a part are small
 module _ (part : RecordPart) (node : Record) (r i count k end : ℕ) (p q : Location) (small : SmallParts r i k end p) (is : q ≡ partIn (partOf part) (meant node) r i count p) where
   pub few-part : Small k end q
   few-part =
@@ -154,7 +154,7 @@ module _ (part : RecordPart) (node : Record) (r i count k end : ℕ) (p q : Loca
         depth = omega (arith, n .depth, small .depth);
       }
 
--- it is the place wanted, on the stack as it is noted: what a part names by its kind is what it
+-- it is the location wanted, with the stack as noted: what a part names by its kind is what it
 -- names by itself
 pub place-inside : (entry arity : ℕ → ℕ) (kind : Kind) (r i count : ℕ) (p : Location) (cases : List ℕ) → Counted arity kind count → i < count → r ≤ mostRecords → p .depth < length cases
     → locationWith (insideLocation (nthPart (partsOf kind) i) kind r i count p) (noted (nthPart (partsOf kind) i) r (p .depth) cases) ≡ partLocation entry arity (locationWith p cases) kind r i
@@ -206,11 +206,11 @@ module _ (cases cases′ : List ℕ) (depth : ℕ) (same : Same cases cases′ d
         omega (arith, e, h .low n below);
   }
 
-  -- .. and so does what is the same as that
+  -- .. and the same is true of a third stack
   pub same-more : (after : List ℕ) → Same cases′ after depth → Same cases after depth
   same-more after next = record { long = next .long ∙ same .long; below-depth = next .below-depth ∙ same .below-depth }
 
--- a record put on top
+-- a record is put on top
 module _ (cases : List ℕ) (depth r : ℕ) where
   top-stacked : (more : ℕ) → Stacked cases depth (suc more) → r ≤ mostRecords → Stacked (set cases depth (r % 65536)) (suc depth) more
   top-stacked more h few =

@@ -1,4 +1,5 @@
--- Rows of an expression: its own, then its parts'; and how many words the rows of parts are.
+-- The rows of an expression: its own, then those of its parts. How many words the rows of parts
+-- are.
 use Prim.Native.Nat.{ℕ, suc, _+_, _*_}
 use mathlib.Core.List.{List, [], _∷_, _++_, append-nil}
 use mathlib.Core.Path.{_≡_, refl, sym, ap, ap₂}
@@ -14,7 +15,7 @@ use Rattle.decode.specs.Inner.Walk.{rowsOfParts}
 
 module _ (entry arity : ℕ → ℕ) where
   module _ (p : Location) (kind : Kind) (r : ℕ) where
-    -- the last part, and a part in front of the last; arguments
+    -- the last part; the last two; arguments
     rows-last : (i k : ℕ) (x : Expr) → rowsOf entry arity (partLocation entry arity p kind r i) k x ≡ rowsOfParts entry arity p kind r i (placedAt k x ∷ [])
     unfolding rowsOfParts
     rows-last i k x = sym (append-nil _)
@@ -30,7 +31,7 @@ module _ (entry arity : ℕ → ℕ) where
     rows-args i k noArgs = refl
     rows-args i k (arg x xs) = ap (λ (l : List ℕ). rowsOf entry arity (partLocation entry arity p kind r i) k x ++ l) (rows-args (suc i) (k + size x) xs)
 
-  -- a row with the record after it said in another way, in front of rows
+  -- a row before other rows, with its record `after` replaced by an equal one
   in-front : (p : Location) (kind : Kind) {m n : ℕ} {xs ys : List ℕ} → m ≡ n → xs ≡ ys → rowOf entry arity p m kind ++ xs ≡ rowOf entry arity p n kind ++ ys
   in-front p kind e f = ap₂ (λ b l. rowOf entry arity p b kind ++ l) e f
 

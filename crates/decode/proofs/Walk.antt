@@ -1,5 +1,5 @@
 -- The functions that fill the rows of an expression and of its parts: a law for each way out of
--- them, and what their calls ask.
+-- them, and what their calls require.
 use Prim.Native.Nat.{ℕ, suc, _+_, _-_, _*_, _%_, _≤_, _<_}
 use mathlib.Core.Bool.{true}
 use mathlib.Core.List.{List, [], _∷_, _++_}
@@ -45,7 +45,7 @@ use Rattle.decode.proofs.Rows.{rows-split, length-parts}
 
 -- ---- `decode_at`
 
--- a row's words, where they are small
+-- the words of a row, where they are small
 row-is : (entry arity : ℕ → ℕ) (cases : List ℕ) (k end : ℕ) (p : Location) (kind : Kind) (own : Own) (next : ℕ) → Reported entry arity (locationWith p cases) kind own → Small k end p → next ≤ end
     → rowIn own p next ≡ rowOf entry arity (locationWith p cases) next kind
 row-is entry arity cases k end p kind own next half small inside =
@@ -56,7 +56,7 @@ row-is entry arity cases k end p kind own next half small inside =
     let rest = ap₂ _∷_ role (ap₂ _∷_ parent (ap₂ _∷_ slot (ap (λ n. n ∷ []) after))) in
     ap₂ _∷_ (half .action) (ap₂ _∷_ (half .operand) (ap₂ _∷_ (half .tree) (ap₂ _∷_ (half .more) rest)))
 
--- parts counted by the parameters of the functions that there are
+-- counting parts by `arity` or by the function records gives the same number
 same-count : (s : List ℕ) (entry arity : ℕ → ℕ) → Agrees s entry arity → (kind : Kind) → below (headerIn s .functions) kind ≡ true
     → partCount arity (partsOf kind) ≡ partCount (arityIn s) (partsOf kind)
 unfolding below partsOf partCount
@@ -100,7 +100,7 @@ module _ (s table cases : List ℕ) (k end : ℕ) (p : Location) where
         own-below : below (headerIn s .functions) (meant node) ≡ true
         own-below = rw own-kind (node-below s k (headOf e) (node-held s (h .here .signed) k e (h .here .holds)))
 
-        -- it has so many parts ..
+        -- it has `count` parts ..
         own-count : count ≡ partCount (arityIn s) (partsOf (meant node))
         own-count = many ∙ ap (λ (x : Shape). partCount (arityIn s) (x .parts)) own-shape ∙ ap (λ kind. partCount (arityIn s) (partsOf kind)) (sym own-kind)
 
@@ -128,7 +128,7 @@ module _ (s table cases : List ℕ) (k end : ℕ) (p : Location) where
           stacked = stacked-less cases (p .depth) (end - k) (suc (end - (k + 1))) (h .stacked) (omega arith);
         }
 
-      -- the own row in front of the parts' rows
+      -- its own row, before the parts' rows
       pub fill-read : (own : Own) (there after cases′ : List ℕ) (next : ℕ) → Small k end p → k < end → own ≡ ownIn s cases (p .names) (p .depth) (meant node)
           → FillsParts s table there cases cases′ node parts k 0 count (k + 1) end p next
           → after ≡ written there (rowWords * k) (rowIn own p next)
@@ -209,7 +209,7 @@ module _ (s table cases : List ℕ) (node : Record) (parts : Parts) (r i count k
       unfolding insideLocation
       kept = same-inside (partOf part) r (p .depth) cases cases₁ (rw (← is-noted) (rw is-inner at (filled .stack)))
 
-      -- the others see the same place
+      -- for the other parts the record's location is the same
       same-location : locationWith p cases₁ ≡ locationWith p cases
       same-location = ap (λ (c : List ℕ). record { role = p .role; parent = p .parent; slot = p .slot; names = p .names; keeps = p .keeps; cases = c }) (kept .below-depth)
 
@@ -245,7 +245,7 @@ module _ (s table cases : List ℕ) (node : Record) (parts : Parts) (r i count k
             stacked = stacked-same cases cases₁ (p .depth) kept _ (stacked-less cases (p .depth) _ _ (h .stacked) fewer);
           }
 
-    -- a part that is not entered: none stands there
+    -- a part that is not entered: no expression stands there
     pub parts-stuck : next ≤ k → FillsParts s table between cases cases₁ node parts r i count k end p next
     parts-stuck stuck = record {
       went = f .went;
@@ -283,7 +283,7 @@ module _ (s table cases : List ℕ) (node : Record) (parts : Parts) (r i count k
 
 pub ruleset parts = (parts-done, parts-stuck, parts-more)
 
--- ---- what the calls ask: counts stay small, and the records left fall
+-- ---- what the calls require: counts stay small, and fewer records are left
 
 -- the parts of a record
 pub few-parts : (k end : ℕ) (p : Location) → Small k end p → k < end → SmallParts k 0 (k + 1) end p

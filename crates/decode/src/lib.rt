@@ -14,7 +14,7 @@ ghost use Rattle.stepwise.specs.Inner.Rows.{rowWords};
 ghost use Rattle.decode.specs.Inner.Decoding.{Decodes};
 ghost use Rattle.decode.specs.Inner.Walk.{rowIn, Small, SmallParts, Fills, FillsParts, Starts, Ready, FillsAll};
 
-// Words of a row.
+// How many words a row has.
 const ROW_WORDS: usize = 8;
 
 // The most records: the header, 32 functions and 1,024 nodes.
@@ -23,7 +23,7 @@ const MOST_RECORDS: usize = 1057;
 // A row for each of them.
 const TABLE_WORDS: usize = 8456;
 
-// What a function's body is to its parent.
+// The role of a function's body.
 const WHOLE: usize = 0;
 
 // Writes the row of record k, or nothing where the table has no row there.
@@ -45,8 +45,8 @@ fn write_row(table: &mut [u16], k: usize, own: Own, location: Location, after: u
     table[p + 7] = (after % 65536) as u16;
 }
 
-// Fills the rows of the expression at record k, and says which record is after it. A record's row
-// is written once its parts are finished: then that is known.
+// Fills the rows of the expression at record k, and gives the record after it. A record's own row
+// is written after those of its parts, when the record after them is known.
 fn decode_at(
     flat: &[u8],
     table: &mut [u16],
@@ -87,7 +87,8 @@ fn decode_at(
     }
 }
 
-// Fills the rows of the parts of record r from part i on, of so many, the next of them at record k.
+// Fills the rows of the parts of record r from part i on. The record has `count` parts, and part i
+// stands at record k.
 fn decode_parts(
     flat: &[u8],
     table: &mut [u16],
@@ -130,7 +131,7 @@ fn decode_parts(
     )
 }
 
-// Where the body of function j stands: its numbers are named.
+// Where the body of function j stands: its number parameters are named.
 fn start(flat: &[u8], j: u16) -> Location
     ensures { λ r. ⌜ Starts (now (flat .entry)) j r ⌝ }
 {
@@ -161,9 +162,9 @@ fn decode_all(flat: &[u8], table: &mut [u16], cases: &mut [u16])
     }
 }
 
-// The rows of a program that passes pass one, written to their records' places in a lent table; or
-// the first refusal of the rows header to prefix form and pass one, and last 13 where the table is
-// too short. A refusal leaves the table untouched.
+// The rows of a program that passes pass one, written into a lent table: the row of record k from
+// word 8k on. Else the first refusal: of the checks of the records, header to prefix form, then of
+// pass one, and last 13 where the table is too short. A refusal leaves the table untouched.
 pub fn decode(flat: &[u8], table: &mut [u16]) -> Verdict
     ensures { λ r. ⌜ Decodes (now (flat .entry)) (now (table .entry)) (now (table .exit)) r ⌝ }
 {

@@ -28,7 +28,7 @@ pub ruleset words = (byte-cut)
 
 -- ---- `on_right`, `known_after`
 
--- both hold, or not
+-- both tests hold, or one does not
 both-true : {a b : Bool} → a ≡ true → b ≡ true → (a && b) ≡ true
 both-true e f = rw (e, f)
 

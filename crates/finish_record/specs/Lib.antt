@@ -1,2 +1,2 @@
--- The next stage after a record that is finished.
+-- The next stage after a record is finished.
 pub mod Inner

@@ -1,4 +1,4 @@
-// A record of a program is finished, in the source run: the next stage, by its value.
+// A step of the source run: a record is finished, and this is the next stage, by its value.
 use frames::ADDED;
 use frames::AFTER;
 use frames::FOLLOWED;
@@ -56,8 +56,9 @@ fn on_right(table: &[u16], input: &[u8], r: u16, own: usize) -> bool
     input[own] == NODE_TAG
 }
 
-// The place of the tree whose end is known once the call closes that the Call at record r opened,
-// in a frame whose own tree is at `own`: with the end of a node's right tree the node's is known.
+// The offset of the tree whose end is known after the call closes that the Call at record r opened.
+// `own` is the offset of the frame's own tree. Where the call was on the right tree of a node, both
+// end at the same offset: so with the end of that tree the node's end is known.
 fn known_after(table: &[u16], input: &[u8], r: u16, own: usize, s: Stage) -> usize
     ensures { λ k. ⌜ Knows (now (table .entry)) (now (input .entry)) r own s k ⌝ }
 {
@@ -70,7 +71,7 @@ fn known_after(table: &[u16], input: &[u8], r: u16, own: usize, s: Stage) -> usi
     s.known
 }
 
-// The call that waits goes on, with the number of the one that closes; the first frame is the last.
+// A call closes: the call that waits goes on with its number. Where none waits, the run has ended.
 fn close(table: &[u16], input: &[u8], returns: &[u64], s: Stage) -> Stage
     ensures { λ r. ⌜ Closes (now (table .entry)) (now (input .entry)) (now (returns .entry)) s r ⌝ }
 {
@@ -93,7 +94,7 @@ fn close(table: &[u16], input: &[u8], returns: &[u64], s: Stage) -> Stage
     }
 }
 
-// The number of a record that is finished, put on its word.
+// Puts the number of a record that is finished on its word.
 fn keep(table: &[u16], values: &mut [u32], s: Stage)
     ensures { λ _. ⌜ now (values .exit) ≡ set (now (values .entry))
         (frameWords * s .calls + slotAt (now (table .entry)) (s .node)) (s .number) ⌝ }
@@ -106,7 +107,7 @@ fn keep(table: &[u16], values: &mut [u32], s: Stage)
     )
 }
 
-// The number of a record that is finished, added to the one kept.
+// The number of a record that is finished, added to the number kept.
 fn sum_kept(table: &[u16], values: &[u32], s: Stage) -> u32
     ensures { λ r. ⌜ r ≡ sum32 (getD (now (values .entry))
         (frameWords * s .calls + slotAt (now (table .entry)) (s .node)) 0) (s .number) ⌝ }
@@ -127,8 +128,9 @@ fn picked(table: &[u16], s: Stage) -> u16
     frames::field(table, zero_part, AFTER)
 }
 
-// The next stage after a part whose value is the whole's, a leaf's label, or Node's left tree,
-// after which the next part begins; the last argument else, after which the call opens.
+// The next stage after a part with one of the other roles: its value is its record's; it is the
+// label of a leaf; it is Node's left tree, and the next part begins; or it is the last argument,
+// and the call opens.
 fn follow(table: &[u16], values: &mut [u32], s: Stage) -> Stage
     ensures { λ r. ⌜ Follows (now (table .entry)) (now (values .entry)) (now (values .exit)) s r ⌝ }
 {
@@ -144,9 +146,9 @@ fn follow(table: &[u16], values: &mut [u32], s: Stage) -> Stage
     }
 }
 
-// The next stage after a record that is finished, by what it is to its parent: a function's body, a
-// number that is put on a word before the next part begins, Add's second part, IfZero's test, or
-// one of those that `follow` has.
+// The next stage after a record is finished, by its role: it is a function's body; its number is
+// put on a word, and the next part begins; it is Add's second part; it is IfZero's test; or it has
+// one of the roles that `follow` handles.
 pub fn rise(table: &[u16], input: &[u8], values: &mut [u32], returns: &[u64], s: Stage) -> Stage
     ensures { λ r. ⌜ Rises (now (table .entry)) (now (input .entry)) (now (values .entry))
         (now (values .exit)) (now (returns .entry)) s r ⌝ }

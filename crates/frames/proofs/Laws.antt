@@ -6,7 +6,7 @@ use lib.ListN.{length, getD, set}
 use lib.Seq.{set-out}
 use Rattle.words.proofs.Bytes.{byte-cut}
 
--- none is put past the end
+-- past the end nothing is put
 pub none-put : (l : List ℕ) (i x : ℕ) → length l ≤ i → l ≡ set l i x
 none-put l i x cut = sym (set-out l i x cut)
 

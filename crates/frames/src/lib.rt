@@ -4,10 +4,10 @@ ghost use mathlib.Core.Path.{_≡_};
 ghost use lib.ListN.{getD, set};
 ghost use Rattle.stepwise.specs.Inner.Steps.{field as fieldOf, frameWords};
 
-// Words of a row.
+// How many words a row has.
 const ROW_WORDS: usize = 8;
 
-// Words of a frame.
+// How many words a frame has.
 const FRAME_WORDS: usize = 16;
 
 // The fields of a row.
@@ -27,7 +27,7 @@ pub const SLOT: u16 = 6;
 
 pub const AFTER: u16 = 7;
 
-// What a record does when it begins; else its first part begins.
+// Actions: what a record does when it begins. With any other action its first part begins.
 pub const GIVES_CONSTANT: u16 = 0;
 
 pub const GIVES_NAMED: u16 = 1;
@@ -38,7 +38,8 @@ pub const LOOKS_AT_TREE: u16 = 4;
 
 pub const CALLS_FUNCTION: u16 = 5;
 
-// What a part is to the record that it is part of; the last argument of a Call is none of these.
+// Roles: what a record does with the value of its part. Any other role is that of the last argument
+// of a Call.
 pub const WHOLE: u16 = 0;
 
 pub const KEPT: u16 = 1;
@@ -64,7 +65,7 @@ pub fn field(table: &[u16], r: u16, f: u16) -> u16
     0
 }
 
-// The place of a frame's word.
+// Where a frame's word stands among the value words.
 fn word_offset(calls: u16, slot: u16) -> usize
     ensures { λ r. ⌜ r ≡ frameWords * calls + slot ⌝ }
 {

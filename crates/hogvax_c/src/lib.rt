@@ -1,5 +1,5 @@
-// What C and Rust programs link: each function is its proved call, forwarded. A slice passes as a
-// pointer and a length.
+// What C and Rust programs link: each function only calls its proved function. A slice is passed as
+// a pointer and a length.
 ghost use mathlib.Core.Path.{_≡_};
 ghost use lib.ListN.{length};
 ghost use Rattle.formats.specs.Blocks.{readInto, writeInto};
@@ -15,7 +15,7 @@ ghost use Rattle.run_answers.specs.RunCall.{StreamCall};
 ghost use Rattle.run_calls.specs.ProgramCall.{ProgramCall};
 ghost use Rattle.source_answers.specs.SourceCall.{SourceCall};
 
-// The length of the first tree's own bytes.
+// How many bytes the input's first tree has; 0 where there is none.
 #[no_mangle]
 pub extern "C" fn hogvax_tree_bytes(input: &[u8]) -> usize
     ensures { λ r. ⌜ r ≡ length (ownBytes (firstTree (now (input .entry)))) ⌝ }
@@ -23,7 +23,7 @@ pub extern "C" fn hogvax_tree_bytes(input: &[u8]) -> usize
     tree_calls::tree_bytes(input)
 }
 
-// Why no tree begins the input, or its length.
+// The length of the tree that begins the input, or why there is none.
 #[no_mangle]
 pub extern "C" fn hogvax_tree(input: &[u8], answer: &mut [u64]) -> u32
     ensures { λ r. ⌜ Answers (firstEnd (now (input .entry))) (now (answer .entry))

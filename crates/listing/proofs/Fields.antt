@@ -25,7 +25,7 @@ put-length s t p vs q put = ap length (put .buffer) ∙ wrote s p vs .same-lengt
 pub put-one : (s : List ℕ) (p v : ℕ) → p < length s → Puts s (set s p v) p (v ∷ []) (p + 1)
 put-one s p v h = record { buffer = written-one s p v h; end = refl; inside = omega (arith, length-set s p v) }
 
--- all that is put is within the buffer, and so it is put as one
+-- two pieces put one after the other are put as one, since both are within the buffer
 pub put-both : (s t u : List ℕ) (p q r : ℕ) (vs ws : List ℕ) → Puts s t p vs q → Puts t u q ws r → Puts s u p (vs ++ ws) r
 put-both s t u p q r vs ws first second =
     let sum : r ≡ p + length (vs ++ ws) = omega (arith, first .end, second .end, length-append vs ws) in
@@ -41,7 +41,7 @@ put-both s t u p q r vs ws first second =
       inside = second .inside;
     }
 
--- the room of the first of two pieces, and of the second once the first is put
+-- room for the first of two pieces, and for the second once the first is put
 first-room : (s : List ℕ) (p : ℕ) (vs ws : List ℕ) → p + length (vs ++ ws) ≤ length s → p + length vs ≤ length s
 first-room s p vs ws room = omega (arith, length-append vs ws)
 

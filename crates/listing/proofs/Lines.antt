@@ -84,7 +84,7 @@ lines-more code (suc n) a =
     ∙ ap (λ m. lineText (lineOf a (recordAt code a)) ++ (linesText (linesFrom code n (suc a)) ++ lineText (lineOf m (recordAt code m)))) at
     ∙ sym (append-assoc (lineText (lineOf a (recordAt code a))) _ _)
 
--- fewer lines are no longer
+-- the text of fewer lines is no longer
 fewer : (code : List ℕ) (k n a : ℕ) → k ≤ n → length (linesText (linesFrom code k a)) ≤ length (linesText (linesFrom code n a))
 unfolding linesFrom linesText
 fewer code zero n a h = omega arith
@@ -109,7 +109,7 @@ module _ (code s : List ℕ) (p : ℕ) where
 
   module _ (t : List ℕ) (k q : ℕ) (g : Going code s t p k q) where
     module _ (less : k < instructionsIn code) (l : ListingLine) (reported : l ≡ lineOf k (recordAt code k)) where
-      -- with this line
+      -- the text with this line
       next : linesText (linesFrom code (suc k) 0) ≡ linesText (linesFrom code k 0) ++ lineText l
       next =
           let at : 0 + k ≡ k = omega arith in

@@ -1,4 +1,4 @@
--- A number with a sign: its magnitude, and its text by the sign.
+-- A number with its sign: its magnitude, and its text.
 use Prim.Native.Nat.{ℕ, suc, _+_, _-_, _≤_, _<_}
 use mathlib.Core.Bool.{true, false}
 use mathlib.Core.List.{List, [], _∷_, _++_}

@@ -1,3 +1,3 @@
--- What the program's functions put into the text.
+-- What the functions of the listing program put into its text.
 pub mod Shown
 pub mod Inner

@@ -1,4 +1,5 @@
--- What the program's functions answer: a line's numbers, and text put into a lent buffer.
+-- What the functions of the listing program answer: the longest text, and text put into a lent
+-- buffer.
 use Prim.Native.Nat.{ℕ, _+_, _*_, _≤_}
 use mathlib.Core.List.{List}
 use mathlib.Core.Path.{_≡_}
@@ -11,7 +12,8 @@ use Rattle.meaning.specs.Instructions.{mostInstructions}
 abbrev pub longestLine : ℕ
 longestLine = 31
 
--- The longest heading has 10 bytes, and the longest listing the most lines. (A refusal is shorter.)
+-- Room for every listing: the longest heading has 10 bytes, and there are at most as many lines as
+-- instructions. (A refusal is shorter.)
 abbrev pub mostText : ℕ
 mostText = 10 + longestLine * mostInstructions
 

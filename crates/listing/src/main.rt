@@ -18,7 +18,7 @@ ghost use Rattle.listing.specs.Inner.Shown.{mostCode, shown};
 
 const INSTRUCTION_BYTES: usize = 8;
 
-// 17 blocks of 512 bytes, and one byte more, by which a file that is too long shows.
+// 17 blocks of 512 bytes, and one byte more, to see that a file is too long.
 const INPUT_BYTES: usize = 8705;
 
 // Room for the code of every program: 4,128 instructions.
@@ -85,7 +85,7 @@ fn put_field(out: &mut [u8], at: usize, n: usize, after: u8) -> usize
     put_byte(out, last, after)
 }
 
-// A number without its sign. -1 - n always fits, and -n does not.
+// A number without its sign. -1 - n always fits, -n does not.
 fn magnitude(n: i32) -> usize
     ensures { λ r. ⌜ r ≡ natAbs n ⌝ }
 {
@@ -120,7 +120,7 @@ fn put_line(out: &mut [u8], at: usize, l: Line) -> usize
     put_signed(out, number, l.number)
 }
 
-// Puts the lines of a code.
+// Puts the lines of code.
 fn put_lines(out: &mut [u8], at: usize, code: &[u8]) -> usize
     requires { ⌜ (length (now code) ≤ mostCode) ×
         (at + longestLine * instructionsIn (now code) ≤ length (now out)) ⌝ }
@@ -148,7 +148,7 @@ fn put_refusal(out: &mut [u8], number: usize, offset: usize) -> usize
     put_field(out, last, offset, b'\n')
 }
 
-// Puts the listing of a code: the heading, and the lines.
+// Puts the listing of code: the heading, and the lines.
 fn put_code(out: &mut [u8], code: &[u8]) -> usize
     requires { ⌜ (mostText ≤ length (now out)) × (length (now code) ≤ mostCode) ⌝ }
     ensures { λ r. ⌜ Puts (now (out .entry)) (now (out .exit)) 0

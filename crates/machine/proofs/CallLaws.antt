@@ -1,4 +1,4 @@
--- Calls and returns: a law for each way out of the functions on them.
+-- Calls and returns: a law for each way out of their functions.
 use Prim.Native.Nat.{ℕ, zero, suc, _+_, _-_, _≤_, _<_}
 use mathlib.Core.List.{List, [], _∷_, _++_, append-nil}
 use mathlib.Core.Option.{none, some}
@@ -49,7 +49,7 @@ module _ (returns : List ℕ) (top : ℕ) (s : Machine) where
 
 pub ruleset leaves = (left-first, left-back)
 
--- ---- `openCall`
+-- ---- `call`
 
 module _ (entry n : ℕ) (returns : List ℕ) (s : Machine) where
   -- 01, Instructions that cannot be performed: "19 .. (.. missing .. words)"
@@ -81,7 +81,7 @@ module _ (entry n : ℕ) (returns : List ℕ) (s : Machine) where
               refused-so m _ values returns output s r tooManyCalls e (calls m values output ∙ rw (openCall, opened, le-ltb _ _ full)) (lit< tt) h;
         }
 
-    -- the machine in the new frame, and the return places then
+    -- the machine in the new frame, and the return places after the call
     abbrev inside : Machine
     inside =
         record {
@@ -226,7 +226,7 @@ kept-more (suc zero) frame h g = absurd (g refl)
 kept-more (suc (suc k)) frame h g = refl
 
 module _ (k : ℕ) (returns values : List ℕ) (s r : Machine) where
-  -- these words can be kept, or none can
+  -- what a return does where these words can be kept, or none can
   gives :
       (values′ words : List ℕ) (top : ℕ)
       → s .stop ≡ goesOn

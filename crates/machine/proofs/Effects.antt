@@ -1,5 +1,5 @@
--- What all operations have in common: a refusal changes nothing, and what goes on stands for the
--- next state.
+-- What all operations have in common: a refusal changes nothing, and where the run goes on, the
+-- machine stands for the next state.
 use Prim.Native.Nat.{ℕ, _+_, _≤_, _<_}
 use mathlib.Core.List.{List}
 use mathlib.Core.Path.{_≡_, refl, sym, _∙_}

@@ -13,7 +13,7 @@ use Rattle.formats.proofs.Numbers.{bytesFrom, number-read}
 use Rattle.formats.proofs.Buffers.{part-inside, length-inside}
 use Rattle.meaning.specs.Instructions.{instructionBytes}
 
--- a number that is there whole is what its bytes stand for
+-- a number whose bytes are all there is what these bytes stand for
 number-of : (width : ℕ) (s : List ℕ) (p : ℕ) → p + width ≤ length s → numberAt width s p ≡ numberOf (bytesFrom width s p 0)
 number-of width s p h = sym (number-read width s p _ _ (omega arith) (omega arith) refl refl)
 
@@ -27,7 +27,7 @@ module _ (code : List ℕ) (address : ℕ) (whole : instructionBytes * address +
   abbrev own : List ℕ
   own = take (p + instructionBytes - p) (drop p code)
 
-  -- a byte of them, bytes and a number are those of the code there
+  -- a byte, several bytes or a number of them is that of the code there
   byte-there : (k : ℕ) → k < instructionBytes → getD own k 0 ≡ getD code (p + k) 0
   byte-there k h =
       ap (λ l. getD l k 0) (part-inside code p instructionBytes) ∙ getD-take instructionBytes (drop p code) k 0 h ∙ getD-drop p code k 0

@@ -30,7 +30,7 @@ unfolding wordsFrom
 length-words values base zero = refl
 length-words values base (suc n) = ap suc (length-words values base n)
 
--- a word above them set
+-- a word set above them
 pub words-kept : (values : List ℕ) (base n i x : ℕ) → base + n ≤ i → wordsFrom (set values i x) base n ≡ wordsFrom values base n
 unfolding wordsFrom
 words-kept values base zero i x h = refl
@@ -49,7 +49,7 @@ words-pushed values base n i x h e =
     (ap (λ j. getD (set values i x) j 0) (sym e) ∙ getD-set-same values i x 0 h)
     (words-kept values base n i x (omega arith))
 
--- by the top one
+-- the top word first
 pub words-top :
     (values : List ℕ) (base top : ℕ)
     → base < top
@@ -60,7 +60,7 @@ words-top values base top h =
     let there : base + (top - 1 - base) ≡ top - 1 = omega arith in
     ap (wordsFrom values base) one-more ∙ ap (λ i. getD values i 0 ∷ wordsFrom values base (top - 1 - base)) there
 
--- one word, or two, taken or missing
+-- one word or two are taken, or are missing
 module _ (values : List ℕ) (base top : ℕ) where
   pub one-missing : (f : ℕ → List ℕ → Step) → top ≤ base → one (wordsFrom values base (top - base)) f ≡ refuses cannotPerform
   unfolding wordsFrom one
@@ -131,7 +131,7 @@ words-left values base (suc n) rest (suc k) e = words-left values base n rest k 
 
 -- ---- the frames that wait
 
--- a value word above them set
+-- a value word set above them
 pub waiting-kept :
     (values returns : List ℕ) (base saved i x : ℕ)
     → Chained returns base saved
@@ -145,7 +145,7 @@ waiting-kept values returns base saved i x (above {n = n} below c) h =
     (words-kept values own (base - own) i x (omega arith))
     (waiting-kept values returns own n i x c (le-trans below h))
 
--- a return place above them set
+-- a return place set above them
 pub waiting-saved :
     (values returns : List ℕ) (base saved i x : ℕ)
     → Chained returns base saved
@@ -211,7 +211,7 @@ unfolding waiting
 count-waiting values returns base saved first = refl
 count-waiting values returns base saved (above {n = n} below c) = let e = count-waiting values returns (getD returns (suc n) 0) n c in omega arith
 
--- all words that stand
+-- how many words stand in all
 pub all-standing :
     (values returns output : List ℕ) (s : Machine)
     → Chained returns (s .base) (s .saved)

@@ -1,6 +1,6 @@
--- The run: a law for each way out of its functions. In front of each turn as many steps as units
--- lead from the start to the state that the machine stands for (`Running`), and steps determine the
--- run: so the turn that stops is the whole run's last.
+-- The run: a law for each way out of its functions. Before each turn as many steps as units lead
+-- from the start to the state that the machine stands for (`Running`), and steps determine the run:
+-- so the turn that stops is the whole run's last.
 use Prim.Native.Nat.{ℕ, _+_, _-_, _^_, _≤_, _<_}
 use mathlib.Core.Bool.{false}
 use mathlib.Core.List.{List, [], _∷_, _++_}
@@ -147,7 +147,7 @@ led-more {m} {u = u} d =
       | on f (d → h) ↦ λ e. on f (h e)
     ]
 
--- where enough work words are lent, a row of steps that stops is the run
+-- where enough work words are lent, a sequence of steps that stops is the run
 lent-run :
     (code input output : List ℕ) (fuel values returns : ℕ) (r : Run)
     → valueWords ≤ values
@@ -174,7 +174,7 @@ output-is output output₀ w same fits rest =
     let after : drop (0 + length front) output₀ ≡ drop w output = ap (λ k. drop k output₀) end ∙ sym rest in
     sym (written-fits output₀ 0 front room ∙ ap (λ (l : List ℕ). front ++ l) after ∙ take-append-drop w output)
 
--- what is untouched after fewer bytes is so after more
+-- a buffer that is untouched after fewer bytes is untouched after more
 drop-more : (few many : ℕ) (l k : List ℕ) → few ≤ many → drop few l ≡ drop few k → drop many l ≡ drop many k
 drop-more few many l k h e =
     let sum : few + (many - few) ≡ many = omega arith in
@@ -182,8 +182,8 @@ drop-more few many l k h e =
 
 -- ---- `run`
 
--- In front of a turn: the machine goes on, so many steps have led to its state, and after what is
--- written the output is as it was.
+-- Before a turn: the machine goes on, `units` steps have led to its state, and the output after
+-- what is written is as it was.
 pub record Running (code input : List ℕ) (fuel : ℕ) (output₀ values₀ returns₀ output values returns : List ℕ) (s : Machine) (units : ℕ) : Type 0 where
   pub going : s .stop ≡ goesOn
   pub held : Held (ofCode code input (length output₀)) values returns output s

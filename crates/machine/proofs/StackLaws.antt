@@ -21,14 +21,14 @@ use Rattle.machine.proofs.Effects.{moved, held-moved, refused-so, goes-
 
 -- ---- an operation refused, and one that goes on in its frame
 
--- The outcome of an operation, whatever the other buffers hold
+-- The outcome of an operation, whatever the other buffers hold.
 abbrev Becomes : Operation → List ℕ → Machine → (List ℕ → List ℕ → Step) → Type 0
 Becomes op values s due =
     (m : Setting) (returns output : List ℕ)
     → Held m values returns output s
     → operate m (stateOf values returns output s) op ≡ due returns output
 
--- done on the numbers: it leaves the value words, whatever they hold
+-- an operation on the numbers alone: it leaves the value words, whatever they hold
 on-numbers : (op : Operation) (s r : Machine) → ((values : List ℕ) → OnValues op values values s r) → OnNumbers op s r
 on-numbers op s r h = record { does = λ m values returns output held. h values .does m returns output held }
 
@@ -41,7 +41,7 @@ cannot :
 cannot op values s r is e =
     record { does = λ m returns output h. refused-so m _ values returns output s r cannotPerform is (e m returns output h) (omega arith) h }
 
--- it goes on at an address, with the frame's words up to here
+-- it goes on at an address, with the frame's words up to a new top
 stays :
     (op : Operation) (values values′ : List ℕ) (s r : Machine) (a top : ℕ)
     → Sound s
@@ -79,7 +79,7 @@ stays-set op values s r i top x sound lent is above based topped e =
     let below = waiting-kept values returns (s .base) (s .saved) i x (h .chained) based in
     e m returns output h ∙ sym (rw (add-one, counted, frame, below)))
 
--- ---- `pushWord`
+-- ---- `push`
 
 module _ (values : List ℕ) (x : ℕ) (s r : Machine) (sound : Sound s) where
   pub push-full : valueWords ≤ s .top → r ≡ stoppedBy cannotPerform s → OnValues (Push x) values values s r

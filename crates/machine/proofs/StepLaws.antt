@@ -54,7 +54,7 @@ module _ (i input values returns output : List ℕ) (s r : Machine) where
   abbrev pub Leaves : (values′ returns′ output′ : List ℕ) → Type 0
   Leaves values′ returns′ output′ = Performs (recordAt i 0) input values returns output values′ returns′ output′ s r
 
-  -- the operation at the opcode's place
+  -- opcode k names the operation listed at number k
   placed : (k : ℕ) → x ≡ k → operationOf (recordAt i 0) ≡ nth (operations b operand number) k
   unfolding operationOf recordAt
   placed k e = ap (nth (operations b operand number)) e

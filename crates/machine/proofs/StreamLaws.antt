@@ -30,14 +30,14 @@ use Rattle.machine.proofs.Effects.{moved, held-moved, refused-so, goes-
 
 -- ---- bytes to the output
 
--- so many bytes are written
+-- the bytes written are as many as the machine counts
 length-out :
     (m : Setting) (values returns output : List ℕ) (s : Machine)
     → Held m values returns output s
     → length (take (s .written) output) ≡ s .written
 length-out m values returns output s h = length-take-le (s .written) output (h .written-there)
 
--- bytes that do not fit after those written
+-- bytes do not fit after those written
 full-so :
     (m : Setting) (values returns output bytes words : List ℕ) (s : Machine)
     → Held m values returns output s
@@ -48,7 +48,7 @@ full-so m values returns output bytes words s h full =
     let over : m .space < length (take (s .written) output) + length bytes = rw (length-out m values returns output s h, h .space-is) full in
     rw (write, lt-leb _ _ over)
 
--- bytes that fit, the frame's words up to here
+-- bytes that fit are written, with the frame's words up to a new top
 writes-so :
     (m : Setting) (due : Step) (values returns output bytes : List ℕ) (s : Machine) (top : ℕ)
     → due ≡ write m bytes (holding (wordsFrom values (s .base) (top - s .base)) (stateOf values returns output s))
@@ -142,7 +142,7 @@ pub ruleset numbers-out = (number-missing, number-full, number-fits)
 
 -- ---- bytes from the input
 
--- bytes that are there read, the frame's words up to here
+-- bytes that are there are read, with the frame's words up to a new top
 reads-so :
     (m : Setting) (due : Step) (values values′ returns output : List ℕ) (s : Machine) (address top read : ℕ)
     → due ≡ goes (stateOf values′ returns output (moved address top read (s .written) s))
@@ -160,12 +160,12 @@ reads-so m due values values′ returns output s address top read e h going lv b
 
 -- ---- `read_tag`
 
--- on to an address, with a tag read
+-- the machine after a tag is read, at an address
 abbrev tagRead : ℕ → Machine → Machine
 tagRead to s = moved to (s .top) (s .read + 1) (s .written) s
 
 module _ (address : ℕ) (input : List ℕ) (s r : Machine) where
-  -- by the tag found
+  -- what is done, by the tag found
   by-tag : (m : Setting) (t : State) (g : Tag) → m .input ≡ input → tagAt input (t .read) ≡ g → operate m t (ReadTag address) ≡ onTag g address t
   unfolding operate
   by-tag m t g e found = ap (λ k. onTag k address t) (ap (λ i. tagAt i (t .read)) e ∙ found)

@@ -14,20 +14,20 @@ ghost use Rattle.machine.specs.Inner.States.{frameOf, Sound, Going, Lent
 ghost use Rattle.machine.specs.Inner.Effects.{OnNumbers, OnValues, WritesTag, OnOutput, FromInput, OnInput, OnReturns, FromReturns, Performs, Steps};
 ghost use Rattle.machine.specs.Inner.Answers.{runAnswer, refusalNumber, Reports, Performed};
 
-// Words that the value stack may hold, and those of the return places; one place is never used,
-// since the first frame has none.
+// The value words, and the words of the return places. One return place is never used, since the
+// first frame has none: so at most 2,046 words are saved.
 const VALUE_WORDS: usize = 16384;
 
 const RETURN_WORDS: usize = 2048;
 
 const MOST_SAVED: usize = 2046;
 
-// Instructions that may be performed.
+// The most instructions that code has: from this address on none is performed.
 const MOST_INSTRUCTIONS: usize = 4128;
 
 const INSTRUCTION_BYTES: usize = 8;
 
-// Why the machine stops: it goes on; it has ended; or a refusal's number.
+// The values of `stop`: the machine goes on, it has ended, or the number of a refusal.
 const GOES_ON: u32 = 0;
 
 const ENDED: u32 = 1;
@@ -48,8 +48,9 @@ const NODE_TAG: u8 = 2;
 
 const LABEL_BYTES: usize = 4;
 
-// The numbers of the machine: why it stops, the address, the ends of the frame's words, the words
-// of the return places in use, the bytes read and written. Flat, so that it stays in registers.
+// The numbers of the machine: why it stops, the address, where the frame's words begin and end, how
+// many words of the return places are in use, how many bytes are read and written. Flat, so that it
+// stays in registers.
 struct Machine {
     stop: u32,
     address: usize,
@@ -79,7 +80,7 @@ fn fetch(code: &[u8], address: usize) -> &[u8]
     &code[p..p + INSTRUCTION_BYTES]
 }
 
-// The operand of an instruction's bytes.
+// The operand in the bytes of an instruction.
 fn operand_of(i: &[u8]) -> u16
     requires { ⌜ instructionBytes ≤ length (now i) ⌝ }
     ensures { λ r. ⌜ r ≡ numberAt 2 (now (i .entry)) 2 ⌝ }
@@ -87,7 +88,7 @@ fn operand_of(i: &[u8]) -> u16
     words::word16(i[2], i[3])
 }
 
-// The number of an instruction's bytes.
+// The number in the bytes of an instruction.
 fn number_of(i: &[u8]) -> u32
     requires { ⌜ instructionBytes ≤ length (now i) ⌝ }
     ensures { λ r. ⌜ r ≡ numberAt 4 (now (i .entry)) 4 ⌝ }
@@ -104,7 +105,7 @@ fn stopped(s: Machine, why: u32) -> Machine
     r
 }
 
-// The machine at the next address, with its frame's words up to here.
+// The machine at the next address, with its frame's words up to `top`.
 fn next(s: Machine, top: usize) -> Machine
     requires { ⌜ Sound s ⌝ }
     ensures { λ r. ⌜ r ≡ nextTo top s ⌝ }
@@ -115,7 +116,7 @@ fn next(s: Machine, top: usize) -> Machine
     r
 }
 
-// 0 push, of a number; and what get and read number do with theirs.
+// 0 push: a number is the new top word. `get` uses it too.
 fn push(s: Machine, number: u32, values: &mut [u32]) -> Machine
     requires { ⌜ Sound s ⌝ }
     requires { ⌜ valueWords ≤ length (now values) ⌝ }
@@ -129,7 +130,7 @@ fn push(s: Machine, number: u32, values: &mut [u32]) -> Machine
     next(s, top + 1)
 }
 
-// 1 get: the word that stands so many above the base.
+// 1 get: pushes the word that stands k above the base.
 fn get(s: Machine, k: u16, values: &mut [u32]) -> Machine
     requires { ⌜ Sound s ⌝ }
     requires { ⌜ valueWords ≤ length (now values) ⌝ }
@@ -145,7 +146,7 @@ fn get(s: Machine, k: u16, values: &mut [u32]) -> Machine
     push(s, word, values)
 }
 
-// 2 add: the two top words, modulo 2^32.
+// 2 add: replaces the two top words by their sum, modulo 2^32.
 fn add(s: Machine, values: &mut [u32]) -> Machine
     requires { ⌜ Sound s ⌝ }
     requires { ⌜ valueWords ≤ length (now values) ⌝ }
@@ -159,7 +160,7 @@ fn add(s: Machine, values: &mut [u32]) -> Machine
     next(s, top - 1)
 }
 
-// 3 ifnot: takes the top word, and goes to the address where it is not 0.
+// 3 ifnot: takes the top word, and goes to the address if the word is not 0.
 fn ifnot(s: Machine, address: u16, values: &[u32]) -> Machine
     requires { ⌜ Sound s ⌝ }
     requires { ⌜ valueWords ≤ length (now values) ⌝ }
@@ -211,7 +212,7 @@ fn drop(s: Machine) -> Machine
     next(s, top - 1)
 }
 
-// 7 leaf tag and 8 node tag.
+// 7 leaf tag and 8 node tag: writes the tag.
 fn write_tag(s: Machine, tag: u8, output: &mut [u8]) -> Machine
     requires { ⌜ Sound s ⌝ }
     ensures { λ r. ⌜ WritesTag tag (now (output .entry)) (now (output .exit)) s r ⌝ }
@@ -319,7 +320,8 @@ fn call(s: Machine, entry: u16, arguments: u8, returns: &mut [u64]) -> Machine
     r
 }
 
-// The frame is left with its words cut here; where it is the first one, the run has ended.
+// Leaves the frame, with its words cut down to `top`. Where it is the first frame, the run has
+// ended.
 fn leave(s: Machine, top: usize, returns: &[u64]) -> Machine
     requires { ⌜ s .saved ≤ length (now returns) ⌝ }
     ensures { λ r. ⌜ r ≡ left (now (returns .entry)) top s ⌝ }
@@ -337,7 +339,7 @@ fn leave(s: Machine, top: usize, returns: &[u64]) -> Machine
     r
 }
 
-// 13 return, with no word or one kept.
+// 13 return, with no word or one word kept.
 fn give_back(s: Machine, kept: u8, values: &mut [u32], returns: &[u64]) -> Machine
     requires { ⌜ Sound s ⌝ }
     requires { ⌜ valueWords ≤ length (now values) ⌝ }
@@ -396,7 +398,7 @@ fn step(
     }
 }
 
-// How many addresses hold an instruction, in a code of so many bytes.
+// How many addresses hold an instruction, in code of so many bytes.
 fn limit(bytes: usize) -> usize
     ensures { λ r. ⌜ r ≡ limitOf bytes ⌝ }
 {
@@ -456,7 +458,7 @@ fn number_kept(s: Machine, values: &[u32]) -> u32
     values[top - 1]
 }
 
-// The answer of a run that stops here, with so many units before.
+// The answer of a run that stops here, after `units` instructions.
 fn report(s: Machine, units: u64, values: &[u32]) -> Answer
     requires { ⌜ s .top ≤ length (now values) ⌝ }
     requires { ⌜ units + 1 < 2 ^ 64 ⌝ }

@@ -28,7 +28,7 @@ module _ (s : List ℕ) where
           rw (← same) (omega (arith, length-bytesOf labelBytes (numberAt labelBytes s (suc p))))
       by false h = done-not e (label-cut s (suc p) (leb-false _ _ h))
 
-  -- a node, where its parts are
+  -- a node, where its branches are
   node-inside :
       (room p : ℕ) (t : Tree)
       → ((q : ℕ) (u : Tree) → treeAt room s q ≡ done u → q + length (tokens u) ≤ length s)

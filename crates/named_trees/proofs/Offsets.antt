@@ -1,4 +1,4 @@
--- The place of a named tree: a law for each way out of `offset_of`, and that it is the offset where
+-- The offset of a named tree: a law for each way out of `offset_of`; and it is the offset at which
 -- the steps find the tree.
 use Prim.Native.Nat.{ℕ, zero, suc, _+_, _-_, _*_, _/_, _%_, _≤_, _<_}
 use mathlib.Core.List.{List}
@@ -39,7 +39,7 @@ module _ (input : List ℕ) (known end p j : ℕ) where
           sym (simp (partAt, lt-leb _ _ there, ne-eqb _ _ odd, eq-eqb _ _ same))
 
       module _ (other : p + 1 ≢ known) where
-        -- the part after the node's tag
+        -- the input after the node's tag
         abbrev after : List ℕ
         after = take (length input - (p + 1)) (drop (p + 1) input)
 
@@ -73,14 +73,14 @@ pub ruleset parts = (part-past, part-left, part-known, part-broken, part-right, 
 -- ---- `offset_of`
 
 module _ (T input : List ℕ) (own known end : ℕ) where
-  -- The place of a code, and the code of the tree that its Case looks at.
+  -- The offset of a code, and the code of the tree that its Case looks at.
   abbrev offset : ℕ → ℕ
   offset = treeOffset T input own known end
 
   abbrev outerOf : ℕ → ℕ
   outerOf code = treeAt T ((code - 1) / 2)
 
-  -- ---- in so many steps
+  -- ---- a number of steps
 
   within-own : (n code : ℕ) → code ≡ 0 → offsetWithin T input own known end n code ≡ own
   unfolding offsetWithin
@@ -115,7 +115,7 @@ module _ (T input : List ℕ) (own known end : ℕ) where
             ]
       ]
 
-  -- the offset of a part, from its node's
+  -- the offset of a branch, from that of its node
   step : (code : ℕ) → code ≢ 0 → outerOf code < code → offset code ≡ partAt input known end (offset (outerOf code)) (code - 1)
   step zero some small = absurd (some refl)
   step (suc n) some small =
@@ -150,11 +150,11 @@ pub ruleset named-trees = (offset-named)
 -- ---- where the steps find it
 
 module _ (T input : List ℕ) (s : State) where
-  -- The place in the state's frame.
+  -- The offset in the state's frame.
   abbrev pub offsetIn : ℕ → ℕ
   offsetIn = treeOffset T input (s .tree) (s .known) (s .end)
 
-  -- a part, from its node
+  -- a branch, from its node
   found-part : (c p code j : ℕ) → code ≡ suc j → j / 2 ≡ c → 2 * c < code → treeAt T c < suc (2 * c) → offsetIn (treeAt T c) ≡ p
       → offsetIn code ≡ partAt input (s .known) (s .end) p j
   found-part c p code j next half more small is =

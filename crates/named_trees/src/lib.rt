@@ -6,8 +6,9 @@ ghost use mathlib.Core.Path.{_≡_};
 ghost use Rattle.stepwise.specs.Inner.Steps.{treeAt};
 ghost use Rattle.named_trees.specs.Inner.Offsets.{partAt, treeOffset};
 
-// Where a tree of the node at offset `node` begins: the left one for an even j, else the right one.
-// The tree at `known` ends at `end`; of another left tree the end is looked for.
+// Where a branch of the node at offset `node` begins: the left tree for an even j, else the right
+// one. The tree at `known` ends at `end`; the end of any other left tree is found by the tree
+// reader.
 fn part_of(input: &[u8], known: usize, end: usize, node: usize, j: u16) -> usize
     ensures { λ r. ⌜ r ≡ partAt (now (input .entry)) known end node j ⌝ }
 {
@@ -25,7 +26,8 @@ fn part_of(input: &[u8], known: usize, end: usize, node: usize, j: u16) -> usize
     let found = tree::tree_answer(bytes);
     match found {
         TreeAnswer::Refused(why, offset) => 0,
-        // A tree ends within its bytes, so the test never holds; with it the sum is seen to fit.
+        // A tree ends within its bytes, so this test never holds. It is here to show that the sum
+        // fits.
         TreeAnswer::Tree(length) => {
             if bytes.len() < length {
                 return 0;
@@ -36,8 +38,8 @@ fn part_of(input: &[u8], known: usize, end: usize, node: usize, j: u16) -> usize
 }
 
 // Where the tree of this code begins, in a frame whose own tree is at `own`: 0 is that tree, 2c + 1
-// the left tree and 2c + 2 the right one of the tree that the Case at record c looks at. The code
-// falls at each call, and the Cases are nested.
+// the left tree and 2c + 2 the right tree of the tree that the Case at record c looks at. Each
+// recursive call is about the tree that the Case looks at, whose code is smaller.
 fn offset_of(table: &[u16], input: &[u8], own: usize, known: usize, end: usize, code: u16) -> usize
     ensures { λ r. ⌜ r ≡ treeOffset (now (table .entry)) (now (input .entry)) own known end code ⌝ }
 {

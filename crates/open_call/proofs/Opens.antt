@@ -1,4 +1,4 @@
--- A call opens: a law for each way out of the functions, and what it is to the steps.
+-- A call opens: a law for each way out of the functions; and the steps say the same.
 use Prim.Native.Nat.{ℕ, suc, _+_, _-_, _*_, _≤_, _<_}
 use mathlib.Core.Bool.{Bool, true, false}
 use mathlib.Core.List.{List}
@@ -26,7 +26,7 @@ pub ruleset words = (none-put)
 
 -- ---- `copy`
 
--- So many arguments are copied.
+-- The first n arguments are copied.
 pub record Copying (values₀ : List ℕ) (calls slot count : ℕ) (values : List ℕ) (n : ℕ) : Type 0 where
   pub so-far : values ≡ copied values₀ (frameWords * calls) slot n
   pub few : n ≤ count
@@ -128,7 +128,7 @@ pub opened-found : (T input : List ℕ) (r p : ℕ) (s : State) → r < recordLi
 opened-found T input r p s few found =
     opened-in T input r s few ∙ ap (λ q. opening T q r s) (found-offset T input s found)
 
--- nothing is finished after it, and no other call opens
+-- a call that has opened leaves no record finished, and no other call to open
 module _ (s : Stage) (r f : ℕ) (t : State) where
   settled-by : (a b : Bool)
       → (stageOf s (elim a [ true ↦ elim b [ true ↦ deep r | false ↦ begin f t ] | false ↦ stuck ]) .mode ≢ isFinished)

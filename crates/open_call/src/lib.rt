@@ -1,4 +1,4 @@
-// A call of a program opens, in the source run.
+// A step of the source run: a call opens, and this is the next stage.
 use frames::MORE;
 use frames::OPERAND;
 use frames::SLOT;
@@ -12,13 +12,13 @@ ghost use lib.ListN.{set};
 ghost use Rattle.stepwise.specs.Inner.Steps.{slotAt, moreAt, frameWords, recordLimit, mostWaiting, copied};
 ghost use Rattle.open_call.specs.Inner.Opens.{Opens};
 
-// Calls that may wait.
+// The most calls that may wait: with the one that goes on, 1,024 are open.
 const MOST_WAITING: u16 = 1023;
 
-// Records are numbered below.
+// The numbers of records are below this limit.
 const RECORD_LIMIT: u16 = 2048;
 
-// slot - n, and 0 where n is more.
+// slot - n; 0 where n is larger.
 fn from_down(slot: u16, n: u16) -> u16
     ensures { λ r. ⌜ r ≡ slot - n ⌝ }
 {
@@ -28,8 +28,8 @@ fn from_down(slot: u16, n: u16) -> u16
     slot - n
 }
 
-// Puts the arguments of a call, which stand on words from `slot` down of the last frame, on the
-// first words of the next one.
+// Copies the `count` arguments of a call to the first words of the next frame. They stand on the
+// words from `slot` down, in the frame of the call that goes on.
 fn copy(values: &mut [u32], calls: u16, slot: u16, count: u16)
     requires { ⌜ calls < mostWaiting ⌝ }
     ensures { λ _. ⌜ now (values .exit) ≡ copied (now (values .entry)) (frameWords * calls) slot
@@ -43,7 +43,7 @@ fn copy(values: &mut [u32], calls: u16, slot: u16, count: u16)
     }
 }
 
-// Puts the arguments of the call at the stage's record on the first words of the next frame.
+// Copies the arguments of the call at the stage's record to the first words of the next frame.
 fn pass_arguments(table: &[u16], values: &mut [u32], s: Stage)
     requires { ⌜ (s .node < recordLimit) × (s .calls < mostWaiting) ⌝ }
     ensures { λ _. ⌜ now (values .exit) ≡ copied (now (values .entry)) (frameWords * s .calls)

@@ -1,5 +1,5 @@
--- Where parts stand: a law for each way out of the functions, and what is exact where counts are
--- small.
+-- Where parts stand: a law for each way out of the functions. Where counts are small, no sum is
+-- cut.
 use Prim.Native.Nat.{ℕ, suc, _+_, _-_, _%_, _≤_, _<_}
 use mathlib.Core.Bool.{Bool, true, false}
 use mathlib.Core.List.{List, [], _∷_}
@@ -90,7 +90,7 @@ names-same Whole n h = refl
 names-same UnderNumber n h = absurd (miss unnamedTags 3 tt h)
 names-same UnderTrees n h = refl
 
--- .. and no trees
+-- .. and parts in which no tree is named
 abbrev shallowTags : List ℕ
 shallowTags = 0 ∷ 1 ∷ 2 ∷ 3 ∷ []
 
@@ -106,7 +106,7 @@ pub ruleset namings = (names-more, depth-more, names-same, depth-same)
 
 -- ---- `argument`
 
--- a place with these
+-- a location with these fields
 abbrev pub placed : (role parent slot names keeps depth : ℕ) → Location
 placed role parent slot names keeps depth = record { role = role; parent = parent; slot = slot; names = names; keeps = keeps; depth = depth }
 
@@ -123,7 +123,7 @@ pub ruleset arguments = (argument-last, argument-other)
 
 -- ---- `inside`
 
--- records whose parts' values are the whole's, or that have no parts
+-- kinds of record whose parts have the record's value, or that have no parts
 abbrev passedTags : List ℕ
 passedTags = 0 ∷ 1 ∷ 7 ∷ []
 
@@ -142,7 +142,7 @@ passed-part part (Call k) r i count p h = absurd (miss passedTags 8 tt h)
 
 module _ (part : Part) (node : Record) (r i count : ℕ) (p q : Location) (names depth : ℕ) (en : names ≡ namesInside (partOf part) (p .names))
     (ed : depth ≡ depthInside (partOf part) (p .depth)) where
-  -- a place with what is named in the part
+  -- a location with what is named in the part
   abbrev named : (role slot keeps : ℕ) → Location
   named role slot keeps = placed role r slot (namesInside (partOf part) (p .names)) keeps (depthInside (partOf part) (p .depth))
 

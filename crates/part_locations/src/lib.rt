@@ -11,7 +11,7 @@ ghost use Rattle.part_locations.specs.Inner.Locations.{capped, namesInsi
 // The last word of a frame.
 const LAST_WORD: usize = 15;
 
-// What a part is to the record that it is part of.
+// Roles: what a record does with the value of its part.
 const KEPT: usize = 1;
 
 const ADDED: usize = 2;
@@ -26,9 +26,9 @@ const FOLLOWED: usize = 6;
 
 const LAST_ARGUMENT: usize = 7;
 
-// Where a record stands: what it is to its parent, the parent's record, the word of its number,
-// numbers named, numbers kept, and in how many node parts of Cases it stands. The records of these
-// Cases are lent beside it, the outermost first.
+// Where a record stands: its role, its parent's record, the word of its number, how many numbers
+// are named, how many are kept, and in how many node parts of Cases it stands. The records of these
+// Cases are lent separately, the outermost first.
 pub struct Location {
     pub role: usize,
     pub parent: usize,
@@ -38,8 +38,8 @@ pub struct Location {
     pub depth: usize,
 }
 
-// The sum, and the largest number where it is no 64-bit number: counts of a program's records are
-// small.
+// The sum, or the largest 64-bit number where the sum does not fit. Counts of a program's records
+// are small, so for a program it fits.
 fn add_up(x: usize, y: usize) -> usize
     ensures { λ r. ⌜ r ≡ capped (x + y) ⌝ }
 {
@@ -49,7 +49,7 @@ fn add_up(x: usize, y: usize) -> usize
     x + y
 }
 
-// The word so many below the last; 0 where there is none.
+// The word n below the last; 0 where there is none.
 fn from_last(n: usize) -> usize
     ensures { λ r. ⌜ r ≡ lastWord - n ⌝ }
 {
@@ -59,7 +59,7 @@ fn from_last(n: usize) -> usize
     LAST_WORD - n
 }
 
-// Whether part i is the last of so many.
+// Whether part i is the last of `count` parts.
 fn is_last(i: usize, count: usize) -> bool
     ensures { λ b. ⌜ b ≡ eqb (suc i) count ⌝ }
 {
@@ -69,7 +69,7 @@ fn is_last(i: usize, count: usize) -> bool
     i == count - 1
 }
 
-// A place with these.
+// A location with these fields.
 fn placed(
     role: usize,
     parent: usize,
@@ -91,7 +91,7 @@ fn placed(
     }
 }
 
-// Numbers named in a part, by what the part is, where so many are named at the record.
+// How many numbers are named in a part, by what the part is. At its record `names` are named.
 fn names_inside(part: Part, names: usize) -> usize
     ensures { λ r. ⌜ r ≡ namesInside (partOf part) names ⌝ }
 {
@@ -101,8 +101,8 @@ fn names_inside(part: Part, names: usize) -> usize
     }
 }
 
-// In how many node parts of Cases a part stands, by what the part is, where the record stands in so
-// many.
+// In how many node parts of Cases a part stands, by what the part is. Its record stands in `depth`
+// of them.
 fn depth_inside(part: Part, depth: usize) -> usize
     ensures { λ r. ⌜ r ≡ depthInside (partOf part) depth ⌝ }
 {
@@ -112,7 +112,7 @@ fn depth_inside(part: Part, depth: usize) -> usize
     }
 }
 
-// Where an argument stands, with so many numbers kept before it.
+// Where an argument of the Call at record r stands, with `kept` numbers kept before it.
 fn argument(r: usize, kept: usize, last: bool, names: usize, depth: usize) -> Location
     ensures { λ q. ⌜ q ≡ argumentIn r kept last names depth ⌝ }
 {
@@ -123,8 +123,8 @@ fn argument(r: usize, kept: usize, last: bool, names: usize, depth: usize) -> Lo
     placed(KEPT, r, slot, names, kept, depth)
 }
 
-// Where part i of the record r stands, which has so many parts: what is named in it goes by the
-// part, its role and its word by the record's kind.
+// Where part i of the record r stands, which has `count` parts. The part says what is named in it,
+// the record's kind says its role and its word.
 pub fn inside(
     part: Part,
     node: Record,
@@ -171,7 +171,7 @@ pub fn inside(
     }
 }
 
-// Before a part with two tree names more is entered, the Case's record r is put on top of the
+// Before a part that names two trees more is entered, the Case's record r is put on top of the
 // stack.
 pub fn note_case(cases: &mut [u16], part: Part, r: usize, depth: usize)
     ensures { λ _. ⌜ now (cases .exit) ≡ noted (partOf part) r depth (now (cases .entry)) ⌝ }

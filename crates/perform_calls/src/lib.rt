@@ -6,9 +6,10 @@ ghost use Rattle.run_answers.specs.RunCall.{StreamCall};
 
 // The stream run of any code. The refusal's number, 0 where the run ended; the refusal's position,
 // units, bytes read, bytes written and the number, sign-extended to 64 bits, go to the answer's
-// first five slots. What the run wrote stays in `output`, and the rest is untouched. Fewer than
-// 16,384 `values` or 2,048 `returns`: 13, and they are untouched; what they hold after a run is
-// free. With fewer than five slots in `answer`: 13, and all buffers are untouched.
+// first five slots. What the run wrote is at the start of `output`, and the rest is untouched. With
+// fewer than 16,384 words in `values` or 2,048 in `returns`: 13, and both are untouched; after a
+// run they are unspecified. With fewer than five slots in `answer`: 13, and all buffers are
+// untouched.
 pub fn perform(
     code: &[u8],
     input: &[u8],

@@ -1,4 +1,4 @@
--- A row's first half: a law for each way out of the functions that say it.
+-- The first half of a row: a law for each way out of its functions.
 use Prim.Native.Nat.{ℕ, suc, _+_, _-_, _*_, _/_, _%_, _≤_, _<_}
 use mathlib.Core.List.{List}
 use mathlib.Core.Logic.{_≢_}
@@ -76,7 +76,7 @@ pub ruleset codes = (code-own, code-case)
 -- ---- `own_of`
 
 module _ (s cases : List ℕ) (names depth : ℕ) (node : Record) (o : Own) where
-  -- what holds of a record of its kind holds of it
+  -- what holds of the record's kind holds of the record
   of-kind : (kind : Kind) → meant node ≡ kind → o ≡ ownIn s cases names depth kind → o ≡ ownIn s cases names depth (meant node)
   of-kind kind is e = e ∙ sym (ap (ownIn s cases names depth) is)
 

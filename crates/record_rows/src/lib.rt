@@ -30,7 +30,7 @@ pub struct Own {
 }
 
 // The first record of function b: after the header, the function records, and the nodes of the
-// functions before it. It is exact: counts of 16 bits, fewer than 65,536 of them.
+// functions before it. The sum is exact, since it is of fewer than 65,536 counts of 16 bits each.
 fn first_record(flat: &[u8], b: u16) -> usize
     ensures { λ r. ⌜ r ≡ firstIn (now (flat .entry)) b ⌝ }
 {
@@ -44,7 +44,7 @@ fn first_record(flat: &[u8], b: u16) -> usize
     1 + functions + sum
 }
 
-// Entry n of a stack that has so many; 0 where there is none.
+// Entry n of a stack of `depth` entries; 0 where there is none.
 fn case_at(cases: &[u16], depth: usize, n: usize) -> u16
     ensures { λ r. ⌜ r ≡ getD (take depth (now (cases .entry))) n 0 ⌝ }
 {
@@ -57,7 +57,7 @@ fn case_at(cases: &[u16], depth: usize, n: usize) -> u16
     cases[n]
 }
 
-// What stands in place of tree name a.
+// The code that a row has instead of tree name a.
 fn code_of(cases: &[u16], depth: usize, a: u8) -> u16
     ensures { λ r. ⌜ r ≡ codeOf (take depth (now (cases .entry))) a % 65536 ⌝ }
 {
@@ -69,7 +69,7 @@ fn code_of(cases: &[u16], depth: usize, a: u8) -> u16
     ((1 + (2 * looked_at + j % 2)) % 65536) as u16
 }
 
-// These four words.
+// The first half of a row with these words.
 fn own_words(action: u16, operand: u16, tree: u16, more: u16) -> Own
     ensures { λ r. ⌜ r ≡ record { action = action; operand = operand; tree = tree; more = more } ⌝ }
 {
@@ -81,8 +81,8 @@ fn own_words(action: u16, operand: u16, tree: u16, more: u16) -> Own
     }
 }
 
-// The first half of the row of a record with so many numbers named, in so many node parts of Cases,
-// whose records are lent.
+// The first half of a record's row. At the record `names` numbers are named, and it stands in
+// `depth` node parts of Cases, whose records are in `cases`.
 pub fn own_of(flat: &[u8], cases: &[u16], node: Record, names: usize, depth: usize) -> Own
     ensures { λ r. ⌜ r ≡ ownIn (now (flat .entry)) (now (cases .entry)) names depth (meant node) ⌝ }
 {

@@ -30,7 +30,7 @@ pub count-many : (at n : ℕ) → countLimit ≤ at → at ≡ counted at n
 unfolding counted
 count-many at n many = sym (rw (counted, le-ltb _ _ many))
 
--- nothing more is counted
+-- no bytes more leave the count as it is
 counted-none : (at : ℕ) → counted at 0 ≡ at
 unfolding counted
 counted-none at = by (ltb at countLimit)

@@ -1,4 +1,4 @@
-// The bytes of a result, written by the source run as its records begin and are finished.
+// The bytes of a result. The source run writes them as its records begin and are finished.
 use frames::ACTION;
 use frames::LABELLED;
 use frames::ROLE;
@@ -20,7 +20,7 @@ const LEAF_BYTES: usize = 5;
 // 2^63: no buffer is so long, and from there on bytes are not counted.
 const COUNT_LIMIT: usize = 9223372036854775808;
 
-// So many bytes more are written. From 2^63 on they are not counted: no buffer is so long.
+// The count after n bytes more.
 fn count(at: usize, n: u8) -> usize
     ensures { λ r. ⌜ r ≡ counted at n ⌝ }
 {
@@ -30,7 +30,7 @@ fn count(at: usize, n: u8) -> usize
     at
 }
 
-// Writes a byte at an offset, if there is one.
+// Writes a byte at an offset, if the output reaches so far.
 fn put_byte(output: &mut [u8], at: usize, x: u8)
     ensures { λ _. ⌜ now (output .exit) ≡ written (now (output .entry)) at (x ∷ []) ⌝ }
 {
@@ -53,7 +53,7 @@ fn write_leaf(output: &mut [u8], at: usize, label: u32)
     }
 }
 
-// A node's tag is written when it begins, where it fits. Gives the bytes written.
+// A node's tag is written when it begins, where it fits. Gives the new count of bytes written.
 pub fn emit_first(table: &[u16], output: &mut [u8], s: Stage) -> usize
     ensures { λ r. ⌜ Says (emittedFirst (now (table .entry)) (s .node)) (now (output .entry))
         (now (output .exit)) (s .written) r ⌝ }
@@ -65,7 +65,8 @@ pub fn emit_first(table: &[u16], output: &mut [u8], s: Stage) -> usize
     count(s.written, 1)
 }
 
-// A leaf is written when its number is finished, where it fits. Gives the bytes written.
+// A leaf is written when its number is finished, where it fits. Gives the new count of bytes
+// written.
 pub fn emit_last(table: &[u16], output: &mut [u8], s: Stage) -> usize
     ensures { λ r. ⌜ Says (emittedLast (now (table .entry)) (s .node) (s .number))
         (now (output .entry)) (now (output .exit)) (s .written) r ⌝ }

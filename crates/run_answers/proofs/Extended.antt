@@ -1,5 +1,5 @@
--- The number sign-extended. A word of the upper half is as far below 2^32 - 1 as the extended word
--- is below 2^64 - 1: as far as the number is below -1.
+-- The sign-extended number. A word of the upper half is as far below 2^32 - 1 as its extension is
+-- below 2^64 - 1: as far as the number is below -1.
 use Prim.Native.Nat.{ℕ, suc, _+_, _-_, _^_, _≤_, _<_}
 use mathlib.Core.List.{[], _∷_, map}
 use mathlib.Core.Path.{_≡_, refl, ap}

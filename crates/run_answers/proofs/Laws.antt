@@ -1,4 +1,4 @@
--- What a stream run answers, a law for each way out of the functions that report it.
+-- The answer of a stream run: a law for each way out of the functions that report it.
 use Prim.Native.Nat.{ℕ}
 use mathlib.Core.List.{List, [], _∷_}
 use mathlib.Core.Path.{_≡_, refl}

@@ -1,4 +1,4 @@
--- What a stream run answers: a number, and the slots of a lent answer.
+-- What a stream run answers: a number, and the slots of a lent answer array.
 use Prim.Native.Nat.{ℕ, suc, _+_, _-_, _^_, _<_}
 use mathlib.Core.Bool.{true, false}
 use mathlib.Core.List.{List, [], _∷_}
@@ -21,14 +21,14 @@ signExtended w = elim (ltb w (2 ^ 31)) [ true ↦ w | false ↦ w + (2 ^ 64 - 2 
 unfoldable pub signed64 : ℕ → ℤ
 signed64 w = elim (ltb w (2 ^ 63)) [ true ↦ pos w | false ↦ negsuc (2 ^ 64 - suc w) ]
 
--- What sign-extended says. It holds of every 32-bit word (proofs/Extended: extends).
+-- That `signExtended` keeps the number. It holds of every 32-bit word (proofs/Extended: extends).
 pub record Extends (w : ℕ) : Type 0 where
   -- a 64-bit word
   pub fits : signExtended w < 2 ^ 64
   -- that stands for the same number
   pub same-number : signed64 (signExtended w) ≡ signed32 w
 
--- Place 0: the refusal's position, 0 where the run ended. Then units, bytes read, bytes written and
+-- Slot 0: the refusal's position, 0 where the run ended. Then units, bytes read, bytes written and
 -- the number, sign-extended to 64 bits.
 abbrev pub runSlotsOf : ℕ → Answer → List ℕ
 runSlotsOf position a = position ∷ a .units ∷ a .bytesRead ∷ a .bytesWritten ∷ signExtended (a .number) ∷ []

@@ -15,7 +15,7 @@ const RUN_SLOTS: usize = 5;
 // 2^64 - 2^32: the upper 32 bits of a 64-bit word.
 const UPPER_BITS: u64 = 18446744069414584320;
 
-// Whether all slots of the answer are lent.
+// Whether the answer array has all slots.
 pub fn has_room(answer: &[u64]) -> bool
     ensures { λ r. ⌜ r ≡ leb runSlots (length (now (answer .entry))) ⌝ }
 {
@@ -33,8 +33,8 @@ pub fn sign_extended(word: u32) -> u64
     }
 }
 
-// The row of a refusal's position, units, bytes read, bytes written and the number, sign-extended
-// to 64 bits.
+// Stores the position of a refusal, units, bytes read, bytes written and the number, sign-extended
+// to 64 bits, and gives `number`.
 fn store(ran: Answer, number: u32, position: usize, answer: &mut [u64]) -> u32
     ensures { λ r. ⌜ StoresRun (runAnswer ran) number position (now (answer .entry))
         (now (answer .exit)) r ⌝ }
@@ -49,7 +49,7 @@ fn store(ran: Answer, number: u32, position: usize, answer: &mut [u64]) -> u32
     answers::store_row(answer, &row, number)
 }
 
-// The answer of a stream run.
+// Stores the answer of a stream run, and gives 0 or the number of the refusal.
 pub fn report_run(ran: Answer, answer: &mut [u64]) -> u32
     ensures { λ r. ⌜ AnswersRun (runAnswer ran) (now (answer .entry)) (now (answer .exit)) r ⌝ }
 {

@@ -11,8 +11,9 @@ use Rattle.translation.specs.ThisCall.{ranWith, ProgramRun}
 use Rattle.run_answers.specs.RunAnswer.{runSlots}
 use Rattle.run_answers.specs.RunCall.{StreamCall}
 
--- The buffers: unprimed at entry, primed at exit; the answer's slots are `before` and `after`.
--- Where the answer has too few slots there is no run, and all buffers are untouched.
+-- A call of the runner. Its buffers are unprimed at entry, primed at exit; the answer array is
+-- `before` at entry and `after` at exit. Where it has too few slots there is no run, and all
+-- buffers are untouched.
 pub record ProgramCall (file input output output′ code code′ values values′ returns returns′ before after : List ℕ) (fuel r : ℕ) : Type 0 where
   -- the answer's slots, every byte of the output, and the work words
   pub run :
@@ -24,8 +25,8 @@ pub record ProgramCall (file input output output′ code code′ values values�
         | true ↦ code
         | false ↦ runFile file input output code fuel (length values) (length returns) .code
       ]
-  -- Demand 3, and what holds on any input, of what the slots say (`run .answers`) and the output at
-  -- exit.
+  -- demand 3, and what holds on any input, about what the slots say (`run .answers`) and the output
+  -- at exit
   pub program-run :
       runSlots ≤ length before
       → ProgramRun file input output code fuel (length values) (length returns)

@@ -4,11 +4,11 @@ ghost use Rattle.run_calls.specs.ProgramCall.{ProgramCall};
 
 // Checks, translates and runs the program of a file, as `runner::run` does. The refusal's number, 0
 // where the run ended; the refusal's position, units, bytes read, bytes written and the number,
-// sign-extended to 64 bits, go to the answer's first five slots. Every refusal of the file, of both
-// passes and 13 comes before code is written; then the code goes to the start of `code` and stays.
-// Refused with 1 to 13, a call leaves every buffer but `answer` untouched. What `values` and
-// `returns` hold after a run is free. With fewer than five slots in `answer`: 13, and all buffers
-// are untouched.
+// sign-extended to 64 bits, go to the answer's first five slots. Every refusal of the file and of
+// both passes, and every 13, comes before code is written; then the code goes to the start of
+// `code` and stays. Refused with 1 to 13, a call leaves every buffer but `answer` untouched. After
+// a run `values` and `returns` are unspecified. With fewer than five slots in `answer`: 13, and all
+// buffers are untouched.
 pub fn run(
     file: &[u8],
     input: &[u8],

@@ -1,5 +1,5 @@
--- A law for each way out of the runner. That a call gives what the definition gives is enough:
--- demand 3 about it follows (translation, Calls).
+-- A law for each way out of the runner. It is enough that a call gives what the definition gives:
+-- demand 3 about the call follows (`translation/proofs/Calls`).
 use Prim.Native.Nat.{ℕ, _+_, _≤_, _<_}
 use mathlib.Core.Bool.{_&&_, and-false}
 use mathlib.Core.List.{List}
@@ -129,7 +129,7 @@ module _ (file code : List ℕ) (values returns : ℕ) (emitted : Filled) (code�
 -- ---- `run`
 
 module _ (file input output code values returns : List ℕ) (fuel : ℕ) (file-bytes : Bytes file) (input-bytes : Bytes input) where
-  -- what the definition gives, with its answer and both buffers at exit, carries demand 3
+  -- a call that gives what the definition gives, answer and both buffers, carries demand 3
   runs-as : (output′ code′ values′ returns′ : List ℕ) (r : Answer) (due : ProgramRan)
       → runFile file input output code fuel (length values) (length returns) ≡ due
       → runAnswer r ≡ due .answer

@@ -1,2 +1,2 @@
--- Proofs about the runner.
+-- Laws for the functions of the runner.
 pub mod Laws

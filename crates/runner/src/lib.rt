@@ -12,12 +12,12 @@ ghost use Rattle.machine.specs.Inner.Answers.{runAnswer};
 ghost use Rattle.translation.specs.Calls.{prepared, refusedBefore};
 ghost use Rattle.runner.specs.Inner.RunnerCall.{RunnerCall, TooFewWords};
 
-// The work words of a run.
+// How many work words a run needs.
 const VALUE_WORDS: usize = 16384;
 
 const RETURN_WORDS: usize = 2048;
 
-// What a call is refused with where work words are missing: the file's own refusals come first.
+// The refusal of a call where work words are missing: the file's own refusals come first.
 fn too_few_words(file: &[u8]) -> Filled
     ensures { λ r. ⌜ TooFewWords (now (file .entry)) r ⌝ }
 {
@@ -28,8 +28,8 @@ fn too_few_words(file: &[u8]) -> Filled
     }
 }
 
-// All that comes before a run that is lent so many value words and return words: the rows of the
-// file, both passes, every 13, and then the program's code is written to the start of `code`. A
+// All that comes before a run that is lent so many value words and return words: the checks of the
+// file, both passes and every 13; then the program's code is written to the start of `code`. A
 // refusal leaves the buffer untouched.
 fn prepare(file: &[u8], code: &mut [u8], values: usize, returns: usize) -> Filled
     ensures { λ r. ⌜ FilledBuffer
@@ -58,9 +58,9 @@ fn refused(why: Refusal, position: usize) -> Answer
     }
 }
 
-// Runs the program of a file on an input: what comes before a run, and then the run of the code,
-// which stays in its buffer. Its contract carries demand 3, and what holds on any input, about this
-// very call.
+// Runs the program of a file on an input: what comes before a run, then the run of the code, which
+// stays in its buffer. The contract carries demand 3 about this very call, and what holds on any
+// input.
 pub fn run(
     file: &[u8],
     input: &[u8],

@@ -1,4 +1,4 @@
--- The whole call: a law for each way out of it.
+-- The whole call: a law for each way out.
 use Prim.Native.Nat.{ℕ, zero, suc, _+_, _*_, _≤_, _<_}
 use mathlib.Core.Bool.{true, false, false≢true}
 use mathlib.Core.List.{List}
@@ -64,11 +64,11 @@ report-same (begins o) (suc fuel) begun output = report-same o fuel (suc begun) 
 
 -- ---- `run_records`
 
--- the same table and the same first record
+-- a table and a first record replaced by equal ones
 as-always : (T U input : List ℕ) (first start : ℕ) (o : Outcome Reported) → T ≡ U → start ≡ first → Always U input start o → Always T input first o
 as-always T U input first start o e f a = rw (e, ← f) a
 
--- work words that nothing touched
+-- work words that are untouched
 untouched : (outcome : Result (Unit {0})) (values returns : List ℕ) → WorkWords beforeSource outcome values values returns returns
 untouched outcome values returns =
     record { values-length = refl; returns-length = refl; values-kept = λ number position e b. refl; returns-kept = λ number position e b. refl }
@@ -105,8 +105,8 @@ module _ (file input output values returns : List ℕ) (fuel : ℕ) where
   unfolding sourceRun
   ran c e = rw (sourceRun, e)
 
--- The program of flat records passes, its rows are in the table, and there are work words: the
--- steps come to its outcome on each tree.
+-- The program of the flat records passes, its rows are in the table, and there are enough work
+-- words: the steps come to the program's outcome on each tree.
 pub record Ready (s after input values returns : List ℕ) (first : ℕ) : Type 0 where
   pub program : Program
   pub reads : readProgram s ≡ done program
@@ -121,7 +121,7 @@ module _ (s table after input output values returns : List ℕ) (fuel : ℕ) (si
   unfolding programIn
   in-file file e = then-done readProgram e
 
-  -- the table is long enough, so a refusal is the program's
+  -- the table is long enough, so a refusal is the program's own
   data Refuses (number position : ℕ) : Type 0 where
     by-rows : readProgram s ≡ refusal number position → Refuses number position
     by-pass : (program : Program) → readProgram s ≡ done program → passOne program ≡ refusal number position → Refuses number position

@@ -44,7 +44,7 @@ pub ruleset stopping = (stop-fuel, stop-calls)
 
 -- ---- the refusals of an evaluation
 
--- one number is not among those that come before it
+-- a refusal of the evaluation is not among those that come before it
 late-stop : (why n number position : ℕ) → beforeSource why ≡ false → _≡_ {A = Reading (Unit {0})} (refusal why n) (refusal number position) → beforeSource number ≡ false
 late-stop why n number position late e = let same : why ≡ number = cc in rw (← same) late
 
@@ -64,7 +64,7 @@ stop-late : (stop : ℕ) → (stop ≡ fuelUsedUp) ⊎ (stop ≡ tooManyCalls) �
 stop-late stop (inl e) = rw e fuel-late
 stop-late stop (inr e) = rw e calls-late
 
--- ---- what an outcome is reported as
+-- ---- how an outcome is reported
 
 -- expressions begun are counted
 report-after : (n k : ℕ) (o : Outcome Reported) (output : List ℕ) → reportSteps k (afterBegun n o) output ≡ reportSteps (k + n) o output
@@ -96,7 +96,7 @@ module _ (output : List ℕ) where
   reported-stop n why at o e =
       ap (λ p. reportSteps 0 p output) e ∙ report-after n 0 (stops why at) output ∙ ap (λ i. refusedAfter i why 0 output) (zero-add n)
 
--- a value is reported once
+-- an outcome has one value
 same-value : {A : Type 0} (n m : ℕ) (a b : A) → afterBegun n (gives a) ≡ afterBegun m (gives b) → a ≡ b
 same-value {A} n m a b e = comes-value {form = λ x. x} {P = λ k x. x ≡ b} {S = λ why. Unit {0}} n a (given m b refl) (sym e)
 
@@ -159,7 +159,7 @@ module _ (T input : List ℕ) (first fuel : ℕ) (output values values₁ return
           }
 
       module _ (n : ℕ) (room : Room output n) (few : c .written ≤ n) where
-        -- so many bytes there are, and they fit
+        -- the count is exact, and the bytes fit
         exact : (o : Outcome Reported) (t : Result o) → c .written ≡ length (t .bytes)
         exact o t = t .counts .few (omega (arith, room .is, room .short))
 

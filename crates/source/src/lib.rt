@@ -1,5 +1,5 @@
-// 01, The source run: the source evaluation of a program on a tree, within limits: the checks in
-// order, then a walk that counts the result's bytes and one that writes them.
+// 01, The source run: the source evaluation of a program on a tree, within limits. First come the
+// checks in order, then a walk that counts the result's bytes, and one that writes them.
 use block_reader::MOST_BYTES;
 use refusal::Filled;
 use refusal::Refusal;
@@ -14,15 +14,15 @@ ghost use Rattle.refusal.specs.Inner.Numbers.{number};
 ghost use Rattle.meaning.specs.SourceRun.{sourceRun};
 ghost use Rattle.source.specs.Inner.SourceAnswers.{sourceAnswer, Named, Room, Evaluates, OfFile, Sourced};
 
-// How a walk stops: ended, or with the fuel used up, or else with a call too many.
+// How a walk stops: it ended, the fuel is used up, or a call is one too many.
 const NOT_REFUSED: u32 = 0;
 
 const FUEL_USED_UP: u32 = 14;
 
-// Words of a program's table: a row for each of 1,057 records.
+// How many words a program's table has: a row for each of 1,057 records.
 const TABLE_WORDS: usize = 8456;
 
-// The work words of a run.
+// How many work words a run needs.
 const VALUE_WORDS: usize = 16384;
 
 const RETURN_WORDS: usize = 2048;
@@ -48,7 +48,7 @@ fn refused(why: Refusal, position: usize, begun: u64) -> SourceAnswer
     }
 }
 
-// Why a walk stops that has not ended.
+// The refusal of a walk that has not ended.
 fn why_stopped(stop: u32) -> Refusal
     ensures { λ r. ⌜ Named stop r ⌝ }
 {
@@ -58,16 +58,16 @@ fn why_stopped(stop: u32) -> Refusal
     Refusal::TooManyCalls
 }
 
-// How many bytes the output has room for: fewer than 2^63, so that the count, which goes no
-// further, can be held against them.
+// How many bytes the output has room for: fewer than 2^63, where counting stops, so the count can
+// be compared with them.
 fn room_of(output: &[u8]) -> usize
     ensures { λ r. ⌜ Room (now (output .entry)) r ⌝ }
 {
     output.len()
 }
 
-// Evaluates the program of these rows: one walk counts the result's bytes, into a buffer of its
-// own, and where they fit a second one, the same, writes them. So a refusal leaves the output
+// Evaluates the program of these rows. One walk counts the result's bytes, with a buffer of its
+// own; where they fit, a second walk, the same again, writes them. So a refusal leaves the output
 // untouched.
 fn count_then_write(
     table: &[u16],
@@ -101,8 +101,8 @@ fn count_then_write(
     }
 }
 
-// Evaluates the program of these rows. What the walk that counts writes is of no matter, so it is
-// lent one byte.
+// Evaluates the program of these rows. What the first walk writes does not matter, so it is lent a
+// buffer of one byte.
 fn evaluate(
     table: &[u16],
     input: &[u8],
@@ -129,7 +129,7 @@ fn evaluate(
     )
 }
 
-// The first node's record.
+// The record of the first node.
 fn first_node(flat: &[u8]) -> u16
     ensures { λ r. ⌜ r ≡ headerIn (now (flat .entry)) .functions + 1 ⌝ }
 {
@@ -170,9 +170,9 @@ fn run_records(
     }
 }
 
-// The source run of a program file: the rows of the file, pass one, 13 where work words are
-// missing, the tree reader; then the evaluation, where 14 and 18 arise; last 17, where the output
-// is shorter than the result. A refusal leaves the output untouched.
+// The source run of a program file. In this order: the checks of the file, pass one, 13 where work
+// words are missing, the tree reader; then the evaluation, where 14 and 18 arise; last 17, where
+// the output is shorter than the result. A refusal leaves the output untouched.
 pub fn run(
     file: &[u8],
     input: &[u8],

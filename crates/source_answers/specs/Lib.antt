@@ -1,4 +1,4 @@
--- What a source run answers from C or Rust.
+-- What a source run called from C or Rust answers.
 pub mod SourceSlots
 pub mod SourceCall
 pub mod Inner

@@ -12,15 +12,15 @@ ghost use Rattle.source_answers.specs.Inner.Stores.{StoresSource, Answer
 // How many slots an answer takes.
 const SOURCE_SLOTS: usize = 4;
 
-// Whether all slots of the answer are lent.
+// Whether the answer array has all slots.
 pub fn has_room(answer: &[u64]) -> bool
     ensures { λ r. ⌜ r ≡ leb sourceSlots (length (now (answer .entry))) ⌝ }
 {
     SOURCE_SLOTS <= answer.len()
 }
 
-// The row of a refusal's position, expressions begun, bytes written and the number, sign-extended
-// to 64 bits.
+// Stores the position of a refusal, expressions begun, bytes written and the number, sign-extended
+// to 64 bits, and gives `number`.
 fn store(ran: SourceAnswer, number: u32, position: usize, answer: &mut [u64]) -> u32
     ensures { λ r. ⌜ StoresSource (sourceAnswer ran) number position (now (answer .entry))
         (now (answer .exit)) r ⌝ }
@@ -34,7 +34,7 @@ fn store(ran: SourceAnswer, number: u32, position: usize, answer: &mut [u64]) ->
     answers::store_row(answer, &row, number)
 }
 
-// The answer of a source run.
+// Stores the answer of a source run, and gives 0 or the number of the refusal.
 pub fn report_source(ran: SourceAnswer, answer: &mut [u64]) -> u32
     ensures { λ r. ⌜ AnswersSource (sourceAnswer ran) (now (answer .entry)) (now (answer .exit))
         r ⌝ }

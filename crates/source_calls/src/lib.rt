@@ -5,12 +5,12 @@ ghost use Rattle.meaning.specs.SourceRun.{sourceRun};
 ghost use Rattle.source_answers.specs.SourceCall.{SourceCall};
 
 // The source run of a program file: its meaning on the tree that begins `input`, for programs that
-// pass pass one, in or out of order. The refusal's number, 0 where the run ended; the refusal's
-// position, expressions begun, bytes written and the number, sign-extended to 64 bits, go to the
-// answer's first four slots. A refusal leaves `output` untouched. Fewer than 16,384 `values` or
-// 2,048 `returns`: 13. Refused with 1 to 13, 15, 16 or 20, a call leaves them untouched; what they
-// hold after a run is free. With fewer than four slots in `answer`: 13, and all buffers are
-// untouched.
+// pass one accepts, whether or not they take trees in order. The refusal's number, 0 where the run
+// ended; the refusal's position, expressions begun, bytes written and the number, sign-extended to
+// 64 bits, go to the answer's first four slots. A refusal leaves `output` untouched. With fewer
+// than 16,384 words in `values` or 2,048 in `returns`: 13. Refused with 1 to 13, 15, 16 or 20, a
+// call leaves both untouched; after a run they are unspecified. With fewer than four slots in
+// `answer`: 13, and all buffers are untouched.
 pub fn source(
     file: &[u8],
     input: &[u8],

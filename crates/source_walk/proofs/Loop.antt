@@ -53,7 +53,7 @@ same-run : {o o′ v v′ l l′ : List ℕ} {s s′ : Stage} → o ≡ o′ →
 same-run {o′ = o′} {v = v} {v′ = v′} {l = l} {s = s} a b c d =
     ap (λ o. run o v l s) a ∙ ap (λ v. run o′ v l s) b ∙ ap₂ (λ l s. run o′ v′ l s) c d
 
--- a length is kept by a write
+-- a write keeps the length
 long-written : (s s′ : List ℕ) (p : ℕ) (vs : List ℕ) → s′ ≡ written s p vs → length s′ ≡ length s
 long-written s s′ p vs e = ap length e ∙ wrote s p vs .same-length
 
@@ -96,11 +96,11 @@ module _ (T input : List ℕ) where
   unfolding climbing
   climb-sticks n p e stays = simp (climbing, eq-eqb _ _ e, le-ltb _ _ stays)
 
-  -- what is finished has some weight
+  -- a stage whose record is finished has a weight above 0
   some-weight : (s : Stage) → s .mode ≡ isFinished → 0 < weightOf s
   some-weight s e = omega (arith, weight-finished s e)
 
-  -- and nothing else has
+  -- and no other stage has
   weighs : (s : Stage) → 0 < weightOf s → s .mode ≡ isFinished
   weighs s h = by (eqb (s .mode) isFinished) refl
     where
@@ -148,7 +148,7 @@ module _ (T input : List ℕ) where
       let next : weightOf (p .stage) ≡ suc (weightOf (p .stage) - 1) = omega arith in
       ap (λ n. climbing T input n p) next ∙ climb-sticks (weightOf (p .stage) - 1) p e stays
 
--- What is left of a climb gives the whole.
+-- What is left of a climb gives the same as the whole climb.
 pub record Climbing (T input returns output₀ output values₀ values : List ℕ) (start s : Stage) : Type 0 where
   pub is : climbed T input (run output values returns s) ≡ climbed T input (run output₀ values₀ returns start)
   pub long-output : length output ≡ length output₀
@@ -288,7 +288,7 @@ module _ (T input : List ℕ) where
   unfolding walking
   walks-none begun p = refl
 
--- What is left of a walk gives the whole.
+-- What is left of a walk gives the same as the whole walk.
 pub record Walking (T input : List ℕ) (first fuel : ℕ) (output₀ values₀ returns₀ output values returns : List ℕ) (s : Stage) (begun : ℕ) : Type 0 where
   pub is : walked T input first fuel output₀ values₀ returns₀ ≡ walking T input (fuel - begun) begun (run output values returns s)
   pub few : begun ≤ fuel
@@ -313,7 +313,7 @@ module _ (T input : List ℕ) (first fuel : ℕ) (output₀ values₀ returns₀
         short = short;
       }
 
-  -- the answer and the buffers, where the whole is this
+  -- the answer and the buffers, where the whole walk comes to these
   walks-to : (output values returns : List ℕ) (s : Stage) (r : Walked) → length values ≡ length values₀ → length returns ≡ length returns₀ → length output₀ < countLimit
       → walked T input first fuel output₀ values₀ returns₀ ≡ ending r (run output values returns s)
       → Walks T input first fuel output₀ output values₀ values returns₀ returns r

@@ -1,5 +1,5 @@
-// The walk of the source run: expressions begin one after the other, over the rows of a program,
-// with the state in the lent words; no native recursion over expressions or calls.
+// The walk of the source run: a loop over the rows of a program, in which expressions begin one
+// after the other. Its state is in the lent words, so no function recurs over expressions or calls.
 use stages::BEGIN;
 use stages::ENDED;
 use stages::FINISHED;
@@ -9,7 +9,7 @@ use stages::Stage;
 ghost use mathlib.Core.Path.{_≡_};
 ghost use Rattle.source_walk.specs.Inner.Loop.{weightOf, finished, BeginsOne, Climbs, OpensOne, Turns, Walks};
 
-// While records are finished this falls.
+// This falls at each step from one finished record to the next.
 fn weight_of(s: Stage) -> usize
     ensures { λ r. ⌜ r ≡ weightOf s ⌝ }
 {
@@ -19,7 +19,8 @@ fn weight_of(s: Stage) -> usize
     0
 }
 
-// Goes on while records are finished.
+// Steps while records are finished. With a program's rows the weight falls at each step; where it
+// did not, the walk would be stuck.
 fn climb(
     table: &[u16],
     input: &[u8],
@@ -56,7 +57,7 @@ fn begin_one(table: &[u16], input: &[u8], output: &mut [u8], values: &mut [u32],
     next
 }
 
-// A call opens, if one is to be opened.
+// A call opens, if one is to open.
 fn open_one(table: &[u16], input: &[u8], values: &mut [u32], returns: &mut [u64], s: Stage) -> Stage
     ensures { λ r. ⌜ OpensOne (now (table .entry)) (now (input .entry)) (now (values .entry))
         (now (values .exit)) (now (returns .entry)) (now (returns .exit)) s r ⌝ }
@@ -67,7 +68,7 @@ fn open_one(table: &[u16], input: &[u8], values: &mut [u32], returns: &mut [u64]
     s
 }
 
-// One expression begins, and all goes on up to the next one that does.
+// One expression begins, and the walk goes on until the next one is to begin.
 fn turn(
     table: &[u16],
     input: &[u8],
@@ -85,8 +86,8 @@ fn turn(
     open_one(table, input, values, returns, settled)
 }
 
-// How a walk stops: 0 where it ended, else a refusal's number; the expressions begun, the bytes
-// written, the number.
+// What a walk answers: 0 where it ended, else the number of a refusal; the expressions begun, the
+// bytes written, the number.
 pub struct Walked {
     pub stop: u32,
     pub begun: u64,
@@ -100,8 +101,8 @@ const FUEL_USED_UP: u32 = 14;
 
 const TOO_MANY_CALLS: u32 = 18;
 
-// What a walk that stops at this stage reports. A program's rows lead to no stage that is stuck, so
-// what has not ended is a call too many.
+// What a walk that stops at this stage answers. A program's rows lead to no stuck stage, so a walk
+// that has not ended has come to a call too many.
 fn finish(s: Stage, begun: u64) -> Walked
     ensures { λ r. ⌜ r ≡ finished s begun ⌝ }
 {
@@ -122,8 +123,8 @@ fn finish(s: Stage, begun: u64) -> Walked
 }
 
 // Evaluates the program of these rows on the tree that begins the input, from the record `first`
-// on. The fuel is looked at before each expression. The result is written to the start of `output`
-// as far as it fits.
+// on. The fuel is tested before each expression begins. The result is written to the start of
+// `output` as far as it fits.
 pub fn walk(
     table: &[u16],
     input: &[u8],

@@ -1,5 +1,4 @@
--- What a stage stands for: a law for each thing that may be done next, and what a step that reaches
--- a turn leaves.
+-- What a stage stands for: a law for each mode; and what a step that reaches a turn leaves.
 use Prim.Native.Nat.{ℕ}
 use mathlib.Core.List.{List}
 use mathlib.Core.Logic.{_≢_}
@@ -39,7 +38,7 @@ module _ (values returns : List ℕ) (s : Stage) where
   unfolding turnOf
   turn-none a b c d e = rw (turnOf, ne-eqb _ _ a, ne-eqb _ _ b, ne-eqb _ _ c, ne-eqb _ _ d, ne-eqb _ _ e)
 
--- the bytes written are no matter of what is to be done next
+-- what is to be done next does not depend on the bytes written
 pub turn-written : (values returns : List ℕ) (s : Stage) (at : ℕ) → turnOf values returns (withWritten s at) ≡ turnOf values returns s
 unfolding turnOf
 turn-written values returns s at = refl

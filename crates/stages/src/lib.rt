@@ -1,9 +1,9 @@
-// How far a source run is: the stage of its loop.
+// How far a source run has come: the stage of its loop.
 ghost use mathlib.Core.Path.{_≡_};
 ghost use Rattle.stages.specs.Inner.Stages.{staged};
 
-// What is to be done next: a record begins, a record is finished, a call opens; the run has ended,
-// a call too many would open, or the rows lead nowhere.
+// The modes of a stage: a record is to begin, a record is finished, a call is to open; the run has
+// ended, the call would be one too many, or the rows lead nowhere.
 pub const BEGIN: u32 = 0;
 
 pub const FINISHED: u32 = 1;
@@ -16,9 +16,9 @@ pub const DEEP: u32 = 4;
 
 pub const STUCK: u32 = 5;
 
-// What is to be done next, by its number (`specs/Stages`); the record that it is done to, and the
-// record's number where it is finished; how many calls wait, and the position of the frame's tree;
-// a tree that was passed, by its position and its end (0 as long as there is none); and the bytes
+// What is to be done next (`mode`, `specs/Inner/Stages`), and with which record; the number found
+// where the record is finished; how many calls wait, and the offset of the frame's tree; a tree
+// that was passed, by its offset and its end (0 as long as there is none); how many bytes are
 // written.
 pub struct Stage {
     pub mode: u32,

@@ -30,8 +30,8 @@ use Rattle.stepwise.proofs.Whole.{comes}
 
 -- ---- rows
 
--- Grow: action, operand, tree, the rest; role, parent, slot, the record after. Case at record 2,
--- Leaf at 3, Add at 4, Node at 7.
+-- The rows of Grow, one a line: action, operand, tree, more; role, parent, slot, the record after.
+-- The Case is record 2, Leaf 3, Add 4, Node 7.
 grow-rows : rowsIn grow
     ≡ 4 ∷ 0 ∷ 0 ∷ 0 ∷ 0 ∷ 0 ∷ 0 ∷ 10
     ∷ 2 ∷ 0 ∷ 0 ∷ 0 ∷ 4 ∷ 2 ∷ 0 ∷ 7
@@ -45,8 +45,8 @@ grow-rows : rowsIn grow
 unfolding grow rowsOfAll rowsOf actionOf codeOf roleOf slotOf namesIn keepsIn casesIn operandOf treeOf moreOf firstRecord arityOf nth total signatureOf size prefix
 grow-rows = refl
 
--- A Call of two arguments after a number kept, the first one's word below that; a Let over two
--- parameters, an IfZero in its body.
+-- A Call of two arguments, with one number kept: the first argument's word is below that of the
+-- kept number. A Let over two parameters, with an IfZero in its body.
 pair : Program
 pair = programOf
     (numbered (add (const 70000) (call 0 1 (arg (const 3) (arg (const 4) noArgs))))
@@ -70,8 +70,8 @@ pair-rows : rowsIn pair
 unfolding pair programOf numbered rowsOfAll rowsOf rowsOfArgs afterArgs actionOf codeOf roleOf slotOf namesIn keepsIn casesIn operandOf treeOf moreOf firstRecord arityOf nth total signatureOf size prefix prefixes
 pair-rows = refl
 
--- the names of trees inside two Cases, at records 2 and 5: the frame's tree, the first Case's left
--- and right tree, then the second's
+-- the codes of the trees named inside two Cases, at records 2 and 5: the frame's tree, the left and
+-- the right tree of the first Case, then those of the second
 codes : map (codeOf (2 ∷ 5 ∷ [])) (0 ∷ 1 ∷ 2 ∷ 3 ∷ 4 ∷ []) ≡ 0 ∷ 5 ∷ 6 ∷ 11 ∷ 12 ∷ []
 unfolding codeOf
 codes = refl
@@ -85,7 +85,7 @@ five-seven = 2 ∷ 1 ∷ 5 ∷ 0 ∷ 0 ∷ 0 ∷ 1 ∷ 7 ∷ 0 ∷ 0 ∷ 0 ∷ [
 six-eight : List ℕ
 six-eight = 2 ∷ 1 ∷ 6 ∷ 0 ∷ 0 ∷ 0 ∷ 1 ∷ 8 ∷ 0 ∷ 0 ∷ 0 ∷ []
 
--- where each one is a byte
+-- a list of numbers below 256 is a list of bytes
 each-byte : (s : List ℕ) → Every (λ x. x < 256) s → Bytes s
 each-byte [] h i = lit< tt
 each-byte (x ∷ s) h zero = h .0
@@ -101,12 +101,12 @@ grow-one : PassesOne grow
 unfolding bothPasses
 grow-one = record { lawful = grow-lawful; passes = then-inv (passOne grow) _ tt grow-passes .first }
 
--- its evaluation begins 14 expressions and reports the second
+-- its evaluation begins 14 expressions, and the result is the second tree
 grow-reported : followedBy (evaluation grow mostCalls two-leaves) reportedOf ≡ afterBegun 14 (gives (reported 0 six-eight))
 unfolding evaluation called evaluate evaluateArgs followedBy afterBegun resultNumber resultTree resultBytes numberOr treeOr atLevel sum32 nth firstRecord total signatureOf size prefix prefixes grow two-leaves tokens bytesOf six-eight
 grow-reported = refl
 
--- so do the steps, over words and return words that hold anything
+-- the steps come to the same, whatever the words and return words hold
 grow-steps : (table words returns : List ℕ)
     → rowWords * mostRecords ≤ length table
     → valueWords ≤ length words

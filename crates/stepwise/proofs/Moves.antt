@@ -1,5 +1,5 @@
--- Steps one by one, from what comes after to what comes before: a law for each thing that may be
--- the outcome of a record.
+-- Single steps, taken backwards: each law says what a turn comes to, given what the next turn comes
+-- to.
 use Prim.Native.Nat.{ℕ, suc, _+_, _*_, _≤_, _<_}
 use mathlib.Core.List.{List, [], _∷_, _++_, append-nil}
 use mathlib.Core.Logic.{_≢_}
@@ -21,7 +21,7 @@ use Rattle.stepwise.proofs.Steps.{begins-const, begins-var, begins-leaf
 use Rattle.stepwise.proofs.Steps.{rises-whole, rises-kept, rises-added, rises-zero, rises-other, rises-passed}
 use Rattle.stepwise.proofs.Steps.{rises-labelled, rises-followed, rises-last, closes-first, said-leaf, said-none, opens-deep, opens-frame}
 
--- what follows what follows
+-- `followedBy` is associative
 pub next-next : {A B C : Type 0} (o : Outcome A) (f : A → Outcome B) (g : B → Outcome C) → followedBy (followedBy o f) g ≡ followedBy o (λ x. followedBy (f x) g)
 unfolding followedBy
 next-next (gives x) f g = refl
@@ -36,7 +36,7 @@ module _ (T input : List ℕ) {out : List ℕ} {o : Outcome Reported} where
   -- ---- a record begins
 
   module _ (p r : ℕ) (s : State) (low : r < recordLimit) (found : Found T input s (treeAt T r) p) where
-    -- nothing is written, but by a Node
+    -- a record that is no Node writes nothing when it begins
     begin-quiet : (t : Turn) → actionAt T r ≢ tagsNode → beginning T input p r s ≡ t → Comes T input out t o → Comes T input out (begin r s) (begins o)
     begin-quiet t kind is c = at-begin {out = out} {r = r} {s = s} {o = o} p low found (rw (said-nothing T r kind, append-nil, is) c)
 
@@ -104,7 +104,7 @@ module _ (T input : List ℕ) {out : List ℕ} {o : Outcome Reported} where
         (λ e. absurd (omega arith)) (λ e. absurd (omega arith))
         (λ e. absurd (omega arith)) (λ e. absurd (omega arith))) c
 
-    -- so does a Node's, with the tag written
+    -- so does the first part of a Node, with the tag written
     pub begin-pair : actionAt T r ≡ tagsNode → Comes T input (out ++ (nodeTag ∷ [])) (begin (suc r) s) o → Comes T input out (begin r s) (begins o)
     begin-pair kind c =
         at-begin {out = out} {r = r} {s = s} {o = o} (s .tree) low (own T input r s none)
@@ -118,7 +118,7 @@ module _ (T input : List ℕ) {out : List ℕ} {o : Outcome Reported} where
   -- ---- a record is finished
 
   module _ (r x : ℕ) (s : State) where
-    -- nothing is written, but by a Leaf
+    -- a part that is no label writes nothing when it is finished
     finished-quiet : (t : Turn) → roleAt T r ≢ labelled → rising T input r x s ≡ t → weight t < weight (finished r x s) → Comes T input out t o
         → Comes T input out (finished r x s) o
     finished-quiet t role is less c =
@@ -155,7 +155,7 @@ module _ (T input : List ℕ) {out : List ℕ} {o : Outcome Reported} where
     finished-other middle after role some then last c =
         finished-quiet _ (λ e. absurd (omega arith)) (rises-other T input r x s role some) (omega arith) (rw (then, last) c)
 
-    -- the value is the whole's
+    -- the part's value is its record's value
     pub finished-passed : (parent : ℕ) → roleAt T r ≡ passed → parentAt T r ≡ parent → parent < r → Comes T input out (finished parent x s) o
         → Comes T input out (finished r x s) o
     unfolding weight

@@ -25,7 +25,7 @@ use Rattle.stepwise.specs.Inner.Steps.{actionAt, operandAt, treeAt, more
 pub record Shows (T : List ℕ) (p : ℕ) (vs : List ℕ) : Type 0 where
   pub there : (i : ℕ) → i < length vs → getD T (p + i) 0 ≡ getD vs i 0
 
--- the offset goes by its number
+-- the offset replaced by an equal one
 shows-offset : {T vs : List ℕ} {p q : ℕ} → p ≡ q → Shows T p vs → Shows T q vs
 shows-offset {T} {vs} e h = subst (λ (k : ℕ). Shows T k vs) e h
 
@@ -117,7 +117,7 @@ long-own same more = record { long = omega (arith, same, more .long) }
 long-none : Long [] 0
 long-none = record { long = refl }
 
--- the number of records goes by an equation
+-- the number of records replaced by an equal one
 long-as : {vs : List ℕ} {n m : ℕ} → n ≡ m → Long vs n → Long vs m
 long-as {vs} e h = subst (Long vs) e h
 
@@ -146,7 +146,7 @@ module _ (entry arity : ℕ → ℕ) where
   rows-long-all r [] = long-none
   rows-long-all r (f ∷ fs) = long-joined (rows-long _ _ (f .body)) (rows-long-all _ fs)
 
-  -- the same as equations
+  -- the same, as equations
   pub length-rows : (p : Location) (r : ℕ) (e : Expr) → length (rowsOf entry arity p r e) ≡ rowWords * size e
   length-rows p r e = rows-long p r e .long
 
@@ -169,7 +169,7 @@ module _ (entry arity : ℕ → ℕ) where
     rest : List ℕ
     both : rowsOf entry arity p r e ≡ rowOf entry arity p (r + size e) (headOf e) ++ rest
 
-  -- what it says, reported by the record after
+  -- the same, with the record after the expression given as `after`
   own-front : (p : Location) (r : ℕ) (e : Expr) (after : ℕ) (rest : List ℕ) → after ≡ r + size e
       → rowsOf entry arity p r e ≡ rowOf entry arity p after (headOf e) ++ rest → Fronted p r e
   own-front p r e after rest same both =

@@ -1,9 +1,9 @@
 -- The steps over an expression's rows come to what its evaluation comes to.
 --
--- From a state whose frame holds the named numbers, each on its word, and whose named trees are
--- found in the input, the record of an expression begins; if what follows comes to an outcome from
--- every value, so does the whole. Kind by kind, with one lemma for each; the calls in an expression
--- are assumed to do so.
+-- A record of an expression begins, in a state whose frame holds the named numbers, each on its
+-- word, and whose named trees are found in the input. If the steps come to an outcome from every
+-- value of the expression, they come to it from the record's beginning too. There is one lemma for
+-- each kind; the calls in an expression are assumed to behave so.
 use Prim.Native.Nat.{ℕ, zero, suc, _+_, _-_, _*_, _≤_, _<_}
 use mathlib.Core.Bool.{Bool, true, false}
 use mathlib.Core.List.{List, [], _∷_, _++_, append-nil}
@@ -102,7 +102,7 @@ module _ (program : Program) (T input : List ℕ) (k : ℕ) where
   word-there : (s : State) (slot : ℕ) → Roomy s → slot < frameWords → frameWords * s .calls + slot < length (s .words)
   word-there s slot room h = omega (arith, room .values, room .allowed)
 
-  -- room stays
+  -- there is still room after a part is taken
   roomy-left : {names keeps : ℕ} {s s′ : State} → Leaves input names keeps s s′ → Roomy s → Roomy s′
   roomy-left left room = record {
     values = omega (arith, left .as-many-words, room .values);
@@ -111,7 +111,7 @@ module _ (program : Program) (T input : List ℕ) (k : ℕ) where
   }
 
   module _ {g n : ℕ} {cases : List ℕ} {r : ℕ} {E : Environment} {s : State} (h : Agrees g n cases r E s) where
-    -- what leaves the named numbers' words leaves the agreement
+    -- a state that keeps the words of the named numbers still agrees
     agrees-left : {keeps : ℕ} {s′ : State} (r′ : ℕ) → r ≤ r′ → Leaves input g keeps s s′ → Agrees g n cases r′ E s′
     agrees-left {keeps} {s′} r′ later left = record {
       numbers = h .numbers;
@@ -122,7 +122,7 @@ module _ (program : Program) (T input : List ℕ) (k : ℕ) where
       roomy = roomy-left left (h .roomy);
     }
 
-    -- a number named by the next word
+    -- one number more is named, on the next word
     agrees-number : (x r′ : ℕ) → r ≤ r′ → g < frameWords → Agrees (suc g) n cases r′ (withNumber x E) (withWord s g x)
     agrees-number x r′ later few =
         let less = agrees-left r′ later (leaves-word g 0 s g x (le-refl g) (omega arith)) in
@@ -135,7 +135,7 @@ module _ (program : Program) (T input : List ℕ) (k : ℕ) where
           roomy = less .roomy;
         }
 
-    -- the two trees of a node named
+    -- the two trees of a node are named
     agrees-trees :
         (a : ℕ) (left right : Tree) (r′ : ℕ)
         → suc r ≤ r′
@@ -153,14 +153,15 @@ module _ (program : Program) (T input : List ℕ) (k : ℕ) where
 
   -- ---- what is to be shown
 
-  -- From every value of this sort, after what is left of the state, it comes to an outcome.
+  -- From every value of this sort, and from every state that keeps the words which must stay, the
+  -- steps come to the outcome that κ gives.
   pub record Follows (sort : Sort) (names keeps r : ℕ) (s : State) (out : List ℕ) (κ : Value → Outcome Reported) : Type 0 where
     pub from :
         (v : ValuesOf sort) (s′ : State)
         → Leaves input names keeps s s′
         → Comes T input (out ++ resultBytes (valueOf sort v)) (finished r (resultNumber (valueOf sort v)) s′) (κ (valueOf sort v))
 
-  -- Of an expression of a sort under so many names.
+  -- What is shown of an expression of this sort, where g numbers and n trees are named.
   abbrev pub Sim : (g n : ℕ) (sort : Sort) (e : Expr) → Type 0
   Sim g n sort e =
       (p : Location) (r w : ℕ) (E : Environment) (s : State)
@@ -174,17 +175,17 @@ module _ (program : Program) (T input : List ℕ) (k : ℕ) where
       → Follows sort g (p .keeps) r s out κ
       → Comes T input out (begin r s) (followedBy (evaluate (called program k) E r e) κ)
 
-  -- The word of a Call's argument, where so many numbers are kept before the first.
+  -- The word of argument c of a Call, where `keeps` numbers are kept before the first.
   abbrev pub onWord : State → ℕ → ℕ → ℕ
   onWord s keeps c = wordAt s (lastWord - (keeps + c))
 
-  -- Before arguments, the first of them at record j: it begins, or there is none and the Call at
-  -- record r opens.
+  -- The turn before arguments, the first of them at record j: it begins, or there is none and the
+  -- Call at record r opens.
   unfoldable pub turnOf : Args → ℕ → ℕ → State → Turn
   turnOf noArgs r j s = opens r s
   turnOf (arg x xs) r j s = begin j s
 
-  -- From so many numbers, each on its word.
+  -- The same, from `count` numbers, each on its word.
   pub record FollowsArgs (count names keeps r : ℕ) (s : State) (out : List ℕ) (κ : List ℕ → Outcome Reported) : Type 0 where
     pub from :
         (numbers : List ℕ) (s′ : State)
@@ -193,7 +194,7 @@ module _ (program : Program) (T input : List ℕ) (k : ℕ) where
         → Leaves input names keeps s s′
         → Comes T input out (opens r s′) (κ numbers)
 
-  -- Of so many arguments, from part i of the Call at record r on.
+  -- What is shown of `count` arguments, from part i of the Call at record r on.
   abbrev pub SimArgs : (g n count : ℕ) (xs : Args) → Type 0
   SimArgs g n count xs =
       (p : Location) (a b r i j w : ℕ) (E : Environment) (s : State) (before : List ℕ)
@@ -211,7 +212,7 @@ module _ (program : Program) (T input : List ℕ) (k : ℕ) where
       → Comes T input out (turnOf xs r j s) (followedBy (evaluateArgs (called program k) E j xs before) κ)
 
   -- A call of f is ready to open: its row names f's first record, its numbers are on their words,
-  -- its tree and its frame's own tree lie at their places, and what is known of an end is right.
+  -- its tree and its frame's own tree lie at their offsets, and what is known of an end is right.
   pub record Ready (r b : ℕ) (f : Function) (numbers : List ℕ) (t : Tree) (s : State) : Type 0 where
     pub low : r < recordLimit
     pub offset : ℕ
@@ -227,7 +228,7 @@ module _ (program : Program) (T input : List ℕ) (k : ℕ) where
     pub given : Holding (λ c. wordAt s (slotAt T (suc r) - c)) numbers
     pub roomy : Roomy s
 
-  -- Of calls.
+  -- What is shown of calls.
   abbrev pub SimCalls : Type 0
   SimCalls =
       (r b : ℕ) (f : Function) (numbers : List ℕ) (t : Tree) (names keeps : ℕ) (s : State)
@@ -255,7 +256,7 @@ module _ (program : Program) (T input : List ℕ) (k : ℕ) where
   unfolding resultBytes resultNumber
   number-given follow i s′ left = rw append-nil at (follow .from i s′ left)
 
-  -- a part whose value is the whole's: what follows it is what follows the whole
+  -- after a part whose value is its record's, the same follows as after the record
   follows-passed :
       (sort : Sort) {names keeps r : ℕ} {s : State} {out : List ℕ} {κ : Value → Outcome Reported} (q names′ keeps′ : ℕ) (s′ : State)
       → roleAt T q ≡ passed
@@ -272,7 +273,7 @@ module _ (program : Program) (T input : List ℕ) (k : ℕ) where
         (follow .from v s″ (leaves-both names keeps s s′ s″ left (leaves-less names keeps names′ keeps′ s′ s″ fewer less left′)));
   }
 
-  -- what follows a value, an expression begun, and what follows
+  -- `followedBy` after a value, after an expression begun, and after another `followedBy`
   module _ {A : Type 0} {out : List ℕ} {t : Turn} (κ : A → Outcome Reported) where
     comes-value : (v : A) → Comes T input out t (κ v) → Comes T input out t (followedBy (gives v) κ)
     unfolding followedBy
@@ -631,8 +632,8 @@ module _ (program : Program) (T input : List ℕ) (k : ℕ) where
       none-there : (c i : ℕ) → atLevel [] c ≡ some i → onWord s (p .keeps) c ≡ i
       none-there c i e = let below = level-below [] c e in absurd (omega arith)
 
-  -- every expression that pass one takes comes to what its evaluation comes to, if the calls in it
-  -- do
+  -- every expression that pass one accepts comes to what its evaluation comes to, if the calls in
+  -- it do
   pub sim : SimCalls → {g n : ℕ} {sort : Sort} {e : Expr} → Proper (program .functions) g n sort e → Sim g n sort e
   sim calls d = elim d as (λ g n sort e d. Sim g n sort e) (λ g n count xs d. SimArgs g n count xs) [
     | proper-const {i = i} small ↦ sim-const i

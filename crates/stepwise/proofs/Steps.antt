@@ -1,4 +1,5 @@
--- Laws of the steps, one for each thing that may be the outcome of a record.
+-- Laws of the steps: one for each thing that may happen when a record begins, when it is finished,
+-- and when a call opens.
 use Prim.Native.Nat.{ℕ, suc, _+_, _*_, _%_, _≤_, _<_}
 use mathlib.Core.List.{List, [], _∷_}
 use mathlib.Core.Logic.{_≢_}
@@ -16,7 +17,7 @@ use Rattle.stepwise.specs.Inner.Steps.{State, begin, finished, opens, en
 use Rattle.stepwise.specs.Inner.Steps.{wordAt, withWord, withEnd, framed, mostWaiting, looking, beginning, emittedFirst, knownAfter, closing, following, rising}
 use Rattle.stepwise.specs.Inner.Steps.{emittedLast, opening}
 
--- a number that is this one is no other
+-- a number that is m is not n
 pub off : (k m n : ℕ) → k ≡ m → eqb m n ≡ false → eqb k n ≡ false
 off k m n e h = ap (λ i. eqb i n) e ∙ h
 
@@ -119,7 +120,7 @@ module _ (T input : List ℕ) (r x : ℕ) (s : State) where
   unfolding rising
   rises-other k o = simp (rising, off _ 3 0 k refl, off _ 3 1 k refl, off _ 3 2 k refl, eq-eqb _ _ k, ne-eqb _ _ o)
 
-  -- what a part is that is none of these
+  -- a part with any other role
   pub rises-on : roleAt T r ≢ whole → roleAt T r ≢ kept → roleAt T r ≢ added → roleAt T r ≢ tested → rising T input r x s ≡ following T r x s
   unfolding rising
   rises-on a b c d = simp (rising, ne-eqb _ _ a, ne-eqb _ _ b, ne-eqb _ _ c, ne-eqb _ _ d)

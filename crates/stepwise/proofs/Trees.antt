@@ -107,7 +107,7 @@ lies-first input t bytes e =
 
 -- ---- a tree whose end is known
 
--- a tree lies from place p up to `end`
+-- a tree lies from offset p up to `end`
 pub record Spans (input : List ℕ) (p end : ℕ) : Type 0 where
   pub spanning : Tree
   pub lies : Lies input p spanning

@@ -1,9 +1,10 @@
 -- The steps come to the evaluation's outcome: calls do, by recursion on the calls that may still be
 -- opened, and so does the whole.
 --
--- Where none may be opened, a call stops the evaluation, and the step is the call that is one too
--- many. Else the function's body begins in the next frame, with the arguments on its first words;
--- after it the return words bring back the Call's record and the caller's tree.
+-- Where no call may be opened, the evaluation stops at the call, and the step finds that the call
+-- is one too many. Else the function's body begins in the next frame, with the arguments on its
+-- first words; when it is finished, the return words give back the Call's record and the caller's
+-- tree.
 use Prim.Native.Nat.{ℕ, zero, suc, _+_, _-_, _*_, _≤_}
 use mathlib.Core.List.{List, [], _∷_}
 use mathlib.Core.Option.{some, Option·some-injective, Option·none-ne-some}
@@ -123,7 +124,7 @@ module _ (program : Program) (T input : List ℕ) (all : Standing program T) whe
         };
       }
 
-  -- a body in any frame
+  -- a function's body, in any frame
   sim-body :
       (k b : ℕ) (f : Function) (numbers : List ℕ) (t : Tree) (s : State)
       → SimCalls program T input k

@@ -1,5 +1,5 @@
--- Laws of a frame's words and of return words: what taking a part leaves as it was, a word set, a
--- call's arguments put on the next frame's words.
+-- Laws of a frame's words and of return words: what stays when a part is taken, when a word is set,
+-- and when a call's arguments are copied to the next frame.
 use Prim.Native.Nat.{ℕ, zero, suc, _+_, _-_, _*_, _%_, _≤_, _<_}
 use mathlib.Core.Bool.{Bool, true, false}
 use mathlib.Core.List.{List}
@@ -18,8 +18,9 @@ use Rattle.stepwise.proofs.Trees.{Lies, Cached, cached-after}
 
 -- ---- what taking a part leaves
 
--- Of the frame's words the first `names` and the last `keeps`, all words below the frame, and the
--- return words of the calls that wait; and what is known of an end stays right.
+-- What stays: of the frame's words the first `names` and the last `keeps`, all words below the
+-- frame, and the return words of the calls that wait. What is known of the end of a tree stays
+-- right.
 pub record Leaves (input : List ℕ) (names keeps : ℕ) (s s′ : State) : Type 0 where
   pub calls : s′ .calls ≡ s .calls
   pub tree : s′ .tree ≡ s .tree
@@ -34,7 +35,7 @@ pub record Leaves (input : List ℕ) (names keeps : ℕ) (s s′ : State) : Type
   pub waiting : (i : ℕ) → i < 2 * s .calls → getD (s′ .returns) i 0 ≡ getD (s .returns) i 0
   pub cached : Cached input (s .known) (s .end) → Cached input (s′ .known) (s′ .end)
 
--- another end known
+-- the end of another tree becomes known
 pub leaves-end : {input : List ℕ} (names keeps : ℕ) (s : State) (known end : ℕ) → (Cached input (s .known) (s .end) → Cached input known end)
     → Leaves input names keeps s (withEnd s known end)
 leaves-end names keeps s known end right = record {
@@ -52,7 +53,7 @@ leaves-end names keeps s known end right = record {
 pub leaves-all : {input : List ℕ} (names keeps : ℕ) (s : State) → Leaves input names keeps s s
 leaves-all names keeps s = leaves-end names keeps s (s .known) (s .end) (λ h. h)
 
--- one after the other
+-- two changes, one after the other
 pub leaves-both : {input : List ℕ} (names keeps : ℕ) (s s′ s″ : State) → Leaves input names keeps s s′ → Leaves input names keeps s′ s″
     → Leaves input names keeps s s″
 leaves-both names keeps s s′ s″ a b = record {
@@ -66,7 +67,7 @@ leaves-both names keeps s s′ s″ a b = record {
   cached = λ h. b .cached (a .cached h);
 }
 
--- with more names and more kept, more is left
+-- what stays with more names and more numbers kept also stays with fewer
 pub leaves-less :
     {input : List ℕ} (names keeps names′ keeps′ : ℕ) (s s′ : State) → names ≤ names′ → keeps ≤ keeps′ → Leaves input names′ keeps′ s s′
     → Leaves input names keeps s s′
@@ -81,7 +82,7 @@ leaves-less names keeps names′ keeps′ s s′ fewer less a = record {
   cached = a .cached;
 }
 
--- a word set in between
+-- a word set between the named and the kept numbers
 pub leaves-word : {input : List ℕ} (names keeps : ℕ) (s : State) (slot x : ℕ) → names ≤ slot → slot + keeps < frameWords
     → Leaves input names keeps s (withWord s slot x)
 leaves-word names keeps s slot x high low = record {
@@ -120,7 +121,7 @@ module _ (words : List ℕ) (base slot : ℕ) where
   copied-length zero = refl
   copied-length (suc n) = length-set (copied words base slot n) _ _ ∙ copied-length n
 
-  -- the words below are left
+  -- the words below stay
   pub copied-below : (n i : ℕ) → i < base + frameWords → getD (copied words base slot n) i 0 ≡ getD words i 0
   unfolding copied
   copied-below zero i h = refl
@@ -158,7 +159,7 @@ module _ (words : List ℕ) (base slot : ℕ) where
 
 -- ---- a call opens and closes
 
--- The frame of the Call at record r again, with the words that the call leaves.
+-- Back in the frame of the Call at record r, with the words that the call left.
 abbrev pub backIn : List ℕ → List ℕ → ℕ → State → State → State
 backIn T input r s s′ =
     record {
@@ -170,7 +171,7 @@ backIn T input r s s′ =
       end = s′ .end;
     }
 
--- what a call leaves of the frame opened by it brings back its record and its caller's frame
+-- after a call closes, its return words still hold its record and its caller's tree
 module _ (T input : List ℕ) (p r : ℕ) (s s′ : State) (names keeps : ℕ) (left : Leaves input names keeps (framed T p r s) s′) where
   pub closes-back : (x : ℕ) → r < 65536 → suc (2 * s .calls) < length (s .returns) → closing T input x s′ ≡ finished r x (backIn T input r s s′)
   closes-back x low room =
@@ -185,7 +186,7 @@ module _ (T input : List ℕ) (p r : ℕ) (s s′ : State) (names keeps : ℕ) (
       let small : r % 65536 ≡ r = omega arith in
       closes-waiting T input x (s .calls) s′ (left .calls) ∙ rw (the-record, the-tree, small) refl
 
-  -- and leaves all of it
+  -- and all that must stay in the caller's frame has stayed
   pub leaves-call : (names′ keeps′ : ℕ) (own : Tree) → names′ ≤ frameWords → Found T input s (treeAt T r) p → Lies input (s .tree) own
       → Leaves input names′ keeps′ s (backIn T input r s s′)
   leaves-call names′ keeps′ own few found lies = record {

@@ -1,5 +1,5 @@
--- What the functions of this crate promise each other and their callers in Rattle. Nobody need
--- believe it.
+-- The rows of a program and the steps over them: tools for the proof of the source run. Nobody need
+-- believe them.
 pub mod Outcomes
 pub mod Rows
 pub mod Steps

@@ -5,8 +5,8 @@ ghost use Rattle.translation.specs.Calls.{translateFile};
 ghost use Rattle.answers.specs.Fills.{Fills};
 
 // The code of a program file, 8 bytes an instruction, written to the start of `code`. The refusal's
-// number, 0 where it is written; the refusal's place and the bytes written go to the answer's first
-// two slots. With fewer slots: 13, and both buffers are untouched.
+// number, 0 where it is written; the refusal's position and the bytes written go to the answer's
+// first two slots. With fewer slots: 13, and both buffers are untouched.
 pub fn translate(file: &[u8], code: &mut [u8], answer: &mut [u64]) -> u32
     ensures { λ r. ⌜ Fills (translateFile (length (now (code .entry))) (now (file .entry)))
         (now (code .entry)) (now (code .exit)) (now (answer .entry)) (now (answer .exit)) r ⌝ }

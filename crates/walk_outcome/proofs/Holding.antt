@@ -1,4 +1,4 @@
--- What holds of a run of the loop, up to the outcome that its turn comes to: each step keeps it.
+-- What holds of a run of the loop until the outcome is reached. Each step keeps it.
 use Prim.Native.Nat.{ℕ, zero, suc, _+_, _*_, _≤_, _<_}
 use mathlib.Core.Bool.{Bool, true, false}
 use mathlib.Core.List.{List, _++_}
@@ -25,7 +25,7 @@ use Rattle.result_bytes.specs.Inner.Bytes.{countLimit, counted}
 use Rattle.walk_outcome.specs.Inner.Outcomes.{Counts}
 use Rattle.source_walk.specs.Inner.Loop.{Run, run, stepped, weightOf, beginStep, riseStep, openStep, climbing, climbed, turned}
 
--- With `out` written, into a buffer that held output₀ before, as far as it fits, the run's turn
+-- `out` is written, as far as it fits, into a buffer that held output₀ before, and the run's turn
 -- comes to the outcome o.
 pub record Holding (T input output₀ : List ℕ) (p : Run) (o : Outcome Reported) : Type 0 where
   pub out : List ℕ
@@ -74,7 +74,7 @@ module _ (T input : List ℕ) where
 
 -- ---- what is written
 
--- so many more are counted
+-- the count after more bytes
 counts-more : (at : ℕ) (out bytes : List ℕ) → Counts at out → Counts (counted at (length bytes)) (out ++ bytes)
 unfolding counted
 counts-more at out bytes c =
@@ -90,7 +90,7 @@ counts-more at out bytes c =
           rw same (record { few = λ h. omega arith; many = λ h. omega arith })
     ]
 
--- and written after the others, where all fit
+-- these bytes are written after the others, where all fit
 wrote-more :
     (output₀ output output′ : List ℕ) (at : ℕ) (out bytes : List ℕ)
     → Counts at out
@@ -250,14 +250,14 @@ module _ (T input output₀ : List ℕ) where
       let q = beginStep T input p in
       record { rest = b .rest; begun = b .begun; holds = open-holds (climbed T input q) (b .rest) (climb-holds (weightOf (q .stage)) q (b .rest) (b .holds)) }
 
--- ---- what a turn leaves to be done
+-- ---- what is to be done after a turn
 
 -- What is to be done next in a run.
 abbrev modeOf : Run → ℕ
 modeOf p = p .stage .mode
 
 module _ (T input : List ℕ) where
-  -- what is finished has some weight
+  -- a stage whose record is finished has a weight above 0
   some-weight : (s : Stage) → s .mode ≡ isFinished → 0 < weightOf s
   unfolding weightOf
   some-weight s e = rw (weightOf, eq-eqb _ _ e) (omega arith)

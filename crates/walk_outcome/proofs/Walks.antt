@@ -1,5 +1,4 @@
--- The whole walk: what it answers, and what it leaves in the output, is what the outcome is
--- reported as.
+-- The whole walk: its answer, and what it leaves in the output, report the outcome.
 use Prim.Native.Nat.{ℕ, zero, suc, _+_, _≤_}
 use mathlib.Core.Bool.{Bool, true, false}
 use mathlib.Core.List.{List, []}
@@ -56,7 +55,8 @@ module _ (T input : List ℕ) where
   comes-begins : {out : List ℕ} {r : ℕ} {st : State} {o : Outcome Reported} → Comes T input out (begin r st) o → IsBegun o
   comes-begins (at-begin {o = o} p few found c) = record { rest = o; is = refl }
 
-  -- a settled turn that is no beginning has ended, or is a call too many
+  -- a turn after which no record is to begin or is finished: the run has ended, or a call is one
+  -- too many
   data Settled (values returns out : List ℕ) (s : Stage) (o : Outcome Reported) : Type 0 where
     settled-end : s .mode ≡ hasEnded → o ≡ gives (reported (s .number) out) → Settled values returns out s o
     settled-deep : s .mode ≢ hasEnded → o ≡ stops tooManyCalls (s .node) → Settled values returns out s o
@@ -80,7 +80,7 @@ module _ (T input : List ℕ) where
 
 -- ---- the walk
 
--- What the outcome is reported as, where so many expressions have begun before.
+-- The walk reports the outcome, where `begun` expressions have begun before.
 data From (begun : ℕ) (o : Outcome Reported) (output₀ : List ℕ) (e : Ending) : Type 0 where
   from-value :
       (k : ℕ) (out : List ℕ)

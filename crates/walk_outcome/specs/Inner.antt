@@ -1,3 +1,3 @@
--- What the functions of this crate promise each other and their callers in Rattle. Nobody need
--- believe it.
+-- How a walk reports the outcome of an evaluation: a tool for the proof of the source run. Nobody
+-- need believe it.
 pub mod Outcomes

@@ -1,2 +1,2 @@
--- What an evaluation's outcome is reported as.
+-- How a walk reports the outcome of an evaluation.
 pub mod Inner

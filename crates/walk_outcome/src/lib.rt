@@ -1,1 +1,1 @@
-// No code: theorems that tie the walk of the source run to the evaluation.
+// No code: theorems that the walk of the source run gives the outcome of the evaluation.

@@ -1,4 +1,4 @@
--- `answers::store` meets its contract: what `store_row` says of this row.
+-- `answers::store` meets its contract: `store_row` does, for this row.
 use borrow.Author.Needs.{needs}
 use Rattle.answers.proofs.store.Statement.{statement}
 use Rattle.answers.proofs.store.Tie as tie

@@ -1,5 +1,5 @@
--- `answers::store_row` meets its contract: too few slots, or a loop. Before each turn as many
--- numbers as were passed are in their slots; what is left of them falls.
+-- `answers::store_row` meets its contract: there are too few slots, or a loop stores the row.
+-- Before each turn as many numbers as it has passed are in their slots; the numbers left fall.
 use Prim.Native.Nat.{_-_}
 use borrow.Author.Needs.{needs}
 use lib.ListN.{length}

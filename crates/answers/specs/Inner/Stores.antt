@@ -8,7 +8,7 @@ use lib.ListN.{length}
 use Rattle.formats.specs.Refusals.{spaceTooShort}
 use Rattle.formats.specs.Written.{written}
 
--- A number given and a row stored: 13 where there are too few slots, which are then untouched.
+-- A row is stored and a number given: 13 where there are too few slots, which are then untouched.
 pub record Stored (row : List ℕ) (number : ℕ) (before after : List ℕ) (r : ℕ) : Type 0 where
   pub given : r ≡ elim (ltb (length before) (length row)) [ true ↦ spaceTooShort | false ↦ number ]
   pub slots : after ≡ written before 0 row

@@ -1,6 +1,6 @@
--- The proof of the cycle of calls {decode_at, decode_parts}. The measure is the records left,
--- doubled, so that at the same record the parts are above the first of them. Each way out is a law
--- of proofs/Walk.
+-- The proof of the cycle of calls {decode_at, decode_parts}. The measure is twice the number of
+-- records left, and one more for the parts, since these call `decode_at` at the same record. Each
+-- way out is a law of proofs/Walk.
 use Prim.Native.Nat.{ℕ, _+_, _-_, _*_, _<_}
 use borrow.Author.Needs.{needs}
 use borrow.Fn.Kinds.{In}
@@ -40,7 +40,7 @@ decode-parts-at t = and 3 decode-parts-kinds.ps (is 3 decode-parts-kinds.ps μ-d
 abbrev decode-parts-below : ℕ → In 3 decode-parts-kinds.ps
 decode-parts-below t = and 3 decode-parts-kinds.ps (falls 3 decode-parts-kinds.ps _<_ μ-decode-parts t) decode-parts.Pre
 
--- ---- where the last needs look back to: places on the way of each function, by name
+-- ---- the points in each function that the last needs look back to, by name
 
 module _ (t : ℕ) where
   abbrev expression-claims : decode-at-lts.Claims

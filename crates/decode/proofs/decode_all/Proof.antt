@@ -1,5 +1,5 @@
--- `decode::decode_all` meets its contract: the rows of the functions below j are written. What is
--- left of the functions falls.
+-- `decode::decode_all` meets its contract: before each turn the rows of the functions below j are
+-- written. The measure is the functions left.
 use Prim.Native.Nat.{_-_}
 use native.Mathlib.Omega.{arith}
 use borrow.Author.Needs.{needs}

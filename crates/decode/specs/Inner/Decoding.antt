@@ -13,12 +13,13 @@ use Rattle.refusal.specs.declared.Verdict.{Verdict}
 use Rattle.rules.specs.PassOne.{passOne}
 use Rattle.stepwise.specs.Inner.Rows.{rowWords, tabled}
 
--- The words of a table: a row for each of the most records, 8,456 in all.
+-- How many words a table has: a row for each of the most records, 8,456 words in all.
 abbrev pub tableWords : ℕ
 tableWords = rowWords * mostRecords
 
--- The table with the rows of a program that passes pass one; or the first refusal of the rows
--- header to prefix form and pass one, and last 13 where the table is too short.
+-- The table with the rows of a program that passes pass one. Else the first refusal: of the checks
+-- of the records, header to prefix form, then of pass one, and last 13 where the table is too
+-- short.
 unfoldable pub decoded : List ℕ → List ℕ → Result (List ℕ)
 decoded s table =
     andThen
@@ -32,7 +33,7 @@ unfoldable pub orElse : {A : Type 0} → Result A → A → A
 orElse (done x) before = x
 orElse (refusal number location) before = before
 
--- What is said, and every word of the table.
+-- The verdict, and every word of the table.
 pub record Decodes (s table after : List ℕ) (r : Verdict) : Type 0 where
   pub said-so : verdictResult r ≡ verdict (decoded s table)
   pub after-is : after ≡ orElse (decoded s table) table

@@ -1,5 +1,5 @@
--- What the functions answer that fill a table, over flat records s. `table` and `cases` hold at
--- entry the words of the table and of the stack of Cases, `table′` and `cases′` those at exit.
+-- What the functions promise that fill a table, over flat records s. `table` and `cases` are the
+-- words of the table and of the stack of Cases at entry, `table′` and `cases′` at exit.
 use Prim.Native.Nat.{ℕ, suc, _+_, _-_, _*_, _%_, _≤_, _<_}
 use mathlib.Core.List.{List, [], _∷_, _++_}
 use mathlib.Core.Path.{_≡_}
@@ -24,9 +24,9 @@ use Rattle.record_rows.specs.declared.Own.{Own}
 use Rattle.record_rows.specs.Inner.Halves.{firstIn}
 use Rattle.decode.specs.Inner.Decoding.{tableWords}
 
--- ---- places
+-- ---- locations
 
--- On entering a part, by what it is: numbers named, where so many are named at the record.
+-- How many numbers are named in a part, by what the part is. At its record `names` are named.
 unfoldable pub namesUnder : Part → ℕ → ℕ
 namesUnder aNumber names = names
 namesUnder aTree names = names
@@ -34,7 +34,7 @@ namesUnder asWhole names = names
 namesUnder underNumber names = suc names
 namesUnder underTrees names = names
 
--- .. and in how many node parts of Cases it stands.
+-- In how many node parts of Cases a part stands. Its record stands in `depth` of them.
 unfoldable pub deeper : Part → ℕ → ℕ
 deeper aNumber depth = depth
 deeper aTree depth = depth
@@ -42,7 +42,7 @@ deeper asWhole depth = depth
 deeper underNumber depth = depth
 deeper underTrees depth = suc depth
 
--- Where part i of the record r stands, which has so many parts, where counts are small:
+-- Where part i of the record r stands, which has `count` parts, if counts are small:
 -- `part_locations/specs/Inner/Locations: partIn` without its caps.
 unfoldable pub insideLocation : Part → Kind → (r i count : ℕ) → Location → Location
 insideLocation part kind r i count p =
@@ -55,7 +55,7 @@ insideLocation part kind r i count p =
       depth = deeper part (p .depth);
     }
 
--- Counts that can grow on entering part i.
+-- The counts can grow on entering part i, and none is cut.
 pub record Grows (i : ℕ) (p : Location) : Type 0 where
   pub names : p .names < mostCount
   pub keeps : p .keeps + i < mostCount
@@ -63,33 +63,33 @@ pub record Grows (i : ℕ) (p : Location) : Type 0 where
 
 -- ---- a row's first half
 
--- Of the functions that there are, `entry` has the first records and `arity` the numbers of
+-- For each function of the program, `entry` gives its first record and `arity` the number of its
 -- parameters.
 pub record Agrees (s : List ℕ) (entry arity : ℕ → ℕ) : Type 0 where
   pub entries : (b : ℕ) → b < headerIn s .functions → entry b ≡ firstIn s b
   pub arities : (b : ℕ) → b < headerIn s .functions → arity b ≡ arityIn s b
   pub low : (b : ℕ) → b < headerIn s .functions → entry b ≤ mostRecords
 
--- So many entries of a stack are records, and there is room for so many more.
+-- The first `depth` entries of a stack are records, and there is room for `more` of them.
 pub record Stacked (cases : List ℕ) (depth more : ℕ) : Type 0 where
   pub room : depth + more ≤ length cases
   pub low : (n : ℕ) → n < depth → getD cases n 0 ≤ mostRecords
 
--- The first half of a row.
+-- The first half of a row is the right one.
 pub record Reported (entry arity : ℕ → ℕ) (p : LocationThere) (kind : Kind) (o : Own) : Type 0 where
   pub action : o .action ≡ actionOf kind
   pub operand : o .operand ≡ operandOf entry arity p kind
   pub tree : o .tree ≡ treeOf entry arity p kind
   pub more : o .more ≡ moreOf entry arity kind
 
--- A row's words.
+-- The words of a row, made from its two halves.
 abbrev pub rowIn : Own → Location → ℕ → List ℕ
 rowIn o p after =
     o .action ∷ o .operand ∷ o .tree ∷ o .more ∷ (p .role % 65536) ∷ (p .parent % 65536) ∷ (p .slot % 65536) ∷ (after % 65536) ∷ []
 
 -- ---- an expression
 
--- Counts stay small up to the end.
+-- Counts stay small up to record `end`, even if each record adds one.
 pub record Small (k end : ℕ) (p : Location) : Type 0 where
   pub inside : Inside k end
   pub role : p .role ≤ lastArgument
@@ -99,8 +99,8 @@ pub record Small (k end : ℕ) (p : Location) : Type 0 where
   pub keeps : p .keeps + (end - k) ≤ mostCount
   pub depth : p .depth + (end - k) ≤ mostCount
 
--- Expression e of a program stands at record k and ends by the end, the table has rows up to the
--- end, and the stack has room.
+-- Expression e of a program stands at record k and ends by record `end`, the table has rows up to
+-- `end`, and the stack has room.
 pub record Entering (s table cases : List ℕ) (entry arity : ℕ → ℕ) (k end : ℕ) (p : Location) (e : Expr) : Type 0 where
   pub here : Here s end k e
   pub agrees : Agrees s entry arity
@@ -112,7 +112,7 @@ pub record Same (cases cases′ : List ℕ) (depth : ℕ) : Type 0 where
   pub long : length cases′ ≡ length cases
   pub below-depth : take depth cases′ ≡ take depth cases
 
--- The expression's rows, at the places of its records.
+-- The rows of the expression's records are in the table; nothing else in it has changed.
 pub record Filled (table table′ cases cases′ : List ℕ) (entry arity : ℕ → ℕ) (k : ℕ) (p : Location) (e : Expr) (next : ℕ) : Type 0 where
   pub after : next ≡ k + size e
   pub rows : table′ ≡ written table (rowWords * k) (rowsOf entry arity (locationWith p cases) k e)
@@ -130,7 +130,7 @@ rowsOfParts entry arity p kind r i [] = []
 rowsOfParts entry arity p kind r i (q ∷ qs) =
     rowsOf entry arity (partLocation entry arity p kind r i) (q .at-record) (q .expr) ++ rowsOfParts entry arity p kind r (suc i) qs
 
--- On entering part i of the record r at record k.
+-- Counts stay small from part i of the record r on, which stands at record k.
 pub record SmallParts (r i k end : ℕ) (p : Location) : Type 0 where
   pub inside : Inside k end
   pub parent : r ≤ mostRecords
@@ -138,7 +138,7 @@ pub record SmallParts (r i k end : ℕ) (p : Location) : Type 0 where
   pub keeps : p .keeps + i + 1 + (end - k) ≤ mostCount
   pub depth : p .depth + 1 + (end - k) ≤ mostCount
 
--- A record of this kind has so many parts.
+-- A record of this kind has `count` parts.
 pub record Counted (arity : ℕ → ℕ) (kind : Kind) (count : ℕ) : Type 0 where
   pub is : partCount arity (partsOf kind) ≡ count
 

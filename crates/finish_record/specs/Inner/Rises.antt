@@ -1,4 +1,4 @@
--- The next stage after a record that is finished, whatever the table, the input and the words hold.
+-- The next stage after a record is finished, whatever the table, the input and the words hold.
 use Prim.Native.Nat.{ℕ}
 use mathlib.Core.List.{List}
 use mathlib.Core.Logic.{_≢_}
@@ -7,24 +7,25 @@ use Rattle.stepwise.specs.Inner.Steps.{afterAt, knownAfter, closing, following,
 use Rattle.stages.specs.declared.Stage.{Stage}
 use Rattle.stages.specs.Inner.Stages.{stateOf, Reaches}
 
--- The step of a stage whose record is finished.
+-- The step from a stage whose record is finished.
 pub record Rises (T input values values′ returns : List ℕ) (s r : Stage) : Type 0 where
   pub is : Reaches (rising T input (s .node) (s .number) (stateOf values returns s)) values values′ returns returns s r
 
--- ---- the functions that it is made of
+-- ---- the functions that `rise` is made of
 
--- The place of the tree whose end is known when a call closes.
+-- The offset of the tree whose end is known after a call closes.
 pub record Knows (T input : List ℕ) (r own : ℕ) (s : Stage) (k : ℕ) : Type 0 where
   pub is : (values returns : List ℕ) → k ≡ knownAfter T input r own (stateOf values returns s)
 
--- The call that waits goes on.
+-- A call closes, and the one that waits goes on.
 pub record Closes (T input returns : List ℕ) (s r : Stage) : Type 0 where
   pub is : (values : List ℕ) → Reaches (closing T input (s .number) (stateOf values returns s)) values values returns returns s r
 
--- The part that IfZero takes.
+-- The record of the part that IfZero takes.
 pub record Picks (T : List ℕ) (s : Stage) (r : ℕ) : Type 0 where
   pub zero-part : s .number ≡ 0 → r ≡ afterAt T (s .node)
   pub other-part : s .number ≢ 0 → r ≡ afterAt T (afterAt T (s .node))
 
+-- The step after a part with one of the roles that `following` has.
 pub record Follows (T values values′ : List ℕ) (s r : Stage) : Type 0 where
   pub is : (returns : List ℕ) → Reaches (following T (s .node) (s .number) (stateOf values returns s)) values values′ returns returns s r

@@ -1,4 +1,4 @@
--- The proof of the cycle of calls {put_number}. The measure is the number, which falls to its
+-- The proof of the recursive function put_number. The measure is the number, which falls to a
 -- tenth. Each way out is a law of proofs/Fields.antt.
 use Prim.Native.Nat.{ℕ, _<_}
 use native.Mathlib.Omega.{arith}

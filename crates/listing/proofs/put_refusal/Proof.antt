@@ -1,5 +1,5 @@
--- `listing::put_refusal` meets its contract: the word, the number and the offset are put one after
--- the other.
+-- `listing::put_refusal` meets its contract: the word, the number and the position are put one
+-- after the other.
 use borrow.Author.Needs.{needs}
 use Rattle.formats.specs.Characters.{ascii}
 use Rattle.translation.specs.ListingText.{refusedWord}

@@ -8,6 +8,6 @@ use Rattle.listing.specs.declared.Line.{Line}
 abbrev pub mostCode : ℕ
 mostCode = instructionBytes * mostInstructions
 
--- The definition's line with these numbers.
+-- The line of the definition that has these numbers.
 abbrev pub shown : Line → LineOfListing
 shown l = aLine (l .address) (l .opcode) (l .byte1) (l .operand) (l .number)

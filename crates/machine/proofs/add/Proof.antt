@@ -1,5 +1,5 @@
--- `machine::add` meets its contract. Where the frame hasn't two words it is refused; else their sum
--- is set in the position of the lower one, and is the top.
+-- `machine::add` meets its contract. Where the frame has fewer than two words it is refused; else
+-- their sum replaces the lower one and is the new top.
 use borrow.Author.Needs.{needs}
 use Rattle.machine.proofs.StackLaws.{adds}
 use Rattle.machine.proofs.add.Statement.{statement}

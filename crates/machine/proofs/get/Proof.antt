@@ -1,5 +1,5 @@
--- `machine::get` meets its contract. A word that the frame doesn't hold is refused; one that it
--- holds is pushed, and `push` says the outcome of that.
+-- `machine::get` meets its contract. A word that the frame does not hold is refused; one that it
+-- holds is pushed, and the contract of `push` says the rest.
 use borrow.Author.Needs.{needs}
 use Rattle.machine.proofs.StackLaws.{gets}
 use Rattle.machine.proofs.get.Statement.{statement}

@@ -1,5 +1,5 @@
 -- `machine::number_of` meets its contract: its four bytes are there, and stand for the number at
--- their place.
+-- their offset.
 use borrow.Author.Needs.{needs}
 use Rattle.machine.proofs.Fields.{number-is}
 use Rattle.machine.proofs.number_of.Statement.{statement}

@@ -1,5 +1,5 @@
 -- `machine::operand_of` meets its contract: its two bytes are there, and stand for the number at
--- their place.
+-- their offset.
 use borrow.Author.Needs.{needs}
 use Rattle.machine.proofs.Fields.{operand-is}
 use Rattle.machine.proofs.operand_of.Statement.{statement}

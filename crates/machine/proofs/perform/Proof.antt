@@ -1,4 +1,5 @@
--- `machine::perform` meets its contract: value words or return words are missing, or the run does.
+-- `machine::perform` meets its contract: value words or return words are missing, or `run` meets
+-- it.
 use borrow.Author.Needs.{needs}
 use Rattle.machine.proofs.RunLaws.{too-short}
 use Rattle.machine.proofs.perform.Statement.{statement}

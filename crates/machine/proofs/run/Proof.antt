@@ -1,6 +1,6 @@
--- `machine::run` meets its contract. In front of each turn as many steps as units lead from the
--- start to the machine's state; the fuel left falls. So the turn that stops is the whole run's
--- last, and where none does, the fuel is used up.
+-- `machine::run` meets its contract. Before each turn as many steps as units lead from the start to
+-- the machine's state; the fuel left falls. So the turn that stops is the whole run's last, and
+-- where none does, the fuel is used up.
 use borrow.Author.Needs.{needs}
 use Prim.Native.Nat.{_-_}
 use Rattle.machine.proofs.RunLaws.{Running, running, turned-asks}
@@ -14,7 +14,7 @@ Inv-loop fuel output₀ values₀ returns₀ code input limit s₀ units₀ outp
 abbrev μ-loop : tie.MeasureT-loop
 μ-loop fuel output₀ values₀ returns₀ code input limit s₀ units₀ output values returns s units = fuel - units
 
--- from the turn, the loop's test and the fuel's width
+-- what `report` requires, from the turn, the loop's test and the width of the fuel
 report-requires : tie.Need-report-requires Inv-loop μ-loop
 report-requires c κs =
     let turned = c .before .before .before .before .before .before .before .before .before in

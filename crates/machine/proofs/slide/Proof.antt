@@ -1,5 +1,5 @@
--- `machine::slide` meets its contract. Where the frame hasn't two words it is refused; else the top
--- word is set in the position of the one under it, and is the top.
+-- `machine::slide` meets its contract. Where the frame has fewer than two words it is refused; else
+-- the top word replaces the one under it and is the new top.
 use borrow.Author.Needs.{needs}
 use Rattle.machine.proofs.StackLaws.{slides}
 use Rattle.machine.proofs.slide.Statement.{statement}

@@ -23,8 +23,8 @@ runAnswer a =
 unfoldable pub refusalNumber : ℕ → ℕ
 refusalNumber stop = elim (leb inputEnded stop && leb stop tooManyCalls) [ true ↦ stop | false ↦ cannotPerform ]
 
--- The answer of a run that stops with these numbers, so many units before: the return of the first
--- frame is one more.
+-- The answer that is due where the machine stops after `units` instructions. The return that ends a
+-- run counts as one more; an instruction that is refused does not.
 unfoldable pub dueAt : List ℕ → ℕ → Machine → Due
 dueAt values units s =
     elim (eqb (s .stop) hasEnded) [
@@ -34,11 +34,12 @@ dueAt values units s =
           record { outcome = refusal (refusalNumber (s .stop)) (s .read); units = units; bytesRead = s .read; bytesWritten = s .written; number = 0 }
     ]
 
+-- An answer is the one that is due.
 pub record Reports (values : List ℕ) (units : ℕ) (s : Machine) (r : Answer) : Type 0 where
   pub reports : runAnswer r ≡ dueAt values units s
 
 -- A call of the stream run: its answer, every byte of the output, and the work words, which are
--- free after a run.
+-- unspecified after a run.
 pub record Performed (due : Ran) (output′ values values′ returns returns′ : List ℕ) (r : Answer) : Type 0 where
   pub answer : runAnswer r ≡ due .answer
   pub output : output′ ≡ due .output

@@ -1,6 +1,6 @@
 -- What the machine's functions do: an operation of 01, Opcodes, on the state that the lent buffers
 -- and the machine's numbers stand for. A function is lent only the buffers that it looks at; what
--- it does is said for whatever the others hold.
+-- it does is stated for whatever the others hold.
 use Prim.Native.Nat.{ℕ}
 use mathlib.Core.List.{List, [], _∷_}
 use mathlib.Core.Logic.{_≢_}
@@ -17,8 +17,9 @@ pub record Still (output output′ : List ℕ) (s r : Machine) : Type 0 where
   pub written : r .written ≡ s .written
   pub same : output′ ≡ output
 
--- From buffers and a machine s to buffers and a machine r, the outcome of an instruction is `due`.
--- The buffers keep their lengths, and the output after what is written is untouched.
+-- An instruction leads from buffers and a machine s to buffers (primed) and a machine r, and its
+-- outcome is `due`. The buffers keep their lengths, and the output after what is written is
+-- untouched.
 pub record Does (m : Setting) (due : Step) (values returns output values′ returns′ output′ : List ℕ) (s r : Machine) : Type 0 where
   pub reported : stepOf values′ returns′ output′ r ≡ due
   pub held : Held m values′ returns′ output′ r
@@ -35,28 +36,29 @@ pub record OnNumbers (op : Operation) (s r : Machine) : Type 0 where
       → Held m values returns output s
       → Does m (operate m (stateOf values returns output s) op) values returns output values returns output s r
 
--- On the value words.
+-- An operation on the value words.
 pub record OnValues (op : Operation) (values values′ : List ℕ) (s r : Machine) : Type 0 where
   pub does :
       (m : Setting) (returns output : List ℕ)
       → Held m values returns output s
       → Does m (operate m (stateOf values returns output s) op) values returns output values′ returns output s r
 
--- A tag to the output: what a leaf tag and a node tag have in common.
+-- A tag is written to the output: what the operations for a leaf's tag and for a node's have in
+-- common.
 pub record WritesTag (tag : ℕ) (output output′ : List ℕ) (s r : Machine) : Type 0 where
   pub does :
       (m : Setting) (values returns : List ℕ)
       → Held m values returns output s
       → Does m (write m (tag ∷ []) (stateOf values returns output s)) values returns output values returns output′ s r
 
--- On the output, with the value words looked at.
+-- An operation on the output that looks at the value words.
 pub record OnOutput (op : Operation) (values output output′ : List ℕ) (s r : Machine) : Type 0 where
   pub does :
       (m : Setting) (returns : List ℕ)
       → Held m values returns output s
       → Does m (operate m (stateOf values returns output s) op) values returns output values returns output′ s r
 
--- On the value words, with the input looked at.
+-- An operation on the value words that looks at the input.
 pub record FromInput (op : Operation) (input values values′ : List ℕ) (s r : Machine) : Type 0 where
   pub does :
       (m : Setting) (returns output : List ℕ)
@@ -64,25 +66,25 @@ pub record FromInput (op : Operation) (input values values′ : List ℕ) (s r :
       → Held m values returns output s
       → Does m (operate m (stateOf values returns output s) op) values returns output values′ returns output s r
 
--- On the machine's numbers, with the input looked at.
+-- An operation on the machine's numbers that looks at the input.
 pub record OnInput (op : Operation) (input : List ℕ) (s r : Machine) : Type 0 where
   pub does : (values : List ℕ) → FromInput op input values values s r
 
--- On the return places.
+-- An operation on the return places.
 pub record OnReturns (op : Operation) (returns returns′ : List ℕ) (s r : Machine) : Type 0 where
   pub does :
       (m : Setting) (values output : List ℕ)
       → Held m values returns output s
       → Does m (operate m (stateOf values returns output s) op) values returns output values returns′ output s r
 
--- On the value words, with the return places looked at.
+-- An operation on the value words that looks at the return places.
 pub record FromReturns (op : Operation) (returns values values′ : List ℕ) (s r : Machine) : Type 0 where
   pub does :
       (m : Setting) (output : List ℕ)
       → Held m values returns output s
       → Does m (operate m (stateOf values returns output s) op) values returns output values′ returns output s r
 
--- One instruction performed.
+-- One instruction is performed.
 pub record Performs (i : Instruction) (input values returns output values′ returns′ output′ : List ℕ) (s r : Machine) : Type 0 where
   pub does :
       (m : Setting)

@@ -10,7 +10,7 @@ use Rattle.meaning.specs.Performing.{Setting, Caller, State, Step, goes, ends, 
 use Rattle.meaning.specs.Running.{valueWords, returnWords, mostCalls}
 use Rattle.machine.specs.declared.Machine.{Machine}
 
--- So many of the lent words, from a base up, the top one first.
+-- The n value words from a base up, the top one first.
 unfoldable pub wordsFrom : List ℕ → ℕ → ℕ → List ℕ
 wordsFrom values base zero = []
 wordsFrom values base (suc n) = getD values (base + n) 0 ∷ wordsFrom values base n
@@ -29,7 +29,7 @@ waiting values returns base (suc (suc n)) =
 abbrev pub frameOf : List ℕ → Machine → List ℕ
 frameOf values s = wordsFrom values (s .base) (s .top - s .base)
 
--- The state.
+-- The state of the run that the machine's numbers and the lent buffers stand for.
 abbrev pub stateOf : (values returns output : List ℕ) → Machine → State
 stateOf values returns output s =
     record {
@@ -40,15 +40,15 @@ stateOf values returns output s =
       output = take (s .written) output;
     }
 
--- Numbers of the machine's stop that are no refusal's.
+-- The values of `stop` that are not the number of a refusal.
 abbrev pub goesOn : ℕ
 goesOn = 0
 
 abbrev pub hasEnded : ℕ
 hasEnded = 1
 
--- What has become of an instruction: it goes on; it has ended, and the word kept, if one is, is the
--- frame's top; or it is refused.
+-- The outcome of an instruction: the run goes on; it has ended, and its number is the top word of
+-- the frame, if there is one; or the instruction is refused.
 unfoldable pub stepOf : (values returns output : List ℕ) → Machine → Step
 stepOf values returns output s =
     elim (eqb (s .stop) goesOn) [
@@ -61,7 +61,7 @@ pub data Chained (returns : List ℕ) : ℕ → ℕ → Type 0 where
   first : Chained returns 0 0
   above : {base n : ℕ} → getD returns (suc n) 0 ≤ base → Chained returns (getD returns (suc n) 0) n → Chained returns base (suc (suc n))
 
--- How many addresses hold an instruction, in a code of so many bytes.
+-- How many addresses hold an instruction, in code of so many bytes.
 abbrev pub limitOf : ℕ → ℕ
 limitOf bytes = min mostInstructions (bytes / instructionBytes)
 
@@ -71,7 +71,7 @@ pub record Going (s : Machine) : Type 0 where
   pub based : s .base ≤ s .top
   pub topped : s .top ≤ valueWords
 
--- .. and its address holds an instruction.
+-- .. and its address below the most instructions.
 pub record Sound (s : Machine) : Type 0 where
   pub going : s .stop ≡ goesOn
   pub addressed : s .address < mostInstructions
@@ -92,7 +92,7 @@ pub record Held (m : Setting) (values returns output : List ℕ) (s : Machine) :
   pub read-there : s .read ≤ length (m .input)
   pub written-there : s .written ≤ length output
 
--- The buffers hold what the machine's numbers and 01, Work words, ask of them.
+-- The buffers are as long as 01, Work words, asks, and as the machine's numbers need.
 pub record Lent (s : Machine) (input output values returns : List ℕ) : Type 0 where
   pub values-lent : valueWords ≤ length values
   pub returns-lent : returnWords ≤ length returns
@@ -114,7 +114,7 @@ abbrev pub jumpTo : ℕ → Machine → Machine
 jumpTo address s =
     record { stop = s .stop; address = address; top = s .top; base = s .base; saved = s .saved; read = s .read; written = s .written }
 
--- Back in the frame that waits nearest, or ended.
+-- After the frame is left: back in the nearest frame that waits, or the run has ended.
 unfoldable pub left : List ℕ → ℕ → Machine → Machine
 left returns top s =
     elim (ltb (s .saved) 2) [

@@ -1,5 +1,5 @@
--- The proof of the cycle of calls {place_of}. The measure is the code: that of the Case's own tree
--- is smaller. Each way out is a law of proofs/Places.
+-- The proof of the recursive function offset_of. The measure is the code: that of the tree which
+-- the Case looks at is smaller. Each way out is a law of proofs/Offsets.
 use borrow.Author.Needs.{needs}
 use Prim.Native.Nat.{ℕ, _<_}
 use borrow.Fn.Kinds.{In}

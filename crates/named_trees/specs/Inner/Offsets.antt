@@ -1,4 +1,4 @@
--- The place of the tree that a code names, whatever a table and an input hold: 0 where there is
+-- The offset of the tree that a code names, whatever a table and an input hold: 0 where there is
 -- none.
 use Prim.Native.Nat.{ℕ, zero, suc, _+_, _-_, _/_, _%_}
 use mathlib.Core.Bool.{true, false}
@@ -9,12 +9,12 @@ use Rattle.formats.specs.Results.{Result, done, refusal}
 use Rattle.formats.specs.Tokens.{firstEnd}
 use Rattle.stepwise.specs.Inner.Steps.{State, treeAt}
 
--- The place after a tree that begins at p, by its reading.
+-- The offset after a tree that begins at p, by what the tree reader says; 0 on a refusal.
 unfoldable pub afterTree : ℕ → Result ℕ → ℕ
 afterTree p (done bytes) = p + bytes
 afterTree p (refusal number offset) = 0
 
--- A tree of the node at offset p: the left one, for an even j, stands after the node's tag, the
+-- A branch of the node at offset p: the left one, for an even j, stands after the node's tag, the
 -- right one after the left one. The tree at `known` ends at `end`.
 unfoldable pub partAt : List ℕ → (known end p j : ℕ) → ℕ
 partAt input known end p j =
@@ -29,8 +29,9 @@ partAt input known end p j =
 
 -- In a frame whose own tree is at `own`.
 module _ (T input : List ℕ) (own known end : ℕ) where
-  -- Code 0 is the frame's own tree. Another's node is the tree that a Case looks at, which has a
-  -- smaller code: so codes up to n take n steps.
+  -- The offset of the tree of a code, found in at most n steps. Code 0 is the frame's own tree. Any
+  -- other tree is a branch of the tree that some Case looks at, and that tree has a smaller code:
+  -- so n steps are enough for every code up to n.
   unfoldable pub offsetWithin : (n code : ℕ) → ℕ
   offsetWithin zero code = own
   offsetWithin (suc n) code =
@@ -46,6 +47,6 @@ module _ (T input : List ℕ) (own known end : ℕ) where
   abbrev pub treeOffset : ℕ → ℕ
   treeOffset code = offsetWithin code code
 
--- The place of the tree that record r names, in the frame of a state.
+-- The offset of the tree that record r names, in the frame of a state.
 abbrev pub namedBy : (T input : List ℕ) → ℕ → State → ℕ
 namedBy T input r s = treeOffset T input (s .tree) (s .known) (s .end) (treeAt T r)

@@ -8,10 +8,10 @@ use Rattle.stages.specs.declared.Stage.{Stage}
 use Rattle.stages.specs.Inner.Stages.{stateOf, Reaches}
 use Rattle.named_trees.specs.Inner.Offsets.{namedBy}
 
--- The turn of `opening`, with the offset of the tree that the call is on.
+-- The turn after a call opens: `opening`, with the offset of the tree that the call is on.
 unfoldable pub openedTurn : (T input : List ℕ) → ℕ → State → Turn
 openedTurn T input r s = elim (ltb r recordLimit) [ true ↦ opening T (namedBy T input r s) r s | false ↦ stuck ]
 
--- The step of a stage whose call opens.
+-- The step from a stage whose call is to open.
 pub record Opens (T input values values′ returns returns′ : List ℕ) (s r : Stage) : Type 0 where
   pub is : Reaches (openedTurn T input (s .node) (stateOf values returns s)) values values′ returns returns′ s r

@@ -1,4 +1,4 @@
--- `part_locations::note_case` meets its contract: only a part with two tree names more changes the
+-- `part_locations::note_case` meets its contract: only a part that names two trees more changes the
 -- stack.
 use borrow.Author.Needs.{needs}
 use Rattle.part_locations.proofs.Parts.{notes}

@@ -1,5 +1,5 @@
--- Where the parts of a record stand, whatever its own place: what `stepwise/specs/Inner/Rows` says
--- of them, with counts that are 64-bit numbers.
+-- Where the parts of a record stand, whatever its own location: what `stepwise/specs/Inner/Rows`
+-- says of them, with counts that are 64-bit numbers.
 use Prim.Native.Nat.{ℕ, zero, suc, _+_, _-_, _%_, _^_}
 use mathlib.Core.Bool.{Bool, true, false}
 use mathlib.Core.List.{List, []}
@@ -10,19 +10,19 @@ use Rattle.stepwise.specs.Inner.Rows.{kept, lastArgument, lastWord, roleOf, slo
 use Rattle.stepwise.specs.Inner.Rows.{Location as LocationThere}
 use Rattle.part_locations.specs.declared.Location.{Location}
 
--- The largest 64-bit number, where sums stop.
+-- The largest 64-bit number. Sums stop there.
 abbrev pub largest : ℕ
 largest = 2 ^ 64 - 1
 
 unfoldable pub capped : ℕ → ℕ
 capped n = elim (leb n largest) [ true ↦ n | false ↦ largest ]
 
--- A place, with the Cases on the stack.
+-- A location as `stepwise` has it, with the Cases taken from the stack.
 abbrev pub locationWith : Location → List ℕ → LocationThere
 locationWith p cases =
     record { role = p .role; parent = p .parent; slot = p .slot; names = p .names; keeps = p .keeps; cases = take (p .depth) cases }
 
--- On entering a part, by what it is: numbers named, where so many are named at the record.
+-- How many numbers are named in a part, by what the part is. At its record `names` are named.
 unfoldable pub namesInside : Part → ℕ → ℕ
 namesInside aNumber names = names
 namesInside aTree names = names
@@ -30,7 +30,7 @@ namesInside asWhole names = names
 namesInside underNumber names = capped (names + 1)
 namesInside underTrees names = names
 
--- .. and Cases in whose node parts it stands.
+-- In how many node parts of Cases a part stands. Its record stands in `depth` of them.
 unfoldable pub depthInside : Part → ℕ → ℕ
 depthInside aNumber depth = depth
 depthInside aTree depth = depth
@@ -38,7 +38,8 @@ depthInside asWhole depth = depth
 depthInside underNumber depth = depth
 depthInside underTrees depth = capped (depth + 1)
 
--- On entering part i of a record, by its kind: numbers kept.
+-- How many numbers are kept on entering part i of a record of this kind. At the record `keeps` are
+-- kept.
 unfoldable pub keepsInside : Kind → (i keeps : ℕ) → ℕ
 keepsInside (Const c) i keeps = keeps
 keepsInside (Var a) i keeps = keeps
@@ -51,8 +52,9 @@ keepsInside Node i keeps = keeps
 keepsInside (Case a) i keeps = keeps
 keepsInside (Call a b) i keeps = capped (keeps + i)
 
--- Where part i of the record r stands, which has so many parts: by what the part is, and by the
--- record's kind. (Of the functions only the arity counts, and of the place not its Cases.)
+-- Where part i of the record r stands, which has `count` parts: by what the part is, and by the
+-- record's kind. (A function matters by its arity alone, and the Cases of the location do not
+-- matter.)
 unfoldable pub partIn : Part → Kind → (r i count : ℕ) → Location → Location
 partIn part kind r i count p =
     record {
@@ -64,7 +66,8 @@ partIn part kind r i count p =
       depth = depthInside part (p .depth);
     }
 
--- An argument of the Call at record r, the last one or not, with so many numbers kept before it.
+-- Where an argument of the Call at record r stands, the last one or not, with `kept` numbers kept
+-- before it.
 unfoldable pub argumentIn : (r kept : ℕ) → Bool → (names depth : ℕ) → Location
 argumentIn r keeps last names depth =
     record {
@@ -76,8 +79,8 @@ argumentIn r keeps last names depth =
       depth = depth;
     }
 
--- On entering a part of the record r, which stands in so many node parts of Cases: the stack of
--- these Cases.
+-- The stack of Cases on entering a part of the record r, which itself stands in `depth` node parts
+-- of Cases.
 unfoldable pub noted : Part → (r depth : ℕ) → List ℕ → List ℕ
 noted aNumber r depth cases = cases
 noted aTree r depth cases = cases

@@ -1,5 +1,5 @@
--- `record_rows::code_of` meets its contract: the frame's own tree, or one of the tree that a Case
--- looks at.
+-- `record_rows::code_of` meets its contract: the name is that of the frame's own tree, or of a
+-- branch of the tree that a Case looks at.
 use borrow.Author.Needs.{needs}
 use Rattle.record_rows.proofs.Halves.{codes}
 use Rattle.record_rows.proofs.code_of.Statement.{statement}

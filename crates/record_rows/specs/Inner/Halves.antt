@@ -9,12 +9,12 @@ use Rattle.functions.specs.Inner.Counts.{countsFrom}
 use Rattle.stepwise.specs.Inner.Rows.{actionOf, codeOf, moreOf}
 use Rattle.record_rows.specs.declared.Own.{Own}
 
--- The first record of function b, by the counts of the function records.
+-- The first record of function b, from the node counts of the function records.
 unfoldable pub firstIn : List ℕ → ℕ → ℕ
 firstIn s b = 1 + headerIn s .functions + countsFrom b s 0
 
--- Const's number modulo 2^16, Var's word, the word of a label that a Case names, the first record
--- of the function that a Call calls.
+-- The row's operand: Const's number modulo 2^16, Var's word, the word of the label that a Case
+-- names, or the first record of the function that a Call calls.
 unfoldable pub operandIn : List ℕ → (names : ℕ) → Kind → ℕ
 operandIn s names (Const i) = i % 65536
 operandIn s names (Var a) = a
@@ -26,7 +26,7 @@ operandIn s names Node = 0
 operandIn s names (Case a) = names % 65536
 operandIn s names (Call a b) = firstIn s b % 65536
 
--- The tree that is named, in so many node parts of the Cases on the stack.
+-- The code of the tree that a Case or a Call names, inside the first `depth` Cases on the stack.
 unfoldable pub treeIn : (cases : List ℕ) → (depth : ℕ) → Kind → ℕ
 treeIn cases depth (Const i) = 0
 treeIn cases depth (Var a) = 0

@@ -1,4 +1,4 @@
--- Bytes written one after the other, as far as they fit, and how many they are.
+-- Bytes written one after the other, as far as they fit; and their count.
 use Prim.Native.Nat.{ℕ, _+_, _^_}
 use mathlib.Core.Bool.{true, false}
 use mathlib.Core.List.{List}
@@ -11,7 +11,7 @@ use Rattle.formats.specs.Written.{written}
 abbrev pub countLimit : ℕ
 countLimit = 2 ^ 63
 
--- So many bytes more.
+-- The count after n bytes more.
 unfoldable pub counted : ℕ → ℕ → ℕ
 counted at n = elim (ltb at countLimit) [ true ↦ at + n | false ↦ at ]
 

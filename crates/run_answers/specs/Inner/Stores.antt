@@ -6,6 +6,7 @@ use Rattle.answers.specs.Slots.{Reported}
 use Rattle.answers.specs.Inner.Stores.{Stored}
 use Rattle.run_answers.specs.RunAnswer.{runSlotsOf, runSlots}
 
+-- What is stored, and what is reported, with the slots of a stream run.
 abbrev pub StoresRun : Answer → ℕ → ℕ → List ℕ → List ℕ → ℕ → Type 0
 StoresRun a number position before after r = Stored (runSlotsOf position a) number before after r
 

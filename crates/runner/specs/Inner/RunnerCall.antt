@@ -16,7 +16,7 @@ use Rattle.translation.specs.ThisCall.{ProgramRun}
 
 -- The call's answer `r`, and its buffers: unprimed at entry, primed at exit. The first three fields
 -- say the whole answer, every byte of the output and every byte of the code buffer, by the one
--- definition `runFile` (translation, Calls).
+-- definition `runFile` (`translation/specs/Calls`).
 pub record RunnerCall (file input output output′ code code′ values values′ returns returns′ : List ℕ) (fuel : ℕ) (r : Answer) : Type 0 where
   pub answer : runAnswer r ≡ runFile file input output code fuel (length values) (length returns) .answer
   pub output-is : output′ ≡ runFile file input output code fuel (length values) (length returns) .output
@@ -25,6 +25,6 @@ pub record RunnerCall (file input output output′ code code′ values values′
   -- demand 3 about this very call, and what holds of it on any input
   pub program-run : ProgramRun file input output code fuel (length values) (length returns) (runAnswer r) output′
 
--- What a call is refused with where work words are missing, however long its code buffer is.
+-- The refusal of a call where work words are missing, however long its code buffer is.
 pub record TooFewWords (file : List ℕ) (r : Filled) : Type 0 where
   pub is : (code : List ℕ) (values returns : ℕ) → (leb valueWords values && leb returnWords returns) ≡ false → FilledBuffer (prepared (length code) values returns file) code code r

@@ -1,5 +1,5 @@
--- `source::run` meets its contract: what the blocks gave stands at the start of the space, and the
--- run goes over it.
+-- `source::run` meets its contract: the records taken from the blocks stand at the start of the
+-- buffer, and the run uses these.
 use borrow.Author.Needs.{needs}
 use lib.Seq.{length-take-le}
 use Rattle.source.proofs.Calls.{file-ways}

@@ -27,26 +27,26 @@ use Rattle.source.specs.declared.SourceAnswer.{SourceAnswer}
 abbrev pub sourceAnswer : SourceAnswer → Due
 sourceAnswer a = record { outcome = verdictResult (a .verdict); begun = a .begun; bytesWritten = a .written; number = a .number }
 
--- An evaluation that should give this: its answer, and every byte of the output. Its refusals are
--- none of those that come before it.
+-- An evaluation gives what is due: its answer, and every byte of the output. None of its refusals
+-- is one that comes before the evaluation.
 pub record Gave (due : SourceRan) (output′ : List ℕ) (r : SourceAnswer) : Type 0 where
   pub answer : sourceAnswer r ≡ due .answer
   pub output : output′ ≡ due .output
   pub late : (number position : ℕ) → due .answer .outcome ≡ refusal number position → beforeSource number ≡ false
 
--- The refusal of a walk that stops with this number.
+-- The refusal of a walk that stops with this number, 14 or 18.
 pub record Named (stop : ℕ) (why : Refusal) : Type 0 where
   pub is : (stop ≡ fuelUsedUp) ⊎ (stop ≡ tooManyCalls) → numberOf why ≡ stop
 
--- The length of a buffer: fewer bytes than 2^63.
+-- The length of a buffer, which is below 2^63.
 pub record Room (l : List ℕ) (r : ℕ) : Type 0 where
   pub is : r ≡ length l
   pub short : length l < countLimit
 
--- ---- The outcome of the steps
+-- ---- the outcome of the steps
 
--- The result's bytes written from the output's start, its number reported; 17 where they do not
--- fit.
+-- The result's bytes are written from the output's start on, and its number is reported; 17 where
+-- they do not fit.
 unfoldable pub reportedResult : ℕ → Reported → List ℕ → SourceRan
 reportedResult begun t output =
     elim (leb (length (t .bytes)) (length output)) [
@@ -58,6 +58,7 @@ reportedResult begun t output =
       | false ↦ refusedAfter begun outputFull 0 output
     ]
 
+-- What a source run gives whose steps come to this outcome, after `begun` expressions.
 unfoldable pub reportSteps : ℕ → Outcome Reported → List ℕ → SourceRan
 reportSteps begun (gives t) output = reportedResult begun t output
 reportSteps begun (stops why r) output = refusedAfter begun why 0 output
@@ -68,7 +69,7 @@ pub record Always (T input : List ℕ) (first : ℕ) (o : Outcome Reported) : Ty
   pub comes : (words returns : List ℕ) → valueWords ≤ length words → returnWords ≤ length returns
       → Comes T input [] (begin first (record { words = words; returns = returns; calls = 0; tree = 0; known = 0; end = 0 })) o
 
--- The evaluation over a table.
+-- The evaluation over a table gives what the outcome of the steps says.
 pub record Evaluates (T input : List ℕ) (first fuel : ℕ) (output output′ values values′ returns returns′ : List ℕ) (r : SourceAnswer) : Type 0 where
   pub gave : (o : Outcome Reported) → Always T input first o → valueWords ≤ length values → returnWords ≤ length returns
       → Gave (reportSteps 0 (withFuel fuel o) output) output′ r
@@ -77,14 +78,14 @@ pub record Evaluates (T input : List ℕ) (first fuel : ℕ) (output output′ v
 
 -- ---- the call
 
--- A call: its answer, every byte of the output, and the work words, which are free after a run and
--- untouched where the call is refused before it.
+-- A call: its answer, every byte of the output, and the work words, which are unspecified after a
+-- run and untouched where the call is refused before it.
 pub record Sourced (due : SourceRan) (output′ values values′ returns returns′ : List ℕ) (r : SourceAnswer) : Type 0 where
   pub answer : sourceAnswer r ≡ due .answer
   pub output : output′ ≡ due .output
   pub words : WorkWords beforeSource (due .answer .outcome) values values′ returns returns′
 
--- Of the flat records that a file has.
+-- The call on every file that has these flat records.
 pub record OfFile (flat input output output′ values values′ returns returns′ : List ℕ) (fuel : ℕ) (r : SourceAnswer) : Type 0 where
   pub is : (file : List ℕ) → flatIn file ≡ done flat
       → Sourced (sourceRun file input output fuel (length values) (length returns)) output′ values values′ returns returns′ r

@@ -6,7 +6,7 @@ use Rattle.answers.specs.Slots.{Reported}
 use Rattle.answers.specs.Inner.Stores.{Stored}
 use Rattle.source_answers.specs.SourceSlots.{sourceSlotsOf, sourceSlots}
 
--- What is stored, and what is reported: as of a stream run, with these slots.
+-- What is stored, and what is reported, with the slots of a source run.
 abbrev pub StoresSource : SourceAnswer → ℕ → ℕ → List ℕ → List ℕ → ℕ → Type 0
 StoresSource a number position before after r = Stored (sourceSlotsOf position a) number before after r
 

@@ -1,5 +1,5 @@
--- `source_walk::walk` meets its contract: so many expressions have begun in front of each turn, and
--- the fuel left falls.
+-- `source_walk::walk` meets its contract: before each turn `begun` expressions have begun, and the
+-- fuel left falls.
 use borrow.Author.Needs.{needs}
 use Prim.Native.Nat.{_-_}
 use native.Mathlib.Omega.{arith}

@@ -1,5 +1,5 @@
--- The walk of the source run as a function of table, input, fuel and the lent buffers, whatever
--- these hold.
+-- The walk of the source run, as a function of the table, the input, the fuel and the lent buffers,
+-- whatever these hold.
 use Prim.Native.Nat.{ℕ, zero, suc, _+_, _*_, _<_}
 use mathlib.Core.Bool.{true, false}
 use mathlib.Core.List.{List}
@@ -16,7 +16,7 @@ use Rattle.open_call.specs.Inner.Opens.{openedTurn}
 use Rattle.result_bytes.specs.Inner.Bytes.{countLimit, counted}
 use Rattle.source_walk.specs.declared.Walked.{Walked}
 
--- The lent buffers, and how far the run is.
+-- The lent buffers, and how far the run has come.
 pub record Run : Type 0 where
   pub output : List ℕ
   pub values : List ℕ
@@ -32,7 +32,7 @@ stepped p t bytes =
     run (written (p .output) (p .stage .written) bytes) (wordsOf (p .values) t) (returnsOf (p .returns) t)
     (withWritten (stageOf (p .stage) t) (counted (p .stage .written) (length bytes)))
 
--- While records are finished this falls.
+-- This falls at each step from one finished record to the next.
 unfoldable pub weightOf : Stage → ℕ
 weightOf s = elim (eqb (s .mode) isFinished) [ true ↦ 1 + 65536 * s .calls + s .node | false ↦ 0 ]
 
@@ -41,12 +41,12 @@ module _ (T input : List ℕ) where
   unfoldable pub beginStep : Run → Run
   beginStep p = stepped p (begunTurn T input (p .stage .node) (stateOf (p .values) (p .returns) (p .stage))) (emittedFirst T (p .stage .node))
 
-  -- It is finished.
+  -- The stage's record is finished.
   unfoldable pub riseStep : Run → Run
   riseStep p =
       stepped p (rising T input (p .stage .node) (p .stage .number) (stateOf (p .values) (p .returns) (p .stage))) (emittedLast T (p .stage .node) (p .stage .number))
 
-  -- Its call opens, if one is to be opened.
+  -- The call at the stage's record opens, if one is to open.
   unfoldable pub openStep : Run → Run
   openStep p =
       elim (eqb (p .stage .mode) toOpen) [
@@ -56,7 +56,8 @@ module _ (T input : List ℕ) where
         | false ↦ p
       ]
 
-  -- Up to n steps while records are finished; where the weight does not fall there is no next one.
+  -- Up to n steps while records are finished. If the weight does not fall at a step, the walk is
+  -- stuck there; with a program's rows this never happens.
   unfoldable pub climbing : ℕ → Run → Run
   climbing zero p = p
   climbing (suc n) p =
@@ -69,18 +70,18 @@ module _ (T input : List ℕ) where
         | false ↦ p
       ]
 
-  -- All of them: the weight falls at each.
+  -- All steps while records are finished: the weight falls at each, so it bounds their number.
   abbrev pub climbed : Run → Run
   climbed p = climbing (weightOf (p .stage)) p
 
-  -- One expression begins, and all goes on up to the next one that does.
+  -- One expression begins, and the walk goes on until the next one is to begin.
   abbrev pub turned : Run → Run
   turned p = openStep (climbed (beginStep p))
 
 -- ---- the whole walk
 
--- What a walk that stops at this stage answers. A program's rows lead to no stage that is stuck, so
--- what has not ended is a call too many.
+-- What a walk that stops at this stage answers. A program's rows lead to no stuck stage, so a walk
+-- that has not ended has come to a call too many.
 unfoldable pub finished : Stage → ℕ → Walked
 finished s begun =
     elim (eqb (s .mode) hasEnded) [
@@ -96,7 +97,7 @@ pub record Ending : Type 0 where
 abbrev pub ending : Walked → Run → Ending
 ending answer last = record { answer = answer; last = last }
 
--- With so much fuel left, and so many expressions begun.
+-- The walk with `fuel` left, after `begun` expressions.
 unfoldable pub walking : (T input : List ℕ) → (fuel begun : ℕ) → Run → Ending
 walking T input zero begun p = ending (record { stop = fuelUsedUp; begun = begun; written = 0; number = 0 }) p
 walking T input (suc fuel) begun p =
@@ -105,11 +106,11 @@ walking T input (suc fuel) begun p =
       | false ↦ ending (finished (turned T input p .stage) (suc begun)) (turned T input p)
     ]
 
--- The stage in front of the record `first`.
+-- The stage before the record `first` begins.
 abbrev pub firstStage : ℕ → Stage
 firstStage first = record { mode = toBegin; node = first; number = 0; calls = 0; tree = 0; known = 0; end = 0; written = 0 }
 
--- From the record `first` on.
+-- The whole walk, from the record `first` on.
 abbrev pub walked : (T input : List ℕ) → (first fuel : ℕ) → (output values returns : List ℕ) → Ending
 walked T input first fuel output values returns = walking T input fuel 0 (run output values returns (firstStage first))
 

@@ -8,7 +8,7 @@ use lib.ListN.{length}
 use Rattle.stepwise.specs.Inner.Steps.{State, Turn, begin, finished, opens, ended, deep, stuck}
 use Rattle.stages.specs.declared.Stage.{Stage}
 
--- What is to be done next, as a stage's mode says.
+-- The modes of a stage: what is to be done next.
 abbrev pub toBegin : ℕ
 toBegin = 0
 
@@ -30,6 +30,7 @@ isStuck = 5
 abbrev pub stateOf : (values returns : List ℕ) → Stage → State
 stateOf values returns s = record { words = values; returns = returns; calls = s .calls; tree = s .tree; known = s .known; end = s .end }
 
+-- The turn that a stage and the lent words stand for.
 unfoldable pub turnOf : (values returns : List ℕ) → Stage → Turn
 turnOf values returns s =
     elim (eqb (s .mode) toBegin) [
@@ -76,7 +77,7 @@ stageOf s (ended x) = staged s hasEnded 0 x
 stageOf s (deep r) = staged s tooManyOpen r 0
 stageOf s stuck = staged s isStuck (s .node) 0
 
--- The value words in front of a turn: its own, or those that there were.
+-- The value words before a turn: those of its state, or where it has none, those that there were.
 unfoldable pub wordsOf : List ℕ → Turn → List ℕ
 wordsOf values (begin r t) = t .words
 wordsOf values (finished r x t) = t .words

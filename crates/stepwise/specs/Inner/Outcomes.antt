@@ -1,4 +1,5 @@
--- What the steps come to.
+-- The outcome that the steps come to: the result's number and bytes, or the refusal that stops
+-- them.
 use Prim.Native.Nat.{ℕ, _<_}
 use mathlib.Core.List.{List, _++_}
 use Rattle.formats.specs.Refusals.{tooManyCalls}
@@ -17,7 +18,9 @@ reported number bytes = record { number = number; bytes = bytes }
 abbrev pub reportedOf : Value → Outcome Reported
 reportedOf v = gives (reported (resultNumber v) (resultBytes v))
 
--- `Comes T input out t o`: with the bytes `out` written before, the turn t comes to the outcome o.
+-- `Comes T input out t o`: with the bytes `out` written so far, the turn t comes to the outcome o.
+-- There is a constructor for each kind of turn, and its last premise is about the next turn. `T` is
+-- the table of the program's rows.
 pub data Comes (T input : List ℕ) : List ℕ → Turn → Outcome Reported → Type 0 where
   at-begin :
       {out : List ℕ} {r : ℕ} {s : State} {o : Outcome Reported} (p : ℕ)

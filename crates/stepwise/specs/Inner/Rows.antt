@@ -14,14 +14,14 @@ use Rattle.formats.specs.Programs.{Expr, const, var, add, ifZero, letIn, leafOf
 use Rattle.formats.specs.Written.{written}
 use Rattle.meaning.specs.OpenCalls.{firstRecord}
 
--- ---- what a part is to the record that it is part of
+-- ---- roles: what a record does with the value of its part
 
--- The body of a function.
+-- It is the body of a function, so its value is that of the call.
 abbrev pub whole : ℕ
 whole = 0
 
--- Its number is put on a word, and the next part begins: Add's first part, Let's, an argument but
--- the last.
+-- Its number is put on a word, and the next part begins: Add's first part, Let's first part, each
+-- argument of a Call but the last.
 abbrev pub kept : ℕ
 kept = 1
 
@@ -29,38 +29,39 @@ kept = 1
 abbrev pub added : ℕ
 added = 2
 
--- IfZero's test.
+-- Its number decides which part begins: IfZero's first part.
 abbrev pub tested : ℕ
 tested = 3
 
--- Its value is the whole's.
+-- Its value is the value of the whole record: a part after IfZero's test, Let's second part, Node's
+-- second part, a part of a Case.
 abbrev pub passed : ℕ
 passed = 4
 
--- Its number is a leaf's label.
+-- Its number is the label of a leaf: Leaf's part.
 abbrev pub labelled : ℕ
 labelled = 5
 
--- The next part begins: Node's left part.
+-- Nothing is kept, and the next part begins: Node's left part.
 abbrev pub followed : ℕ
 followed = 6
 
--- Its number is put on a word, and the call opens: the last argument.
+-- Its number is put on a word, and the call opens: the last argument of a Call.
 abbrev pub lastArgument : ℕ
 lastArgument = 7
 
 -- ---- where a record stands
 
 pub record Location : Type 0 where
-  -- what it is to its parent, and the parent's record
+  -- its role, and its parent: the record that it is a part of
   pub role : ℕ
   pub parent : ℕ
-  -- the word of its number, where that is put on a word or added to one
+  -- the word that its number is put on, or added to
   pub slot : ℕ
-  -- numbers named, and numbers kept
+  -- how many numbers are named, and how many are kept
   pub names : ℕ
   pub keeps : ℕ
-  -- the Cases in whose node parts it stands, the outermost first
+  -- the records of the Cases in whose node parts it stands, the outermost first
   pub cases : List ℕ
 
 -- The last word of a frame.
@@ -104,15 +105,16 @@ actionOf Node = tagsNode
 actionOf (Case a) = looksAtTree
 actionOf (Call a b) = callsFunction
 
--- What stands in place of a tree name: 0 for the frame's own tree, 2c + 1 for the left tree and 2c
--- + 2 for the right one of the tree that the Case at record c looks at. Names count along the path:
--- the frame's tree, then two for each Case in whose node part the record stands.
+-- The code of a tree, which a row has instead of the tree's name: 0 is the frame's own tree, 2c + 1
+-- the left tree and 2c + 2 the right tree of the tree that the Case at record c looks at. Names
+-- count along the path: first the frame's tree, then two for each Case in whose node part the
+-- record stands.
 unfoldable pub codeOf : List ℕ → ℕ → ℕ
 codeOf cases zero = 0
 codeOf cases (suc j) = suc (2 * getD cases (j / 2) 0 + j % 2)
 
 module _ (entry arity : ℕ → ℕ) where
-  -- What part i of a record is to it.
+  -- The role of part i of a record.
   unfoldable pub roleOf : Kind → ℕ → ℕ
   roleOf (Const c) i = passed
   roleOf (Var a) i = passed
@@ -128,7 +130,7 @@ module _ (entry arity : ℕ → ℕ) where
   roleOf (Case a) i = passed
   roleOf (Call a b) i = elim (eqb (suc i) (arity b)) [ true ↦ lastArgument | false ↦ kept ]
 
-  -- The word of part i's number.
+  -- The word that part i's number is put on, or added to; 0 where there is none.
   unfoldable pub slotOf : Location → Kind → ℕ → ℕ
   slotOf p (Const c) i = 0
   slotOf p (Var a) i = 0
@@ -140,7 +142,7 @@ module _ (entry arity : ℕ → ℕ) where
   slotOf p (Case a) i = 0
   slotOf p (Call a b) i = lastWord - (p .keeps + i)
 
-  -- Numbers named on entering part i.
+  -- How many numbers are named on entering part i.
   unfoldable pub namesIn : Location → Kind → ℕ → ℕ
   namesIn p (Const c) i = p .names
   namesIn p (Var a) i = p .names
@@ -154,7 +156,7 @@ module _ (entry arity : ℕ → ℕ) where
   namesIn p (Case a) (suc i) = p .names
   namesIn p (Call a b) i = p .names
 
-  -- Numbers kept on entering part i.
+  -- How many numbers are kept on entering part i.
   unfoldable pub keepsIn : Location → Kind → ℕ → ℕ
   keepsIn p (Const c) i = p .keeps
   keepsIn p (Var a) i = p .keeps
@@ -167,7 +169,7 @@ module _ (entry arity : ℕ → ℕ) where
   keepsIn p (Case a) i = p .keeps
   keepsIn p (Call a b) i = p .keeps + i
 
-  -- The Cases in whose node parts part i stands.
+  -- The Cases in whose node parts part i of the record r stands.
   unfoldable pub casesIn : Location → Kind → ℕ → ℕ → List ℕ
   casesIn p (Const c) r i = p .cases
   casesIn p (Var a) r i = p .cases
@@ -194,8 +196,8 @@ module _ (entry arity : ℕ → ℕ) where
 
   -- ---- rows
 
-  -- Const's number modulo 2^16, Var's word, the word of a label that a Case names, the first record
-  -- of the function that a Call calls.
+  -- The row's operand: Const's number modulo 2^16, Var's word, the word of the label that a Case
+  -- names, or the first record of the function that a Call calls.
   unfoldable pub operandOf : Location → Kind → ℕ
   operandOf p (Const i) = i % 65536
   operandOf p (Var a) = a
@@ -207,7 +209,7 @@ module _ (entry arity : ℕ → ℕ) where
   operandOf p (Case a) = p .names
   operandOf p (Call a b) = entry b
 
-  -- The tree that is named.
+  -- The code of the tree that a Case or a Call names.
   unfoldable pub treeOf : Location → Kind → ℕ
   treeOf p (Const i) = 0
   treeOf p (Var a) = 0
@@ -219,7 +221,7 @@ module _ (entry arity : ℕ → ℕ) where
   treeOf p (Case a) = codeOf (p .cases) a
   treeOf p (Call a b) = codeOf (p .cases) a
 
-  -- The rest of Const's number, the arguments of a Call.
+  -- The upper half of Const's number, or how many arguments a Call has.
   unfoldable pub moreOf : Kind → ℕ
   moreOf (Const i) = i / 65536
   moreOf (Var a) = 0
@@ -231,7 +233,7 @@ module _ (entry arity : ℕ → ℕ) where
   moreOf (Case a) = 0
   moreOf (Call a b) = arity b
 
-  -- The row of a record whose expression ends before record `after`.
+  -- The eight words of a record's row. The record's expression ends before record `after`.
   abbrev pub rowOf : Location → ℕ → Kind → List ℕ
   rowOf p after kind =
       actionOf kind ∷ operandOf p kind ∷ treeOf p kind ∷ moreOf kind ∷ p .role ∷ p .parent ∷ p .slot ∷ after ∷ []
@@ -260,17 +262,17 @@ module _ (entry arity : ℕ → ℕ) where
         ++ (rowsOf (partLocation p (Case a) r 0) (suc r) x ++ rowsOf (partLocation p (Case a) r 1) (suc r + size x) y)
     rowsOf p r (call a b xs) = rowOf p (afterArgs (suc r) xs) (Call a b) ++ rowsOfArgs p (Call a b) r 0 (suc r) xs
 
-    -- The arguments of the Call at record r, from part i on, the next at record k.
+    -- The rows of the arguments of the Call at record r, from part i on, the next one at record k.
     pub rowsOfArgs : Location → Kind → ℕ → ℕ → ℕ → Args → List ℕ
     rowsOfArgs p kind r i k noArgs = []
     rowsOfArgs p kind r i k (arg x xs) = rowsOf (partLocation p kind r i) k x ++ rowsOfArgs p kind r (suc i) (k + size x) xs
 
-    -- The record after arguments.
+    -- The record after arguments that begin at record k.
     pub afterArgs : ℕ → Args → ℕ
     afterArgs k noArgs = k
     afterArgs k (arg x xs) = afterArgs (k + size x) xs
 
-  -- A function's body: its numbers are named.
+  -- Where the body of a function stands: its number parameters are named.
   abbrev pub bodyLocation : Function → Location
   bodyLocation f = record { role = whole; parent = 0; slot = 0; names = f .parameters; keeps = 0; cases = [] }
 
@@ -281,7 +283,7 @@ module _ (entry arity : ℕ → ℕ) where
 
 -- ---- of a program
 
--- Words of a row.
+-- How many words a row has.
 abbrev pub rowWords : ℕ
 rowWords = 8
 
@@ -289,6 +291,6 @@ rowWords = 8
 abbrev pub rowsIn : Program → List ℕ
 rowsIn program = rowsOfAll (firstRecord program) (arityOf (signatures program)) (suc (length (program .functions))) (program .functions)
 
--- A table with the row of each node, the first one's at its record's place.
+-- A table with the row of each node: the row of record k begins at word 8k.
 unfoldable pub tabled : List ℕ → Program → List ℕ
 tabled table program = written table (rowWords * suc (length (program .functions))) (rowsIn program)

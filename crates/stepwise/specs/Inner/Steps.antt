@@ -1,9 +1,9 @@
 -- The steps of the source evaluation over the rows of a program.
 --
--- A record begins; it is finished, with its number (0 for a tree); or a call opens. A frame's tree
--- is known by its offset in the input, and every other tree that is named by the way from there. A
--- frame's numbers stand on 16 words; a call that waits has two return words, its record and its
--- frame's tree.
+-- A record begins; it is finished, with its number (0 for a tree); or a call opens. The tree of a
+-- frame is known by its offset in the input, and every other named tree by the path that leads to
+-- it from there. A frame's numbers stand on 16 words. A call that waits has two return words: its
+-- record and its frame's tree.
 use Prim.Native.Nat.{ℕ, zero, suc, _+_, _-_, _*_, _/_, _%_, _<_}
 use mathlib.Core.Bool.{Bool, true, false, _&&_}
 use mathlib.Core.List.{List, [], _∷_}
@@ -18,7 +18,7 @@ use Rattle.formats.specs.Inner.Trees.{leafBytes}
 use Rattle.stepwise.specs.Inner.Rows.{givesConstant, givesNamed, tagsNode, looksAtTree, callsFunction}
 use Rattle.stepwise.specs.Inner.Rows.{rowWords, whole, kept, added, tested, passed, labelled, followed}
 
--- Words of a frame.
+-- How many words a frame has.
 abbrev pub frameWords : ℕ
 frameWords = 16
 
@@ -26,13 +26,13 @@ frameWords = 16
 abbrev pub mostWaiting : ℕ
 mostWaiting = 1023
 
--- Records are numbered below.
+-- The numbers of records are below this limit.
 abbrev pub recordLimit : ℕ
 recordLimit = 2048
 
--- The lent words, how many calls wait, and the offset of the frame's tree. Of one tree that was
--- passed the end is known: it begins at `known` and ends at `end` (both 0 as long as there is none:
--- no tree that is looked for begins at 0).
+-- The lent words, how many calls wait, and the offset of the frame's tree. The end of one tree that
+-- was passed is remembered: this tree begins at `known` and ends at `end`. Both are 0 as long as
+-- there is none; no tree whose end is asked for begins at offset 0.
 pub record State : Type 0 where
   pub words : List ℕ
   pub returns : List ℕ
@@ -52,11 +52,12 @@ pub data Turn : Type 0 where
   ended : ℕ → Turn
   -- the call at this record is one too many
   deep : ℕ → Turn
-  -- none of these
+  -- the rows lead nowhere, which a program's rows never do
   stuck : Turn
 
 -- ---- rows
 
+-- Field f of the row of record r; 0 where the table has none.
 abbrev pub field : List ℕ → ℕ → ℕ → ℕ
 field T r f = getD T (rowWords * r + f) 0
 
@@ -124,12 +125,12 @@ withWord s slot x =
       end = s .end;
     }
 
--- The tree at this offset is known to end there.
+-- The tree at offset `known` is known to end at `end`.
 abbrev pub withEnd : State → ℕ → ℕ → State
 withEnd s known end = record { words = s .words; returns = s .returns; calls = s .calls; tree = s .tree; known = known; end = end }
 
--- The first n arguments of a call, on words from `slot` down of the frame at word `base`, put on
--- the first words of the next frame.
+-- The words once the first n arguments of a call are copied to the first words of the next frame.
+-- The arguments stand on the words from `slot` down, in the frame that begins at word `base`.
 unfoldable pub copied : List ℕ → ℕ → ℕ → ℕ → List ℕ
 copied words base slot zero = words
 copied words base slot (suc n) =
@@ -138,8 +139,8 @@ copied words base slot (suc n) =
 
 -- ---- a record begins
 
--- By the tag of the tree at offset p: a label is put on its word, and the leaf part begins; or the
--- node part does.
+-- A Case looks at the tag of the tree at offset p. At a leaf its label is put on its word, and the
+-- leaf part begins; else the node part begins.
 unfoldable pub looking : List ℕ → List ℕ → ℕ → ℕ → State → Turn
 looking T input p r s =
     elim (ltb p (length input)) [
@@ -151,8 +152,8 @@ looking T input p r s =
       | false ↦ stuck
     ]
 
--- By the record's action: a number is given; a tree is looked at, at offset p; a call without
--- arguments opens; else the first part begins.
+-- The turn after record r begins, by its action: a number is given; a tree is looked at, at offset
+-- p; a call without arguments opens; else the first part begins.
 unfoldable pub beginning : List ℕ → List ℕ → ℕ → ℕ → State → Turn
 beginning T input p r s =
     elim (eqb (actionAt T r) givesConstant) [
@@ -172,24 +173,26 @@ beginning T input p r s =
           ]
     ]
 
--- A node's tag is written when it begins.
+-- What is written when record r begins: the tag of a node, for a Node.
 unfoldable pub emittedFirst : List ℕ → ℕ → List ℕ
 emittedFirst T r = elim (eqb (actionAt T r) tagsNode) [ true ↦ nodeTag ∷ [] | false ↦ [] ]
 
 -- ---- a record is finished
 
 -- Whether the Call at record r is on the right tree of a node that is its frame's own tree, at
--- offset own.
+-- offset `own`.
 unfoldable pub onRight : List ℕ → List ℕ → ℕ → ℕ → Bool
 onRight T input r own =
     eqb (treeAt T r % 2) 0 && (ltb 0 (treeAt T r) && (eqb (treeAt T ((treeAt T r - 1) / 2)) 0 && (ltb own (length input) && eqb (getD input own 0) nodeTag)))
 
--- Where that node begins, if the end of the right tree, at offset `tree`, is known, and so the
--- node's end is: else what is known stays.
+-- Where the tree begins whose end is known after a call closes. If the call was on the right tree
+-- of the node at `own`, and the end of that right tree is known, then the node ends there too. Else
+-- what was known stays.
 unfoldable pub knownAfter : List ℕ → List ℕ → ℕ → ℕ → State → ℕ
 knownAfter T input r own s = elim (eqb (s .known) (s .tree) && onRight T input r own) [ true ↦ own | false ↦ s .known ]
 
--- The call that waits goes on; the first frame is the last.
+-- A function's body is finished, with number x: the call that waits goes on, or the first frame has
+-- ended.
 unfoldable pub closing : List ℕ → List ℕ → ℕ → State → Turn
 closing T input x s =
     elim (s .calls) [
@@ -206,7 +209,8 @@ closing T input x s =
           })
     ]
 
--- What the value of a part is, or that the next part or the call follows it.
+-- The turn after a part with one of the other roles. Its value is the record's, or the label of a
+-- leaf; or the next part begins; or the call opens.
 unfoldable pub following : List ℕ → ℕ → ℕ → State → Turn
 following T r x s =
     elim (eqb (roleAt T r) passed) [
@@ -222,7 +226,7 @@ following T r x s =
           ]
     ]
 
--- By what the record is to its parent.
+-- The turn after record r is finished with number x, by its role.
 unfoldable pub rising : List ℕ → List ℕ → ℕ → ℕ → State → Turn
 rising T input r x s =
     elim (eqb (roleAt T r) whole) [
@@ -242,12 +246,12 @@ rising T input r x s =
           ]
     ]
 
--- A leaf is written when its number is finished.
+-- What is written when record r is finished with number x: a leaf, if x is its label.
 unfoldable pub emittedLast : List ℕ → ℕ → ℕ → List ℕ
 emittedLast T r x = elim (eqb (roleAt T r) labelled) [ true ↦ tokens (leaf x) | false ↦ [] ]
 
--- While records are finished this falls: the parent is an earlier record, and a call that closes
--- leaves fewer that wait.
+-- This falls at each step from one finished record to the next: a parent is an earlier record, and
+-- when a call closes, fewer calls wait.
 unfoldable pub weight : Turn → ℕ
 weight (begin r s) = 0
 weight (finished r x s) = suc (65536 * s .calls + r)
@@ -258,7 +262,7 @@ weight stuck = 0
 
 -- ---- a call opens
 
--- The frame of the call at record r, its tree at offset p.
+-- The state in the frame that the call at record r opens, with its tree at offset p.
 abbrev pub framed : List ℕ → ℕ → ℕ → State → State
 framed T p r s =
     record {

@@ -1,4 +1,4 @@
--- What the outcome of an evaluation is reported as by a walk.
+-- How a walk reports the outcome of an evaluation.
 use Prim.Native.Nat.{ℕ, _≤_, _<_}
 use mathlib.Core.List.{List}
 use mathlib.Core.Logic.{_⊎_}
@@ -11,13 +11,14 @@ use Rattle.stepwise.specs.Inner.Outcomes.{Reported, reported}
 use Rattle.result_bytes.specs.Inner.Bytes.{countLimit}
 use Rattle.source_walk.specs.declared.Walked.{Walked}
 
--- So many bytes are counted for these.
+-- The count `at` is the length of `out` as long as it is below 2^63; from there on it only shows
+-- that `out` has at least 2^63 bytes.
 pub record Counts (at : ℕ) (out : List ℕ) : Type 0 where
   pub few : at < countLimit → at ≡ length out
   pub many : countLimit ≤ at → countLimit ≤ length out
 
--- The walk's answer and the output after it: the value's number and its bytes, as far as they fit;
--- or the number that the evaluation stops with.
+-- The walk's answer and the output after it: the number of the value and its bytes, as far as they
+-- fit; or the refusal that the evaluation stops with.
 pub data Reports (o : Outcome Reported) (output output′ : List ℕ) (r : Walked) : Type 0 where
   reports-value :
       (out : List ℕ)

@@ -18,7 +18,7 @@ use Rattle.refusal.specs.Inner.Numbers.{number}
 use Rattle.refusal.specs.Inner.Verdicts.{verdictResult}
 use Rattle.refusal.specs.declared.Verdict.{Verdict}
 use Rattle.refusal.specs.declared.Verdict.the-variants.{Passed, Refused}
-use Rattle.answers.specs.Slots.{refusalOf, positionOf, Reported}
+use Rattle.answers.specs.Slots.{refusalOf, positionOf, Answered}
 use Rattle.answers.specs.Inner.Stores.{Stored}
 
 -- ---- `store_row`
@@ -51,7 +51,7 @@ pub ruleset rows = (stored-short, row-none, row-more, row-slot, row-length, row-
 
 -- too few slots for an answer
 pub reported-short : (count : ℕ) (row : ℕ → List ℕ) (outcome : Result (Unit {0})) (before : List ℕ) (r : ℕ) → length (row (positionOf outcome)) ≡ count
-    → length before < count → r ≡ spaceTooShort → Reported count row outcome before before r
+    → length before < count → r ≡ spaceTooShort → Answered count row outcome before before r
 reported-short count row outcome before r long h e =
     record { number = rw (lt-ltb _ _ h) e; slots = sym (written-short before 0 (row (positionOf outcome)) (omega arith)) }
 
@@ -59,7 +59,7 @@ module _ (count : ℕ) (row : ℕ → List ℕ) (long : (position : ℕ) → len
   -- what is stored is what the outcome says
   pub stored-reported : (outcome : Result (Unit {0})) (n position : ℕ) → n ≡ refusalOf outcome → position ≡ positionOf outcome
       → Stored (row position) n before after r
-      → Reported count row outcome before after r
+      → Answered count row outcome before after r
   stored-reported outcome n position is there s =
       record {
         number = (rw (long position) at (s .given)) ∙ ap (λ k. elim (ltb (length before) count) [ true ↦ spaceTooShort | false ↦ k ]) is;
@@ -67,12 +67,12 @@ module _ (count : ℕ) (row : ℕ → List ℕ) (long : (position : ℕ) → len
       }
 
   module _ (v : Verdict) where
-    pub reported-ended : v ≡ Passed → Stored (row 0) 0 before after r → Reported count row (verdictResult v) before after r
+    pub reported-ended : v ≡ Passed → Stored (row 0) 0 before after r → Answered count row (verdictResult v) before after r
     unfolding refusalOf positionOf
     reported-ended case = stored-reported (verdictResult v) 0 0 (sym (ap (λ w. refusalOf (verdictResult w)) case)) (sym (ap (λ w. positionOf (verdictResult w)) case))
 
     pub reported-refused : (why : Refusal) (position n : ℕ) → v ≡ Refused why position → n ≡ number why → Stored (row position) n before after r
-        → Reported count row (verdictResult v) before after r
+        → Answered count row (verdictResult v) before after r
     unfolding refusalOf positionOf
     reported-refused why position n case is =
         stored-reported (verdictResult v) n position (is ∙ sym (ap (λ w. refusalOf (verdictResult w)) case)) (sym (ap (λ w. positionOf (verdictResult w)) case))

@@ -22,6 +22,6 @@ positionOf (refusal number position) = position
 -- An answer of `count` slots: `row` gives them from the position of a refusal. The call gives `r`:
 -- 13 where the array has too few slots, else 0 or the number of the refusal. The array is `before`
 -- at entry and `after` at exit; with too few slots it is untouched.
-pub record Reported (count : ℕ) (row : ℕ → List ℕ) (outcome : Result (Unit {0})) (before after : List ℕ) (r : ℕ) : Type 0 where
+pub record Answered (count : ℕ) (row : ℕ → List ℕ) (outcome : Result (Unit {0})) (before after : List ℕ) (r : ℕ) : Type 0 where
   pub number : r ≡ elim (ltb (length before) count) [ true ↦ spaceTooShort | false ↦ refusalOf outcome ]
   pub slots : after ≡ written before 0 (row (positionOf outcome))

@@ -16,7 +16,7 @@ use Rattle.formats.specs.Numbers.{numberAt}
 use Rattle.formats.specs.Refusals.{blockCheck, blockField}
 use Rattle.formats.specs.Results.{done, refusal, verdict}
 use Rattle.formats.specs.Records.{recordBytes}
-use Rattle.formats.specs.Blocks.{blockRecords, partBytes, numberOffset, usedOffset, blocksOffset, wordSum, checkSum, wordLimit, zeros, usedFits, fieldsFit, usedOf}
+use Rattle.formats.specs.Blocks.{blockRecords, recordsBytes, numberOffset, usedOffset, blocksOffset, wordSum, checkTarget, wordLimit, zeros, usedFits, fieldsFit, usedOf}
 use Rattle.formats.proofs.Words.{wordSum-step}
 
 -- ---- the sum of 16-bit words
@@ -125,7 +125,7 @@ module _ (blocks j : ℕ) (block : List ℕ) where
 
   pub field-unused : (n used count : ℕ) (fits unused : Bool) → n ≡ numberAt 2 block numberOffset → n ≡ j
       → used ≡ numberAt 2 block usedOffset → fits ≡ usedFits blocks j used → not fits ≡ false → count ≡ numberAt 2 block blocksOffset → count ≡ blocks
-      → unused ≡ zeros (drop (recordBytes * used) (take partBytes block)) → unused ≡ fieldsFit blocks j block
+      → unused ≡ zeros (drop (recordBytes * used) (take recordsBytes block)) → unused ≡ fieldsFit blocks j block
   unfolding fieldsFit
   field-unused n used count fits unused read is read-used reported fit read-count right looked =
       simp (fieldsFit, ← read, ← read-used, ← read-count, eq-eqb _ _ is, ← reported, not-false fits fit, eq-eqb _ _ right) looked
@@ -135,15 +135,15 @@ pub ruleset fields-reported = (field-number, field-used, field-count, field-unus
 -- ---- the row of one block
 
 module _ (blocks j : ℕ) (block : List ℕ) (sum : ℕ) (added : sum ≡ wordSum block % wordLimit) where
-  pub row-check : sum ≢ checkSum → refusal blockCheck j ≡ verdict (usedOf blocks j block)
+  pub row-check : sum ≢ checkTarget → refusal blockCheck j ≡ verdict (usedOf blocks j block)
   unfolding usedOf
   row-check wrong = simp (usedOf, ← added, ne-eqb _ _ wrong)
 
-  pub row-passed : (fits : Bool) → sum ≡ checkSum → fits ≡ fieldsFit blocks j block → fits ≡ true → done tt ≡ verdict (usedOf blocks j block)
+  pub row-passed : (fits : Bool) → sum ≡ checkTarget → fits ≡ fieldsFit blocks j block → fits ≡ true → done tt ≡ verdict (usedOf blocks j block)
   unfolding usedOf
   row-passed fits right reported fit = simp (usedOf, ← added, eq-eqb _ _ right, ← reported, fit)
 
-  pub row-field : (fits : Bool) → sum ≡ checkSum → fits ≡ fieldsFit blocks j block → fits ≡ false → refusal blockField j ≡ verdict (usedOf blocks j block)
+  pub row-field : (fits : Bool) → sum ≡ checkTarget → fits ≡ fieldsFit blocks j block → fits ≡ false → refusal blockField j ≡ verdict (usedOf blocks j block)
   unfolding usedOf
   row-field fits right reported unfit = simp (usedOf, ← added, eq-eqb _ _ right, ← reported, unfit)
 

@@ -16,11 +16,11 @@ const BLOCK_RECORDS: u16 = 63;
 const PART_BYTES: usize = 504;
 
 // The offsets of a block's fields: its number, the records that it uses, the number of blocks.
-const NUMBER_POSITION: usize = 504;
+const NUMBER_OFFSET: usize = 504;
 
-const USED_POSITION: usize = 506;
+const USED_OFFSET: usize = 506;
 
-const BLOCKS_POSITION: usize = 508;
+const BLOCKS_OFFSET: usize = 508;
 
 // What a block's words sum to, modulo 65,536.
 const CHECK_SUM: u16 = 65535;
@@ -70,9 +70,9 @@ fn used_fits(blocks: u16, j: u16, used: u16) -> bool
 fn fields_fit(block: &[u8], blocks: u16, j: u16) -> bool
     ensures { λ r. ⌜ r ≡ fieldsFit blocks j (now (block .entry)) ⌝ }
 {
-    let number = words::read16(block, NUMBER_POSITION);
-    let used = words::read16(block, USED_POSITION);
-    let count = words::read16(block, BLOCKS_POSITION);
+    let number = words::read16(block, NUMBER_OFFSET);
+    let used = words::read16(block, USED_OFFSET);
+    let count = words::read16(block, BLOCKS_OFFSET);
     if number != j {
         return false;
     }

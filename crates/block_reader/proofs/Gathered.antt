@@ -14,7 +14,7 @@ use Rattle.formats.specs.Numbers.{numberAt}
 use Rattle.formats.specs.Written.{written}
 use Rattle.formats.specs.Results.{Result, done, onValue, verdict, each}
 use Rattle.formats.specs.Records.{recordBytes}
-use Rattle.formats.specs.Blocks.{blockBytes, blockRecords, partBytes, usedOffset, lengthRow, usedFits, blockAt, blockRow, concatenated, flatIn, lent}
+use Rattle.formats.specs.Blocks.{blockBytes, blockRecords, recordsBytes, usedOffset, lengthRow, usedFits, blockAt, blockRow, concatenated, flatIn, bufferAfter}
 use Rattle.formats.specs.Inner.Blocks.{mostBytes}
 use Rattle.formats.proofs.Written.{written-none, written-append, wrote}
 use Rattle.formats.proofs.Results.{then-inv, each-inv, each-none, each-length, each-front, each-part, value-inv, refused-is}
@@ -117,7 +117,7 @@ module _ (s : List ℕ) (t : Taken s) where
       ap length (joined-more j h) ∙ length-append (concatenated (take j (t .parts))) (part j) ∙ ap (λ (n : ℕ). length (concatenated (take j (t .parts))) + n) (length-part j h)
 
   -- the blocks before a block are full
-  length-before : (j : ℕ) → j < count → length (concatenated (take j (t .parts))) ≡ partBytes * j
+  length-before : (j : ℕ) → j < count → length (concatenated (take j (t .parts))) ≡ recordsBytes * j
   unfolding concatenated
   length-before zero h = refl
   length-before (suc j) h =
@@ -140,18 +140,18 @@ last-block s passes = omega (arith, some-block s passes)
 pub flat-length : (s last : List ℕ) (n : ℕ) → verdict (flatIn s) ≡ done tt
     → last ≡ take blockBytes (drop (blockBytes * (length s / blockBytes - 1)) s)
     → n ≡ numberAt 2 last usedOffset
-    → done (partBytes * (length s / blockBytes - 1) + recordBytes * n) ≡ onValue length (flatIn s)
+    → done (recordsBytes * (length s / blockBytes - 1) + recordBytes * n) ≡ onValue length (flatIn s)
 flat-length s last n passes there read =
     let t = taken s passes in
     let full : ℕ = count s t - 1 in
     let one-more : suc full ≡ count s t = omega (arith, some-block s passes) in
     let here : full < count s t = omega arith in
     let same : n ≡ used s t full = read ∙ ap (λ (b : List ℕ). numberAt 2 b usedOffset) there in
-    let all : length (concatenated (t .parts)) ≡ partBytes * full + recordBytes * used s t full =
+    let all : length (concatenated (t .parts)) ≡ recordsBytes * full + recordBytes * used s t full =
     ap (λ (l : List (List ℕ)). length (concatenated l)) (sym (all-parts s t) ∙ ap (λ (k : ℕ). take k (t .parts)) (sym one-more))
     ∙ length-more s t full here
     ∙ ap (λ (k : ℕ). k + recordBytes * used s t full) (length-before s t full here) in
-    ap (λ (k : ℕ). done (partBytes * full + recordBytes * k)) same ∙ ap done (sym all) ∙ sym (ap (onValue length) (t .gives))
+    ap (λ (k : ℕ). done (recordsBytes * full + recordBytes * k)) same ∙ ap done (sym all) ∙ sym (ap (onValue length) (t .gives))
 
 -- ---- the parts written one after the other
 
@@ -166,17 +166,17 @@ fits s room passes size = let t = taken s passes in record { passes = passes; en
 -- the parts of the first j blocks are written
 pub record Gathered (s before after : List ℕ) (j : ℕ) : Type 0 where
   pub few : j ≤ length s / blockBytes
-  pub so-far : after ≡ lent before (onValue concatenated (each (blockAt (length s / blockBytes) s) j 0))
+  pub so-far : after ≡ bufferAfter before (onValue concatenated (each (blockAt (length s / blockBytes) s) j 0))
 
 pub gather-none : (s before : List ℕ) → Gathered s before before 0
-unfolding lent concatenated each
+unfolding bufferAfter concatenated each
 gather-none s before = record { few = omega arith; so-far = sym (written-none before 0) }
 
 -- what the first j blocks make of the buffer
 front-lent : (s before : List ℕ) (t : Taken s) (j : ℕ) → j ≤ count s t
-    → lent before (onValue concatenated (each (blockAt (count s t) s) j 0)) ≡ written before 0 (concatenated (take j (t .parts)))
-unfolding lent
-front-lent s before t j h = ap (λ (r : Result (List (List ℕ))). lent before (onValue concatenated r)) (each-front (blockAt (count s t) s) (count s t) j 0 (t .parts) (t .row) h)
+    → bufferAfter before (onValue concatenated (each (blockAt (count s t) s) j 0)) ≡ written before 0 (concatenated (take j (t .parts)))
+unfolding bufferAfter
+front-lent s before t j h = ap (λ (r : Result (List (List ℕ))). bufferAfter before (onValue concatenated r)) (each-front (blockAt (count s t) s) (count s t) j 0 (t .parts) (t .row) h)
 
 module _ (s before : List ℕ) (passes : verdict (flatIn s) ≡ done tt) (size : length before ≡ mostBytes) where
   f : Fits s (length before)
@@ -187,7 +187,7 @@ module _ (s before : List ℕ) (passes : verdict (flatIn s) ≡ done tt) (size :
 
   pub gather-more : (after block next : List ℕ) (j used : ℕ) → j < length s / blockBytes → Gathered s before after j
       → block ≡ take blockBytes (drop (blockBytes * j) s) → used ≡ numberAt 2 block usedOffset
-      → next ≡ written after (partBytes * j) (take (recordBytes * used) block)
+      → next ≡ written after (recordsBytes * j) (take (recordBytes * used) block)
       → Gathered s before next (j + 1)
   unfolding t
   gather-more after block next j used more c there read wrote =
@@ -196,28 +196,28 @@ module _ (s before : List ℕ) (passes : verdict (flatIn s) ≡ done tt) (size :
       ap (λ (k : ℕ). take (recordBytes * k) block) read ∙ ap (λ (b : List ℕ). take (recordBytes * numberAt 2 b usedOffset) b) there in
       let both : front ++ part s t j ≡ concatenated (take (suc j) (t .parts)) = sym (joined-more s t j more) in
       let room : 0 + length (front ++ part s t j) ≤ length before = rw both (omega (arith, joined-front (suc j) (t .parts), f .enough)) in
-      let position : partBytes * j ≡ 0 + length front = omega (arith, length-before s t j more) in
+      let position : recordsBytes * j ≡ 0 + length front = omega (arith, length-before s t j more) in
       record {
         few = omega arith;
         so-far =
             rw add-one
             (wrote
-            ∙ ap₂ (λ (l vs : List ℕ). written l (partBytes * j) vs) (c .so-far ∙ front-lent s before t j (c .few)) same
+            ∙ ap₂ (λ (l vs : List ℕ). written l (recordsBytes * j) vs) (c .so-far ∙ front-lent s before t j (c .few)) same
             ∙ ap (λ (p : ℕ). written (written before 0 front) p (part s t j)) position
             ∙ written-append before 0 front (part s t j) room
             ∙ ap (written before 0) both
             ∙ sym (front-lent s before t (suc j) (omega arith)));
       }
 
-  pub gather-all : (after : List ℕ) (j : ℕ) → length s / blockBytes ≤ j → Gathered s before after j → after ≡ lent before (flatIn s)
-  unfolding lent t
+  pub gather-all : (after : List ℕ) (j : ℕ) → length s / blockBytes ≤ j → Gathered s before after j → after ≡ bufferAfter before (flatIn s)
+  unfolding bufferAfter t
   gather-all after j all c =
       let done-all : j ≡ count s t = omega (arith, c .few) in
       c .so-far
       ∙ front-lent s before t j (c .few)
       ∙ ap (λ (k : ℕ). written before 0 (concatenated (take k (t .parts)))) done-all
       ∙ ap (λ (l : List (List ℕ)). written before 0 (concatenated l)) (all-parts s t)
-      ∙ sym (ap (lent before) (t .gives))
+      ∙ sym (ap (bufferAfter before) (t .gives))
 
   -- a block holds the records that it uses
   pub gather-inside : (block : List ℕ) (j used : ℕ) → j < length s / blockBytes → block ≡ take blockBytes (drop (blockBytes * j) s) → used ≡ numberAt 2 block usedOffset
@@ -250,11 +250,11 @@ take-refused s before rows why position reported is = put-refused _ before why p
 pub take-passes : (s : List ℕ) (rows : Verdict) → verdictResult rows ≡ verdict (flatIn s) → rows ≡ verdict-is.Passed → verdict (flatIn s) ≡ done tt
 take-passes s rows reported is = sym reported ∙ ap verdictResult is
 
-pub take-done : (s before after : List ℕ) (bytes : ℕ) → done bytes ≡ onValue length (flatIn s) → after ≡ lent before (flatIn s)
+pub take-done : (s before after : List ℕ) (bytes : ℕ) → done bytes ≡ onValue length (flatIn s) → after ≡ bufferAfter before (flatIn s)
     → FilledBuffer (flatIn s) before after (filled.Written bytes)
-unfolding lent
+unfolding bufferAfter
 take-done s before after bytes e wrote =
     let f = flat s bytes e in
-    put-done _ before after (f .records) bytes (f .is) (f .measure) (wrote ∙ ap (lent before) (f .is))
+    put-done _ before after (f .records) bytes (f .is) (f .measure) (wrote ∙ ap (bufferAfter before) (f .is))
 
 pub ruleset taken-out = (take-refused, take-passes, take-done)

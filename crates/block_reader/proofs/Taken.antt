@@ -7,7 +7,7 @@ use native.Mathlib.Omega.{arith}
 use lib.ListN.{length, take, drop, length-append}
 use lib.Seq.{take-at}
 use Rattle.formats.specs.Results.{done, refusal}
-use Rattle.formats.specs.Blocks.{flatIn, lent}
+use Rattle.formats.specs.Blocks.{flatIn, bufferAfter}
 use Rattle.formats.specs.Inner.Blocks.{mostBytes}
 use Rattle.formats.proofs.Results.{value-inv, value-refused}
 use Rattle.formats.proofs.Written.{written-fits}
@@ -30,12 +30,12 @@ module _ (s space : List ℕ) (size : length space ≡ mostBytes) (after : List 
   not-taken why position is = value-refused length (flatIn s) (number why) position (sym (put .answer) ∙ ap filledResult is)
 
   pub taken-out : (bytes : ℕ) → taken ≡ Written bytes → Taken s after bytes
-  unfolding lent
+  unfolding bufferAfter
   taken-out bytes is =
       let v = value-inv length (flatIn s) bytes (sym (put .answer) ∙ ap filledResult is) in
       let fits : 0 + length (v .value) ≤ length space = omega (arith, size, flat-short s (v .value) (v .first)) in
       let wrote : after ≡ v .value ++ drop (0 + length (v .value)) space =
-      put .buffer ∙ ap (lent space) (v .first) ∙ written-fits space 0 (v .value) fits in
+      put .buffer ∙ ap (bufferAfter space) (v .first) ∙ written-fits space 0 (v .value) fits in
       record {
         flat = v .value;
         is = v .first;

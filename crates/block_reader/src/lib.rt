@@ -7,7 +7,7 @@ ghost use Prim.Native.Nat.{_+_, _*_, _≤_};
 ghost use mathlib.Core.Path.{_≡_};
 ghost use lib.ListN.{length, take, drop};
 ghost use Rattle.formats.specs.Results.{done, verdict, onValue};
-ghost use Rattle.formats.specs.Blocks.{blockBytes, blockRow, flatIn, lent};
+ghost use Rattle.formats.specs.Blocks.{blockBytes, blockRow, flatIn, bufferAfter};
 ghost use Rattle.formats.specs.Inner.Blocks.{mostBytes};
 ghost use Rattle.refusal.specs.Inner.FilledBuffer.{FilledBuffer};
 ghost use Rattle.refusal.specs.Inner.Verdicts.{verdictResult};
@@ -22,7 +22,7 @@ const MOST_BLOCKS: usize = 17;
 const PART_BYTES: usize = 504;
 
 // The offset in a block of the number of records that it uses.
-const USED_POSITION: usize = 506;
+const USED_OFFSET: usize = 506;
 
 // The most bytes of flat records: those of 17 blocks of 63 records, 8 bytes each.
 pub const MOST_BYTES: usize = 8568;
@@ -76,7 +76,7 @@ fn flat_bytes(file: &[u8]) -> usize
     ensures { λ r. ⌜ done r ≡ onValue length (flatIn (now (file .entry))) ⌝ }
 {
     let full = file.len() / BLOCK_BYTES - 1;
-    let used = words::read16(block_at(file, full), USED_POSITION) as usize;
+    let used = words::read16(block_at(file, full), USED_OFFSET) as usize;
     PART_BYTES * full + RECORD_BYTES * used
 }
 
@@ -84,13 +84,13 @@ fn flat_bytes(file: &[u8]) -> usize
 // has room for those of every file.
 fn gather(file: &[u8], flat: &mut [u8])
     requires { ⌜ (verdict (flatIn (now file)) ≡ done tt) × (length (now flat) ≡ mostBytes) ⌝ }
-    ensures { λ _. ⌜ now (flat .exit) ≡ lent (now (flat .entry)) (flatIn (now (file .entry))) ⌝ }
+    ensures { λ _. ⌜ now (flat .exit) ≡ bufferAfter (now (flat .entry)) (flatIn (now (file .entry))) ⌝ }
 {
     let blocks = file.len() / BLOCK_BYTES;
     let mut j = 0;
     while j < blocks {
         let block = block_at(file, j);
-        let used = words::read16(block, USED_POSITION) as usize;
+        let used = words::read16(block, USED_OFFSET) as usize;
         writing::write_bytes(flat, PART_BYTES * j, &block[..RECORD_BYTES * used]);
         j = j + 1;
     }

@@ -12,7 +12,7 @@ use lib.Seq.{length-take-le, take-all, drop-at, drop-drop, take-append-seam}
 use Rattle.formats.specs.Numbers.{bytesOf}
 use Rattle.formats.specs.Written.{written}
 use Rattle.formats.specs.Records.{recordBytes}
-use Rattle.formats.specs.Blocks.{blockBytes, partBytes, numberOffset, usedOffset, blocksOffset, wordSum, checkSum, wordLimit, checkWord, blockBody, blockOf, blocksFrom, blocksFor, fileOf, inRoom}
+use Rattle.formats.specs.Blocks.{blockBytes, recordsBytes, numberOffset, usedOffset, blocksOffset, wordSum, checkTarget, wordLimit, checkWord, blockBody, blockOf, blocksFrom, blocksFor, fileOf, inRoom}
 use Rattle.formats.specs.Inner.Blocks.{checkOffset}
 use Rattle.formats.proofs.Numbers.{length-bytesOf}
 use Rattle.formats.proofs.Written.{written-none, written-fits, written-append, wrote}
@@ -61,18 +61,18 @@ drop-blank n m h =
 
 pub records-written : (s t u part : List ℕ) (start : ℕ)
     → start + blockBytes ≤ length s
-    → length part ≤ partBytes
+    → length part ≤ recordsBytes
     → t ≡ written s start part
-    → u ≡ written t (start + length part) (take (partBytes - length part) (drop (length part) (blank partBytes)))
+    → u ≡ written t (start + length part) (take (recordsBytes - length part) (drop (length part) (blank recordsBytes)))
     → u ≡ written s start (padded part)
 records-written s t u part start room short first second =
-    let Z : List ℕ = blank (partBytes - length part) in
-    let zeros : u ≡ written t (start + length part) Z = second ∙ ap (written t (start + length part)) (drop-blank (length part) partBytes short) in
+    let Z : List ℕ = blank (recordsBytes - length part) in
+    let zeros : u ≡ written t (start + length part) Z = second ∙ ap (written t (start + length part)) (drop-blank (length part) recordsBytes short) in
     write-later s t u start (start + length part) part Z first zeros refl (omega (arith, length-padded part short))
 
 pub body-written : (s s1 s2 s3 s4 part : List ℕ) (start j blocks : ℕ)
     → start + blockBytes ≤ length s
-    → length part ≤ partBytes
+    → length part ≤ recordsBytes
     → s1 ≡ written s start (padded part)
     → s2 ≡ written s1 (start + numberOffset) (bytesOf 2 (j % wordLimit))
     → s3 ≡ written s2 (start + usedOffset) (bytesOf 2 (length part / recordBytes))
@@ -106,10 +106,10 @@ written-there s p vs h =
 
 pub check-written : (s t u part : List ℕ) (start j blocks sum : ℕ)
     → start + blockBytes ≤ length s
-    → length part ≤ partBytes
+    → length part ≤ recordsBytes
     → t ≡ written s start (blockBody part j blocks)
     → sum ≡ wordSum (take (start + checkOffset - start) (drop start t)) % wordLimit
-    → u ≡ written t (start + checkOffset) (bytesOf 2 (checkSum - sum))
+    → u ≡ written t (start + checkOffset) (bytesOf 2 (checkTarget - sum))
     → u ≡ written s start (blockOf part j blocks)
 unfolding blockOf checkWord
 check-written s t u part start j blocks sum room short first added second =
@@ -120,7 +120,7 @@ check-written s t u part start j blocks sum room short first added second =
     let long : start + checkOffset - start ≡ length body = omega arith in
     let there : take (start + checkOffset - start) (drop start t) ≡ body =
     ap₂ (λ (k : ℕ) (l : List ℕ). take k (drop start l)) long first ∙ written-there s start body (omega arith) in
-    let right : checkSum - sum ≡ checkWord body = ap (λ (m : ℕ). checkSum - m) (added ∙ ap (λ (l : List ℕ). wordSum l % wordLimit) there) in
+    let right : checkTarget - sum ≡ checkWord body = ap (λ (m : ℕ). checkTarget - m) (added ∙ ap (λ (l : List ℕ). wordSum l % wordLimit) there) in
     let check : u ≡ written t (start + checkOffset) word = second ∙ ap (λ (m : ℕ). written t (start + checkOffset) (bytesOf 2 m)) right in
     write-later s t u start (start + checkOffset) body word first check (omega arith) (omega arith)
 
@@ -128,18 +128,18 @@ check-written s t u part start j blocks sum room short first added second =
 
 -- one more block after those that are there
 blocks-more : (blocks k j : ℕ) (s : List ℕ)
-    → blocksFrom blocks (suc k) j s ≡ blocksFrom blocks k j s ++ blockOf (take partBytes (drop (partBytes * k) s)) (j + k) blocks
+    → blocksFrom blocks (suc k) j s ≡ blocksFrom blocks k j s ++ blockOf (take recordsBytes (drop (recordsBytes * k) s)) (j + k) blocks
 unfolding blocksFrom
 blocks-more blocks zero j s =
-    append-nil (blockOf (take partBytes s) j blocks) ∙ ap (λ (i : ℕ). blockOf (take partBytes s) i blocks) (sym (add-zero j))
+    append-nil (blockOf (take recordsBytes s) j blocks) ∙ ap (λ (i : ℕ). blockOf (take recordsBytes s) i blocks) (sym (add-zero j))
 blocks-more blocks (suc k) j s =
-    let first : List ℕ = blockOf (take partBytes s) j blocks in
-    let rest : List ℕ = drop partBytes s in
-    let position : drop (partBytes * k) rest ≡ drop (partBytes * suc k) s =
-    drop-drop (partBytes * k) partBytes s ∙ (let e : partBytes + partBytes * k ≡ partBytes * suc k = omega arith in ap (λ (i : ℕ). drop i s) e) in
+    let first : List ℕ = blockOf (take recordsBytes s) j blocks in
+    let rest : List ℕ = drop recordsBytes s in
+    let position : drop (recordsBytes * k) rest ≡ drop (recordsBytes * suc k) s =
+    drop-drop (recordsBytes * k) recordsBytes s ∙ (let e : recordsBytes + recordsBytes * k ≡ recordsBytes * suc k = omega arith in ap (λ (i : ℕ). drop i s) e) in
     ap (λ (l : List ℕ). first ++ l) (blocks-more blocks k (suc j) rest)
     ∙ sym (append-assoc first (blocksFrom blocks k (suc j) rest) _)
-    ∙ ap₂ (λ (l : List ℕ) (i : ℕ). (first ++ blocksFrom blocks k (suc j) rest) ++ blockOf (take partBytes l) i blocks) position (suc-add j k ∙ sym (add-suc j k))
+    ∙ ap₂ (λ (l : List ℕ) (i : ℕ). (first ++ blocksFrom blocks k (suc j) rest) ++ blockOf (take recordsBytes l) i blocks) position (suc-add j k ∙ sym (add-suc j k))
 
 -- the first j blocks are written
 pub record Stored (s before after : List ℕ) (blocks j : ℕ) : Type 0 where
@@ -152,7 +152,7 @@ unfolding blocksFrom
 stored-none s before blocks = record { few = omega arith; same-length = refl; so-far = sym (written-none before 0) }
 
 -- the next part begins within the flat records, and its block has room
-pub stored-part : (s : List ℕ) (blocks j : ℕ) → blocks ≡ blocksFor (length s) → j < blocks → partBytes * j ≤ length s
+pub stored-part : (s : List ℕ) (blocks j : ℕ) → blocks ≡ blocksFor (length s) → j < blocks → recordsBytes * j ≤ length s
 unfolding blocksFor
 stored-part s blocks j count more = omega arith
 
@@ -160,21 +160,21 @@ pub stored-room : (s before after : List ℕ) (blocks j : ℕ) → blockBytes * 
     → blockBytes * j + blockBytes ≤ length after
 stored-room s before after blocks j room more c = omega (arith, c .same-length)
 
-pub stored-short : (s part : List ℕ) (j : ℕ) → part ≡ take partBytes (drop (partBytes * j) s) → length part ≤ partBytes
+pub stored-short : (s part : List ℕ) (j : ℕ) → part ≡ take recordsBytes (drop (recordsBytes * j) s) → length part ≤ recordsBytes
 stored-short s part j is = rw (is, length-take) (omega arith)
 
 pub stored-more : (s before after next part : List ℕ) (blocks j : ℕ)
     → blockBytes * blocks ≤ length before
     → j < blocks
     → Stored s before after blocks j
-    → part ≡ take partBytes (drop (partBytes * j) s)
+    → part ≡ take recordsBytes (drop (recordsBytes * j) s)
     → next ≡ written after (blockBytes * j) (blockOf part j blocks)
     → Stored s before next blocks (j + 1)
 stored-more s before after next part blocks j room more c is second =
-    let block : List ℕ = blockOf (take partBytes (drop (partBytes * j) s)) j blocks in
+    let block : List ℕ = blockOf (take recordsBytes (drop (recordsBytes * j) s)) j blocks in
     let front : List ℕ = blocksFrom blocks j 0 s in
     let both : blocksFrom blocks (suc j) 0 s ≡ front ++ block =
-    blocks-more blocks j 0 s ∙ ap (λ (i : ℕ). front ++ blockOf (take partBytes (drop (partBytes * j) s)) i blocks) (zero-add j) in
+    blocks-more blocks j 0 s ∙ ap (λ (i : ℕ). front ++ blockOf (take recordsBytes (drop (recordsBytes * j) s)) i blocks) (zero-add j) in
     let size : length (front ++ block) ≡ blockBytes * suc j = ap length (sym both) ∙ length-blocks blocks (suc j) 0 s in
     let later : next ≡ written after (blockBytes * j) block = second ∙ ap (λ (p : List ℕ). written after (blockBytes * j) (blockOf p j blocks)) is in
     record {
@@ -203,7 +203,7 @@ pub ruleset stored = (stored-none, stored-part, stored-room, stored-short, store
 
 module _ (s before : List ℕ) where
   abbrev count : ℕ
-  count = (length s + (partBytes - 1)) / partBytes
+  count = (length s + (recordsBytes - 1)) / recordsBytes
 
   -- as many blocks as the file has, each whole
   size : length (fileOf s) ≡ blockBytes * count

@@ -6,7 +6,7 @@ ghost use mathlib.Core.Path.{_≡_};
 ghost use mathlib.Core.List.{_++_};
 ghost use lib.ListN.{length, take, drop, replicate};
 ghost use Rattle.formats.specs.Written.{written};
-ghost use Rattle.formats.specs.Blocks.{blockBytes, partBytes, blockBody, blockOf, blocksFor, fileOf, inRoom};
+ghost use Rattle.formats.specs.Blocks.{blockBytes, recordsBytes, blockBody, blockOf, blocksFor, fileOf, inRoom};
 ghost use Rattle.refusal.specs.Inner.FilledBuffer.{FilledBuffer};
 
 const RECORD_BYTES: usize = 8;
@@ -18,13 +18,13 @@ const PART_BYTES: usize = 504;
 
 // The offsets of a block's fields: its number, the records that it uses, the number of blocks, the
 // check.
-const NUMBER_POSITION: usize = 504;
+const NUMBER_OFFSET: usize = 504;
 
-const USED_POSITION: usize = 506;
+const USED_OFFSET: usize = 506;
 
-const BLOCKS_POSITION: usize = 508;
+const BLOCKS_OFFSET: usize = 508;
 
-const CHECK_POSITION: usize = 510;
+const CHECK_OFFSET: usize = 510;
 
 // How many values a 16-bit word has.
 const WORD_LIMIT: usize = 65536;
@@ -34,9 +34,9 @@ const CHECK_SUM: u16 = 65535;
 
 // Writes the records of a block from offset `start` on, and zeros for those that it does not use.
 fn write_records(file: &mut [u8], start: usize, part: &[u8])
-    requires { ⌜ (start + blockBytes ≤ length (now file)) × (length (now part) ≤ partBytes) ⌝ }
+    requires { ⌜ (start + blockBytes ≤ length (now file)) × (length (now part) ≤ recordsBytes) ⌝ }
     ensures { λ _. ⌜ now (file .exit) ≡ written (now (file .entry)) start
-        (now (part .entry) ++ replicate (partBytes - length (now (part .entry))) 0) ⌝ }
+        (now (part .entry) ++ replicate (recordsBytes - length (now (part .entry))) 0) ⌝ }
 {
     let zeros = [0u8; PART_BYTES];
     let bytes = part.len();
@@ -46,32 +46,32 @@ fn write_records(file: &mut [u8], start: usize, part: &[u8])
 
 // Writes block j, but for its check, from offset `start` on: its records, then its fields.
 fn write_body(file: &mut [u8], start: usize, part: &[u8], blocks: usize, j: usize)
-    requires { ⌜ (start + blockBytes ≤ length (now file)) × (length (now part) ≤ partBytes) ⌝ }
+    requires { ⌜ (start + blockBytes ≤ length (now file)) × (length (now part) ≤ recordsBytes) ⌝ }
     ensures { λ _. ⌜ now (file .exit) ≡ written (now (file .entry)) start
         (blockBody (now (part .entry)) j blocks) ⌝ }
 {
     let used = part.len() / RECORD_BYTES;
     write_records(file, start, part);
-    writing::write16(file, start + NUMBER_POSITION, (j % WORD_LIMIT) as u16);
-    writing::write16(file, start + USED_POSITION, used as u16);
-    writing::write16(file, start + BLOCKS_POSITION, (blocks % WORD_LIMIT) as u16);
+    writing::write16(file, start + NUMBER_OFFSET, (j % WORD_LIMIT) as u16);
+    writing::write16(file, start + USED_OFFSET, used as u16);
+    writing::write16(file, start + BLOCKS_OFFSET, (blocks % WORD_LIMIT) as u16);
 }
 
 // Writes block j from offset `start` on, with the check word that makes its words sum to 65,535.
 fn write_block(file: &mut [u8], start: usize, part: &[u8], blocks: usize, j: usize)
-    requires { ⌜ (start + blockBytes ≤ length (now file)) × (length (now part) ≤ partBytes) ⌝ }
+    requires { ⌜ (start + blockBytes ≤ length (now file)) × (length (now part) ≤ recordsBytes) ⌝ }
     ensures { λ _. ⌜ now (file .exit) ≡ written (now (file .entry)) start
         (blockOf (now (part .entry)) j blocks) ⌝ }
 {
     write_body(file, start, part, blocks, j);
-    let sum = block_check::word_sum(&file[start..start + CHECK_POSITION]);
-    writing::write16(file, start + CHECK_POSITION, CHECK_SUM - sum);
+    let sum = block_check::word_sum(&file[start..start + CHECK_OFFSET]);
+    writing::write16(file, start + CHECK_OFFSET, CHECK_SUM - sum);
 }
 
 // The flat records that go into block j.
 fn part_of(flat: &[u8], j: usize) -> &[u8]
-    requires { ⌜ partBytes * j ≤ length (now flat) ⌝ }
-    ensures { λ r. ⌜ now r ≡ take partBytes (drop (partBytes * j) (now (flat .entry))) ⌝ }
+    requires { ⌜ recordsBytes * j ≤ length (now flat) ⌝ }
+    ensures { λ r. ⌜ now r ≡ take recordsBytes (drop (recordsBytes * j) (now (flat .entry))) ⌝ }
 {
     let start = PART_BYTES * j;
     if flat.len() - start < PART_BYTES {

@@ -10,7 +10,7 @@ use lib.ListN.{length, take, length-append}
 use Rattle.formats.specs.Numbers.{Bytes}
 use Rattle.formats.specs.Results.{done, each}
 use Rattle.formats.specs.Records.{recordAt}
-use Rattle.formats.specs.Programs.{size, Signature, arityOf, total, Function, signatureOf, Program, signatures}
+use Rattle.formats.specs.Programs.{size, Signature, arityOf, sumOfCounts, Function, signatureOf, Program, signatures}
 use Rattle.formats.specs.Inner.Limits.{mostRecords}
 use Rattle.formats.specs.Rows.{readProgram}
 use Rattle.formats.specs.Inner.Fields.{headerIn, functionIn}
@@ -35,16 +35,16 @@ use Rattle.decode.specs.Inner.Walk.{Agrees, Small, Entering, Filled, Fil
 -- ---- the first records and the arities of a program's functions
 
 -- the node counts of functions that were read, summed
-total-is : (s : List ℕ) (n j : ℕ) (gs : List Signature) → each (functionIn s) n j ≡ done gs → total gs ≡ countsFrom n s j
-unfolding total countsFrom
-total-is s zero j gs e = ap total (each-none (functionIn s) j gs e)
+total-is : (s : List ℕ) (n j : ℕ) (gs : List Signature) → each (functionIn s) n j ≡ done gs → sumOfCounts gs ≡ countsFrom n s j
+unfolding sumOfCounts countsFrom
+total-is s zero j gs e = ap sumOfCounts (each-none (functionIn s) j gs e)
 total-is s (suc n) j gs e =
     let i = each-inv (functionIn s) n j gs e in
-    ap total (i .both) ∙ ap₂ _+_ (function-read s j (i .head) (i .here) .count) (total-is s n (suc j) (i .tail) (i .later))
+    ap sumOfCounts (i .both) ∙ ap₂ _+_ (function-read s j (i .head) (i .here) .count) (total-is s n (suc j) (i .tail) (i .later))
 
 -- the first functions have no more nodes than all of them
-total-front : (b : ℕ) (gs : List Signature) → total (take b gs) ≤ total gs
-unfolding total
+total-front : (b : ℕ) (gs : List Signature) → sumOfCounts (take b gs) ≤ sumOfCounts gs
+unfolding sumOfCounts
 total-front zero gs = omega arith
 total-front (suc b) [] = omega arith
 total-front (suc b) (g ∷ gs) = omega (arith, total-front b gs)
@@ -75,7 +75,7 @@ pub record Left (s : List ℕ) (functions end : ℕ) (table₀ table : List ℕ)
   pub agrees : Agrees s (firstRecord program) (arityOf (signatures program))
   pub held : Bodies s (signatures program) j k others
   pub many : j + length others ≡ functions
-  pub ends : k + total (map signatureOf others) ≡ end
+  pub ends : k + sumOfCounts (map signatureOf others) ≡ end
   pub due : tabled table₀ program ≡ written table (rowWords * k) (rowsOfAll (firstRecord program) (arityOf (signatures program)) k others)
 
 -- The same for every program that the records stand for, with the lengths of the table and of the
@@ -140,15 +140,15 @@ module _ (s : List ℕ) (functions end : ℕ) (table₀ cases₀ table cases : L
       holds : Holds s (signatures program) k (here .body)
       after : Bodies s (signatures program) (suc j) (k + size (here .body)) others
       many : suc j + length others ≡ functions
-      ends : k + size (here .body) + total (map signatureOf others) ≡ end
+      ends : k + size (here .body) + sumOfCounts (map signatureOf others) ≡ end
       due : tabled table₀ program ≡ written table (rowWords * k) (rowsOfAll (firstRecord program) (arityOf (signatures program)) k (here ∷ others))
 
     -- there is a function j
     turn : (program : Program) → readProgram s ≡ done program → Turn program
-    unfolding total signatureOf
+    unfolding sumOfCounts signatureOf
     turn program e = let f = l .left program e in by (f .others) (f .held) (f .many) (f .ends) (f .due)
       where
-        by : (fs : List Function) → Bodies s (signatures program) j k fs → j + length fs ≡ functions → k + total (map signatureOf fs) ≡ end
+        by : (fs : List Function) → Bodies s (signatures program) j k fs → j + length fs ≡ functions → k + sumOfCounts (map signatureOf fs) ≡ end
             → tabled table₀ program ≡ written table (rowWords * k) (rowsOfAll (firstRecord program) (arityOf (signatures program)) k fs)
             → Turn program
         by [] no-more many ends due = absurd (omega arith)

@@ -7,7 +7,7 @@ use native.Mathlib.Omega.{arith}
 use lib.Dec.{leb}
 use lib.ListN.{length}
 use Rattle.formats.specs.Refusals.{spaceTooShort}
-use Rattle.formats.specs.Results.{Result, done, refusal, verdict, check, andThen}
+use Rattle.formats.specs.Results.{Result, done, refusal, verdict, valueIf, andThen}
 use Rattle.formats.specs.Inner.Limits.{mostRecords}
 use Rattle.formats.specs.Rows.{readProgram}
 use Rattle.formats.proofs.Results.{Followed, byResult, then-done, then-refused, then-inv}
@@ -47,7 +47,7 @@ module _ (s table : List ℕ) where
       unfolding checkOne
       the-program = then-inv (readProgram s) passOne tt (sym reported ∙ ap verdictResult passes)
 
-      into : decoded s table ≡ check (leb tableWords (length table)) spaceTooShort 0 (tabled table (the-program .value))
+      into : decoded s table ≡ valueIf (leb tableWords (length table)) spaceTooShort 0 (tabled table (the-program .value))
       unfolding decoded
       into = then-done _ (the-program .first) ∙ then-done _ (the-program .second)
 

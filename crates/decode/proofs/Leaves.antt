@@ -8,7 +8,7 @@ use native.Mathlib.Omega.{arith}
 use borrow.Author.Tests.{ltb-true}
 use lib.ListN.{getD, take}
 use lib.Seq.{getD-take}
-use Rattle.formats.specs.Records.{Kind, Const, Var, Add, IfZero, Let, Leaf, Node, Case, Call, below}
+use Rattle.formats.specs.Records.{Kind, Const, Var, Add, IfZero, Let, Leaf, Node, Case, Call, functionBelow}
 use Rattle.formats.specs.Inner.Limits.{mostRecords}
 use Rattle.formats.specs.Inner.Fields.{headerIn}
 use Rattle.walks.specs.Inner.Limits.{mostCount}
@@ -37,8 +37,8 @@ low-word : (n most : ℕ) → n ≤ most → most < 65536 → n % 65536 ≡ n
 low-word n most h g = omega arith
 
 module _ (s cases : List ℕ) (p : Location) (entry arity : ℕ → ℕ) (more : ℕ) (agrees : Agrees s entry arity) (few : p .names ≤ mostCount) (stacked : Stacked cases (p .depth) more) where
-  pub reported : (kind : Kind) → below (headerIn s .functions) kind ≡ true → Reported entry arity (locationWith p cases) kind (ownIn s cases (p .names) (p .depth) kind)
-  unfolding ownIn actionOf operandIn treeIn operandOf treeOf moreOf below
+  pub reported : (kind : Kind) → functionBelow (headerIn s .functions) kind ≡ true → Reported entry arity (locationWith p cases) kind (ownIn s cases (p .names) (p .depth) kind)
+  unfolding ownIn actionOf operandIn treeIn operandOf treeOf moreOf functionBelow
   reported (Const i) low = record { action = refl; operand = refl; tree = refl; more = refl }
   reported (Var a) low = record { action = refl; operand = refl; tree = refl; more = refl }
   reported Add low = record { action = refl; operand = refl; tree = refl; more = refl }

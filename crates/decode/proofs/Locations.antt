@@ -156,33 +156,33 @@ module _ (part : RecordPart) (node : Record) (r i count k end : ℕ) (p q : Loca
 
 -- it is the location wanted, with the stack as noted: what a part names by its kind is what it
 -- names by itself
-pub place-inside : (entry arity : ℕ → ℕ) (kind : Kind) (r i count : ℕ) (p : Location) (cases : List ℕ) → Counted arity kind count → i < count → r ≤ mostRecords → p .depth < length cases
+pub location-inside : (entry arity : ℕ → ℕ) (kind : Kind) (r i count : ℕ) (p : Location) (cases : List ℕ) → Counted arity kind count → i < count → r ≤ mostRecords → p .depth < length cases
     → locationWith (insideLocation (nthPart (partsOf kind) i) kind r i count p) (noted (nthPart (partsOf kind) i) r (p .depth) cases) ≡ partLocation entry arity (locationWith p cases) kind r i
 unfolding insideLocation namesUnder noted roleOf slotOf namesIn keepsIn casesIn deeper partsOf partCount nthPart nth
-place-inside entry arity (aConst c) r i count p cases counted more low room = absurd (omega (arith, counted .is))
-place-inside entry arity (aVar a) r i count p cases counted more low room = absurd (omega (arith, counted .is))
-place-inside entry arity anAdd r zero count p cases counted more low room = refl
-place-inside entry arity anAdd r (suc zero) count p cases counted more low room = refl
-place-inside entry arity anAdd r (suc (suc i)) count p cases counted more low room = absurd (omega (arith, counted .is))
-place-inside entry arity anIfZero r zero count p cases counted more low room = refl
-place-inside entry arity anIfZero r (suc zero) count p cases counted more low room = refl
-place-inside entry arity anIfZero r (suc (suc zero)) count p cases counted more low room = refl
-place-inside entry arity anIfZero r (suc (suc (suc i))) count p cases counted more low room = absurd (omega (arith, counted .is))
-place-inside entry arity aLet r zero count p cases counted more low room = refl
-place-inside entry arity aLet r (suc zero) count p cases counted more low room = refl
-place-inside entry arity aLet r (suc (suc i)) count p cases counted more low room = absurd (omega (arith, counted .is))
-place-inside entry arity aLeaf r zero count p cases counted more low room = refl
-place-inside entry arity aLeaf r (suc i) count p cases counted more low room = absurd (omega (arith, counted .is))
-place-inside entry arity aNode r zero count p cases counted more low room = refl
-place-inside entry arity aNode r (suc zero) count p cases counted more low room = refl
-place-inside entry arity aNode r (suc (suc i)) count p cases counted more low room = absurd (omega (arith, counted .is))
-place-inside entry arity (aCase a) r zero count p cases counted more low room = refl
-place-inside entry arity (aCase a) r (suc zero) count p cases counted more low room =
+location-inside entry arity (aConst c) r i count p cases counted more low room = absurd (omega (arith, counted .is))
+location-inside entry arity (aVar a) r i count p cases counted more low room = absurd (omega (arith, counted .is))
+location-inside entry arity anAdd r zero count p cases counted more low room = refl
+location-inside entry arity anAdd r (suc zero) count p cases counted more low room = refl
+location-inside entry arity anAdd r (suc (suc i)) count p cases counted more low room = absurd (omega (arith, counted .is))
+location-inside entry arity anIfZero r zero count p cases counted more low room = refl
+location-inside entry arity anIfZero r (suc zero) count p cases counted more low room = refl
+location-inside entry arity anIfZero r (suc (suc zero)) count p cases counted more low room = refl
+location-inside entry arity anIfZero r (suc (suc (suc i))) count p cases counted more low room = absurd (omega (arith, counted .is))
+location-inside entry arity aLet r zero count p cases counted more low room = refl
+location-inside entry arity aLet r (suc zero) count p cases counted more low room = refl
+location-inside entry arity aLet r (suc (suc i)) count p cases counted more low room = absurd (omega (arith, counted .is))
+location-inside entry arity aLeaf r zero count p cases counted more low room = refl
+location-inside entry arity aLeaf r (suc i) count p cases counted more low room = absurd (omega (arith, counted .is))
+location-inside entry arity aNode r zero count p cases counted more low room = refl
+location-inside entry arity aNode r (suc zero) count p cases counted more low room = refl
+location-inside entry arity aNode r (suc (suc i)) count p cases counted more low room = absurd (omega (arith, counted .is))
+location-inside entry arity (aCase a) r zero count p cases counted more low room = refl
+location-inside entry arity (aCase a) r (suc zero) count p cases counted more low room =
     let own : r % 65536 ≡ r = omega arith in
     ap (λ (l : List ℕ). record { role = 4; parent = r; slot = 0; names = p .names; keeps = p .keeps; cases = l })
     (take-suc-set cases (p .depth) (r % 65536) room ∙ ap (λ n. take (p .depth) cases ++ (n ∷ [])) own)
-place-inside entry arity (aCase a) r (suc (suc i)) count p cases counted more low room = absurd (omega (arith, counted .is))
-place-inside entry arity (aCall a b) r i count p cases counted more low room =
+location-inside entry arity (aCase a) r (suc (suc i)) count p cases counted more low room = absurd (omega (arith, counted .is))
+location-inside entry arity (aCall a b) r i count p cases counted more low room =
     ap (λ n. locationWith (insideLocation aNumber (aCall a b) r i n p) cases) (sym (counted .is))
 
 -- ---- the stack

@@ -11,7 +11,7 @@ use borrow.Author.Needs.{needs}
 use borrow.Author.Tests.{ltb-true}
 use lib.ListN.{length, length-append}
 use Rattle.formats.specs.Results.{onValue}
-use Rattle.formats.specs.Records.{Kind, below, partsOf, partCount, nthPart}
+use Rattle.formats.specs.Records.{Kind, functionBelow, partsOf, partCount, nthPart}
 use Rattle.formats.specs.Records.{Const as aConst, Var as aVar, Add as anAdd, IfZero as anIfZero, Let as aLet, Leaf as aLeaf, Node as aNode, Case as aCase, Call as aCall}
 use Rattle.formats.specs.Programs.{Expr, size, Placed, placedAt, partsAt}
 use Rattle.formats.specs.Inner.Fields.{headerIn, arityIn, nodeIn}
@@ -40,7 +40,7 @@ use Rattle.record_rows.specs.declared.Own.{Own}
 use Rattle.record_rows.specs.Inner.Halves.{ownIn}
 use Rattle.decode.specs.Inner.Walk.{insideLocation, Agrees, Reported, rowIn, Small, Entering, Same, Filled, Fills, rowsOfParts, SmallParts, Counted, EnteringParts, FillsParts}
 use Rattle.decode.proofs.Leaves.{reported}
-use Rattle.decode.proofs.Locations.{inside-plain, grows, place-inside, few-part, stacked-less, stacked-same, same-more, stacked-inside, same-inside}
+use Rattle.decode.proofs.Locations.{inside-plain, grows, location-inside, few-part, stacked-less, stacked-same, same-more, stacked-inside, same-inside}
 use Rattle.decode.proofs.Rows.{rows-split, length-parts}
 
 -- ---- `decode_at`
@@ -57,9 +57,9 @@ row-is entry arity cases k end p kind own next half small inside =
     ap₂ _∷_ (half .action) (ap₂ _∷_ (half .operand) (ap₂ _∷_ (half .tree) (ap₂ _∷_ (half .more) rest)))
 
 -- counting parts by `arity` or by the function records gives the same number
-same-count : (s : List ℕ) (entry arity : ℕ → ℕ) → Agrees s entry arity → (kind : Kind) → below (headerIn s .functions) kind ≡ true
+same-count : (s : List ℕ) (entry arity : ℕ → ℕ) → Agrees s entry arity → (kind : Kind) → functionBelow (headerIn s .functions) kind ≡ true
     → partCount arity (partsOf kind) ≡ partCount (arityIn s) (partsOf kind)
-unfolding below partsOf partCount
+unfolding functionBelow partsOf partCount
 same-count s entry arity agrees (aConst c) there = refl
 same-count s entry arity agrees (aVar a) there = refl
 same-count s entry arity agrees anAdd there = refl
@@ -97,7 +97,7 @@ module _ (s table cases : List ℕ) (k end : ℕ) (p : Location) where
         own-kind = ap (λ (x : Shape). x .kind) own-shape
 
         -- a function that it calls is there
-        own-below : below (headerIn s .functions) (meant node) ≡ true
+        own-below : functionBelow (headerIn s .functions) (meant node) ≡ true
         own-below = rw own-kind (node-below s k (headOf e) (node-held s (h .here .signed) k e (h .here .holds)))
 
         -- it has `count` parts ..
@@ -226,7 +226,7 @@ module _ (s table cases : List ℕ) (node : Record) (parts : Parts) (r i count k
           ∙ ap (λ q. written table (rowWords * k) (rowsOf entry arity q k (first .expr)))
           (ap₂ locationWith is-inner is-noted
           ∙ ap (λ x. locationWith (insideLocation x kind r i count p) (noted x r (p .depth) cases)) own-part
-          ∙ place-inside entry arity kind r i count p cases (h .counted) more (small .parent) room)
+          ∙ location-inside entry arity kind r i count p cases (h .counted) more (small .parent) room)
 
       -- the table keeps its length
       same-length : length between ≡ length table

@@ -169,8 +169,8 @@ pub fn decode(flat: &[u8], table: &mut [u16]) -> Verdict
     ensures { λ r. ⌜ Decodes (now (flat .entry)) (now (table .entry)) (now (table .exit)) r ⌝ }
 {
     let verdict = pass_one::check_pass_one(flat);
-    if let Verdict::Refused(why, location) = verdict {
-        return Verdict::Refused(why, location);
+    if let Verdict::Refused(why, position) = verdict {
+        return Verdict::Refused(why, position);
     }
     if table.len() < TABLE_WORDS {
         return Verdict::Refused(Refusal::SpaceTooShort, 0);

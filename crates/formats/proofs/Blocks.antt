@@ -11,9 +11,9 @@ use lib.ListN.{length, take, drop, replicate, length-append, length-drop, length
 use lib.Seq.{length-take-le, take-all, take-at, drop-at, take-take, take-add}
 use Rattle.formats.specs.Numbers.{Bytes, bytesOf, numberAt}
 use Rattle.formats.specs.Refusals.{blockCheck, blockField}
-use Rattle.formats.specs.Results.{done, refusal, check}
+use Rattle.formats.specs.Results.{done, refusal, valueIf}
 use Rattle.formats.specs.Records.{recordBytes}
-use Rattle.formats.specs.Blocks.{blockBytes, blockRecords, partBytes, numberOffset, usedOffset, blocksOffset, wordSum, checkSum, wordLimit, checkWord, blockBody, blockOf, zeros, usedFits, fieldsFit, usedOf}
+use Rattle.formats.specs.Blocks.{blockBytes, blockRecords, recordsBytes, numberOffset, usedOffset, blocksOffset, wordSum, checkTarget, wordLimit, checkWord, blockBody, blockOf, zeros, usedFits, fieldsFit, usedOf}
 use Rattle.formats.specs.Inner.Blocks.{checkOffset}
 use Rattle.formats.proofs.Numbers.{length-bytesOf, numberAt-lt, bytesOf-numberAt, bytes-append, bytes-take, bytes-bytesOf, numberAt-after, numberAt-there}
 use Rattle.formats.proofs.Results.{done-not, check-inv, both-held}
@@ -81,17 +81,17 @@ used-fits blocks j used some few full = cases (ltb (suc j) blocks) refl
 
 -- a part and its unused records
 abbrev pub padded : List ℕ → List ℕ
-padded part = part ++ replicate (partBytes - length part) 0
+padded part = part ++ replicate (recordsBytes - length part) 0
 
 -- its lengths
-pub length-padded : (part : List ℕ) → length part ≤ partBytes → length (padded part) ≡ partBytes
+pub length-padded : (part : List ℕ) → length part ≤ recordsBytes → length (padded part) ≡ recordsBytes
 length-padded part h = simp (length-append, length-replicate) (omega arith)
 
-pub length-body : (part : List ℕ) (j blocks : ℕ) → length part ≤ partBytes → length (blockBody part j blocks) ≡ checkOffset
+pub length-body : (part : List ℕ) (j blocks : ℕ) → length part ≤ recordsBytes → length (blockBody part j blocks) ≡ checkOffset
 unfolding blockBody
 length-body part j blocks h = simp (blockBody, length-append, length-bytesOf, length-replicate) (omega arith)
 
-pub length-block : (part : List ℕ) (j blocks : ℕ) → length part ≤ partBytes → length (blockOf part j blocks) ≡ blockBytes
+pub length-block : (part : List ℕ) (j blocks : ℕ) → length part ≤ recordsBytes → length (blockOf part j blocks) ≡ blockBytes
 unfolding blockOf
 length-block part j blocks h = simp (blockOf, length-append, length-body part j blocks h, length-bytesOf)
 
@@ -101,7 +101,7 @@ unfolding blockOf blockBody
 block-bytes part j blocks bs =
     bytes-append (blockBody part j blocks) (bytesOf 2 (checkWord (blockBody part j blocks)))
     (bytes-append part _ bs
-    (bytes-append (replicate (partBytes - length part) 0) _ (bytes-zeros (partBytes - length part))
+    (bytes-append (replicate (recordsBytes - length part) 0) _ (bytes-zeros (recordsBytes - length part))
     (bytes-append (bytesOf 2 j) _ (bytes-bytesOf 2 j)
     (bytes-append (bytesOf 2 (length part / recordBytes)) (bytesOf 2 blocks) (bytes-bytesOf 2 (length part / recordBytes)) (bytes-bytesOf 2 blocks)))))
     (bytes-bytesOf 2 (checkWord (blockBody part j blocks)))
@@ -111,8 +111,8 @@ regroup : (a b c d e f : List ℕ) → (a ++ (b ++ (c ++ (d ++ e)))) ++ f ≡ (a
 regroup a b c d e f = simp append-assoc
 
 -- a block that passes every test gives its used records
-pub used-passed : (blocks j : ℕ) (block : List ℕ) (n : ℕ) → wordSum block % wordLimit ≡ checkSum → numberAt 2 block numberOffset ≡ j → numberAt 2 block usedOffset ≡ n
-    → usedFits blocks j n ≡ true → numberAt 2 block blocksOffset ≡ blocks → zeros (drop (recordBytes * n) (take partBytes block)) ≡ true
+pub used-passed : (blocks j : ℕ) (block : List ℕ) (n : ℕ) → wordSum block % wordLimit ≡ checkTarget → numberAt 2 block numberOffset ≡ j → numberAt 2 block usedOffset ≡ n
+    → usedFits blocks j n ≡ true → numberAt 2 block blocksOffset ≡ blocks → zeros (drop (recordBytes * n) (take recordsBytes block)) ≡ true
     → usedOf blocks j block ≡ done (take (recordBytes * n) block)
 unfolding usedOf fieldsFit
 used-passed blocks j block n sum number used fits count unused =
@@ -120,7 +120,7 @@ used-passed blocks j block n sum number used fits count unused =
 
 module _ (part : List ℕ) (j blocks n : ℕ) (e : length part ≡ recordBytes * n) (fits : usedFits blocks j n ≡ true) where
   -- the part fits
-  short : length part ≤ partBytes
+  short : length part ≤ recordsBytes
   short = omega (arith, used-some blocks j n fits .1)
 
   -- the four words
@@ -128,18 +128,18 @@ module _ (part : List ℕ) (j blocks n : ℕ) (e : length part ≡ recordBytes *
   words = bytesOf 2 j ++ (bytesOf 2 (length part / recordBytes) ++ (bytesOf 2 blocks ++ bytesOf 2 (checkWord (blockBody part j blocks))))
 
   -- the block is the records and the words
-  emitted-out : blockOf part j blocks ≡ padded part ++ words
+  block-split : blockOf part j blocks ≡ padded part ++ words
   unfolding blockOf blockBody words
-  emitted-out =
-      regroup part (replicate (partBytes - length part) 0) (bytesOf 2 j) (bytesOf 2 (length part / recordBytes)) (bytesOf 2 blocks)
+  block-split =
+      regroup part (replicate (recordsBytes - length part) 0) (bytesOf 2 j) (bytesOf 2 (length part / recordBytes)) (bytesOf 2 blocks)
       (bytesOf 2 (checkWord (blockBody part j blocks)))
 
   -- a word of the block is read from the words
-  word-there : (q : ℕ) → numberAt 2 (blockOf part j blocks) (partBytes + q) ≡ numberAt 2 words q
-  word-there q = ap (λ (l : List ℕ). numberAt 2 l (partBytes + q)) emitted-out ∙ numberAt-past 2 (padded part) words partBytes q (length-padded part short)
+  word-there : (q : ℕ) → numberAt 2 (blockOf part j blocks) (recordsBytes + q) ≡ numberAt 2 words q
+  word-there q = ap (λ (l : List ℕ). numberAt 2 l (recordsBytes + q)) block-split ∙ numberAt-past 2 (padded part) words recordsBytes q (length-padded part short)
 
   -- the block's words sum to 65,535
-  sum-right : wordSum (blockOf part j blocks) % wordLimit ≡ checkSum
+  sum-right : wordSum (blockOf part j blocks) % wordLimit ≡ checkTarget
   unfolding blockOf
   sum-right = checkWord-right (blockBody part j blocks) 255 (length-body part j blocks short)
 
@@ -163,14 +163,14 @@ module _ (part : List ℕ) (j blocks n : ℕ) (e : length part ≡ recordBytes *
       ∙ numberAt-first blocks _ few
 
   -- its records are the part, and after it zeros
-  records-there : take partBytes (blockOf part j blocks) ≡ padded part
-  records-there = ap (take partBytes) emitted-out ∙ take-at (padded part) words partBytes (length-padded part short)
+  records-there : take recordsBytes (blockOf part j blocks) ≡ padded part
+  records-there = ap (take recordsBytes) block-split ∙ take-at (padded part) words recordsBytes (length-padded part short)
 
-  unused-zero : zeros (drop (recordBytes * n) (take partBytes (blockOf part j blocks))) ≡ true
+  unused-zero : zeros (drop (recordBytes * n) (take recordsBytes (blockOf part j blocks))) ≡ true
   unused-zero =
       ap (λ (l : List ℕ). zeros (drop (recordBytes * n) l)) records-there
       ∙ ap zeros (drop-at part _ (recordBytes * n) e)
-      ∙ zeros-replicate (partBytes - length part)
+      ∙ zeros-replicate (recordsBytes - length part)
 
   part-there : take (recordBytes * n) (blockOf part j blocks) ≡ part
   unfolding blockOf blockBody
@@ -186,23 +186,23 @@ module _ (part : List ℕ) (j blocks n : ℕ) (e : length part ≡ recordBytes *
 
 -- the tests that are passed by a block that gives a part
 pub record Passed (blocks j : ℕ) (block part : List ℕ) : Type 0 where
-  pub sum : wordSum block % wordLimit ≡ checkSum
+  pub sum : wordSum block % wordLimit ≡ checkTarget
   pub number : numberAt 2 block numberOffset ≡ j
   pub fits : usedFits blocks j (numberAt 2 block usedOffset) ≡ true
   pub count : numberAt 2 block blocksOffset ≡ blocks
-  pub unused : zeros (drop (recordBytes * numberAt 2 block usedOffset) (take partBytes block)) ≡ true
+  pub unused : zeros (drop (recordBytes * numberAt 2 block usedOffset) (take recordsBytes block)) ≡ true
   pub gives : take (recordBytes * numberAt 2 block usedOffset) block ≡ part
 
 -- a block that gives a part has passed every test
 pub passed : (blocks j : ℕ) (block part : List ℕ) → usedOf blocks j block ≡ done part → Passed blocks j block part
 unfolding usedOf fieldsFit
-passed blocks j block part = cases (eqb (wordSum block % wordLimit) checkSum) refl
+passed blocks j block part = cases (eqb (wordSum block % wordLimit) checkTarget) refl
   where
     used : ℕ
     used = numberAt 2 block usedOffset
 
-    cases : (test : Bool) → eqb (wordSum block % wordLimit) checkSum ≡ test
-        → elim test [ false ↦ refusal blockCheck j | true ↦ check (fieldsFit blocks j block) blockField j (take (recordBytes * used) block) ] ≡ done part
+    cases : (test : Bool) → eqb (wordSum block % wordLimit) checkTarget ≡ test
+        → elim test [ false ↦ refusal blockCheck j | true ↦ valueIf (fieldsFit blocks j block) blockField j (take (recordBytes * used) block) ] ≡ done part
         → Passed blocks j block part
     cases false h e = done-not e refl
     cases true h e =
@@ -224,7 +224,7 @@ module _ (blocks j : ℕ) (block part : List ℕ) (bs : Bytes block) (whole : le
   abbrev used : ℕ
   used = numberAt 2 block usedOffset
 
-  within : recordBytes * used ≤ partBytes
+  within : recordBytes * used ≤ recordsBytes
   within = omega (arith, used-some blocks j used (p .fits) .1)
 
   -- the part is as long as so many records
@@ -232,14 +232,14 @@ module _ (blocks j : ℕ) (block part : List ℕ) (bs : Bytes block) (whole : le
   length-part = ap length (sym (p .gives)) ∙ length-take-le (recordBytes * used) block (omega (arith, within))
 
   -- the part and its unused records are what stands before the words
-  padded-is : padded part ≡ take partBytes block
+  padded-is : padded part ≡ take recordsBytes block
   padded-is =
-      let after : List ℕ = drop (recordBytes * used) (take partBytes block) in
-      let as-long : length after ≡ partBytes - length part =
-      length-drop (recordBytes * used) (take partBytes block) ∙ ap₂ _-_ (length-take-le partBytes block (omega arith)) (sym length-part) in
-      ap₂ _++_ (sym (p .gives) ∙ sym (take-take (recordBytes * used) partBytes block within))
+      let after : List ℕ = drop (recordBytes * used) (take recordsBytes block) in
+      let as-long : length after ≡ recordsBytes - length part =
+      length-drop (recordBytes * used) (take recordsBytes block) ∙ ap₂ _-_ (length-take-le recordsBytes block (omega arith)) (sym length-part) in
+      ap₂ _++_ (sym (p .gives) ∙ sym (take-take (recordBytes * used) recordsBytes block within))
       (ap (λ (m : ℕ). replicate m 0) (sym as-long) ∙ sym (replicate-zeros after (p .unused)))
-      ∙ take-append-drop (recordBytes * used) (take partBytes block)
+      ∙ take-append-drop (recordBytes * used) (take recordsBytes block)
 
   -- the first q + 2 bytes are the first q bytes and the word at offset q
   word-next : (q : ℕ) → q + 2 ≤ blockBytes → take (q + 2) block ≡ take q block ++ bytesOf 2 (numberAt 2 block q)

@@ -13,7 +13,7 @@ use Rattle.formats.specs.Numbers.{Bytes}
 use Rattle.formats.specs.Refusals.{fileLength, spaceTooShort}
 use Rattle.formats.specs.Results.{Result, done, refusal, onValue, each}
 use Rattle.formats.specs.Records.{recordBytes}
-use Rattle.formats.specs.Blocks.{blockBytes, mostBlocks, blockRecords, partBytes, wordLimit, blockOf, blocksFrom, blocksFor, fileOf, lengthRow, usedFits, usedOf, blockAt, blockRow, concatenated, flatIn, inRoom, lent}
+use Rattle.formats.specs.Blocks.{blockBytes, mostBlocks, blockRecords, recordsBytes, wordLimit, blockOf, blocksFrom, blocksFor, fileOf, lengthRow, usedFits, usedOf, blockAt, blockRow, concatenated, flatIn, inRoom, bufferAfter}
 use Rattle.formats.specs.Inner.Blocks.{mostBytes}
 use Rattle.formats.specs.ProgramFiles.{Fewest}
 use Rattle.formats.proofs.Numbers.{bytes-append, bytes-take, bytes-drop}
@@ -29,12 +29,12 @@ unfolding blocksFor
 for-none = refl
 
 -- a full part takes one block more than the rest
-for-more : (n : ℕ) → blocksFor (partBytes + n) ≡ suc (blocksFor n)
+for-more : (n : ℕ) → blocksFor (recordsBytes + n) ≡ suc (blocksFor n)
 unfolding blocksFor
 for-more n = omega arith
 
 -- what is at most a part takes one block
-for-one : (n : ℕ) → 1 ≤ n → n ≤ partBytes → blocksFor n ≡ 1
+for-one : (n : ℕ) → 1 ≤ n → n ≤ recordsBytes → blocksFor n ≡ 1
 unfolding blocksFor
 for-one n h k = omega arith
 
@@ -61,16 +61,16 @@ tight r n e = omega arith
 -- ---- the file of flat records
 
 -- the first of the blocks is a whole block
-length-first : (blocks j : ℕ) (r : List ℕ) → length (blockOf (take partBytes r) j blocks) ≡ blockBytes
-length-first blocks j r = length-block (take partBytes r) j blocks (simp length-take (omega arith))
+length-first : (blocks j : ℕ) (r : List ℕ) → length (blockOf (take recordsBytes r) j blocks) ≡ blockBytes
+length-first blocks j r = length-block (take recordsBytes r) j blocks (simp length-take (omega arith))
 
 -- n blocks are n whole blocks
 pub length-blocks : (blocks n j : ℕ) (r : List ℕ) → length (blocksFrom blocks n j r) ≡ blockBytes * n
 unfolding blocksFrom
 length-blocks blocks zero j r = refl
 length-blocks blocks (suc n) j r =
-    length-append (blockOf (take partBytes r) j blocks) _
-    ∙ ap₂ _+_ (length-first blocks j r) (length-blocks blocks n (suc j) (drop partBytes r))
+    length-append (blockOf (take recordsBytes r) j blocks) _
+    ∙ ap₂ _+_ (length-first blocks j r) (length-blocks blocks n (suc j) (drop recordsBytes r))
     ∙ omega arith
 
 -- the file has whole blocks
@@ -83,8 +83,8 @@ bytes-blocks : (blocks n j : ℕ) (r : List ℕ) → Bytes r → Bytes (blocksFr
 unfolding blocksFrom
 bytes-blocks blocks zero j r bs = λ i. lit< tt
 bytes-blocks blocks (suc n) j r bs =
-    bytes-append (blockOf (take partBytes r) j blocks) (blocksFrom blocks n (suc j) (drop partBytes r))
-    (block-bytes (take partBytes r) j blocks (bytes-take partBytes r bs)) (bytes-blocks blocks n (suc j) (drop partBytes r) (bytes-drop partBytes r bs))
+    bytes-append (blockOf (take recordsBytes r) j blocks) (blocksFrom blocks n (suc j) (drop recordsBytes r))
+    (block-bytes (take recordsBytes r) j blocks (bytes-take recordsBytes r bs)) (bytes-blocks blocks n (suc j) (drop recordsBytes r) (bytes-drop recordsBytes r bs))
 
 -- the file of bytes is bytes
 pub file-bytes : (r : List ℕ) → Bytes r → Bytes (fileOf r)
@@ -129,22 +129,22 @@ drop-block s j =
 
 -- the first block takes the part, and the rest takes one block less than both
 record Cut (part rest : List ℕ) : Type 0 where
-  front : take partBytes (part ++ rest) ≡ part
-  back : drop partBytes (part ++ rest) ≡ rest
+  front : take recordsBytes (part ++ rest) ≡ part
+  back : drop recordsBytes (part ++ rest) ≡ rest
   count : blocksFor (length (part ++ rest)) ≡ suc (blocksFor (length rest))
 
 -- that is so where the part is full ..
-cut-full : (part rest : List ℕ) → length part ≡ partBytes → Cut part rest
+cut-full : (part rest : List ℕ) → length part ≡ recordsBytes → Cut part rest
 cut-full part rest e = record {
-  front = take-at part rest partBytes e;
-  back = drop-at part rest partBytes e;
+  front = take-at part rest recordsBytes e;
+  back = drop-at part rest recordsBytes e;
   count = ap blocksFor (length-append part rest ∙ ap (λ (k : ℕ). k + length rest) e) ∙ for-more (length rest);
 }
 
 -- .. and where nothing follows it
-cut-last : (part : List ℕ) → 1 ≤ length part → length part ≤ partBytes → Cut part []
+cut-last : (part : List ℕ) → 1 ≤ length part → length part ≤ recordsBytes → Cut part []
 cut-last part some few = record {
-  front = rw append-nil (take-all partBytes part few);
+  front = rw append-nil (take-all recordsBytes part few);
   back = rw append-nil (drop-of-length-le part few);
   count = rw append-nil (for-one (length part) some few ∙ ap suc (sym for-none));
 }
@@ -233,14 +233,14 @@ flat-in-bytes s r bs e =
     subst Bytes (d .gives) (read-rest s r bs d .bytes)
 
 -- flat records are no more than the most blocks hold: no part is longer than a block's records
-part-short : (blocks : ℕ) (s : List ℕ) (j : ℕ) (part : List ℕ) → blockAt blocks s j ≡ done part → length part ≤ partBytes
+part-short : (blocks : ℕ) (s : List ℕ) (j : ℕ) (part : List ℕ) → blockAt blocks s j ≡ done part → length part ≤ recordsBytes
 unfolding blockAt
 part-short blocks s j part e =
     let p = passed blocks j _ part e in
     let few = used-some blocks j _ (p .fits) .1 in
     rw (← (p .gives)) (simp length-take (omega arith))
 
-parts-short : (blocks : ℕ) (s : List ℕ) (n j : ℕ) (parts : List (List ℕ)) → each (blockAt blocks s) n j ≡ done parts → length (concatenated parts) ≤ partBytes * n
+parts-short : (blocks : ℕ) (s : List ℕ) (n j : ℕ) (parts : List (List ℕ)) → each (blockAt blocks s) n j ≡ done parts → length (concatenated parts) ≤ recordsBytes * n
 unfolding concatenated
 parts-short blocks s zero j parts e = rw (each-none (blockAt blocks s) j parts e) (omega arith)
 parts-short blocks s (suc n) j parts e =
@@ -268,17 +268,17 @@ module _ (blocks : ℕ) (s : List ℕ) (few : blocks < wordLimit) where
       → drop (blockBytes * j) s ≡ blockOf part j blocks ++ rest → blockAt blocks s j ≡ done part
   unfolding blockAt
   block-back j n part rest small e fits stands =
-      let short : length part ≤ partBytes = omega (arith, used-some blocks j n fits .1) in
+      let short : length part ≤ recordsBytes = omega (arith, used-some blocks j n fits .1) in
       ap (λ (l : List ℕ). usedOf blocks j (take blockBytes l)) stands
       ∙ ap (usedOf blocks j) (take-at (blockOf part j blocks) rest blockBytes (length-block part j blocks short))
       ∙ used-done part j blocks n e fits small few
 
   -- after it stand the blocks for the other records
   stands-after : (m j : ℕ) (r : List ℕ) → drop (blockBytes * j) s ≡ blocksFrom blocks (suc m) j r
-      → drop (blockBytes * suc j) s ≡ blocksFrom blocks m (suc j) (drop partBytes r)
+      → drop (blockBytes * suc j) s ≡ blocksFrom blocks m (suc j) (drop recordsBytes r)
   unfolding blocksFrom
   stands-after m j r stands =
-      drop-block s j ∙ ap (drop blockBytes) stands ∙ drop-at (blockOf (take partBytes r) j blocks) _ blockBytes (length-first blocks j r)
+      drop-block s j ∙ ap (drop blockBytes) stands ∙ drop-at (blockOf (take recordsBytes r) j blocks) _ blockBytes (length-first blocks j r)
 
   -- n records that fill m blocks come back from these
   back-from : (m j n : ℕ) (r : List ℕ) → j + m ≡ blocks → length r ≡ recordBytes * n → n ≤ blockRecords * m → blockRecords * m < n + blockRecords
@@ -286,15 +286,15 @@ module _ (blocks : ℕ) (s : List ℕ) (few : blocks < wordLimit) where
   unfolding blocksFrom concatenated each
   back-from zero j n r e h enough more stands = record { parts = []; row = refl; gives = sym (drop-of-length-le r {i = 0} (omega arith)) }
   back-from (suc m) j n r e h enough more stands =
-      let used : length (take partBytes r) ≡ recordBytes * min n blockRecords = length-take partBytes r ∙ omega arith in
-      let left : length (drop partBytes r) ≡ recordBytes * (n - blockRecords) = length-drop partBytes r ∙ omega arith in
+      let used : length (take recordsBytes r) ≡ recordBytes * min n blockRecords = length-take recordsBytes r ∙ omega arith in
+      let left : length (drop recordsBytes r) ≡ recordBytes * (n - blockRecords) = length-drop recordsBytes r ∙ omega arith in
       let fits = used-fits blocks j (min n blockRecords) (omega arith) (omega arith) (λ full. omega arith) in
-      let b = back-from m (suc j) (n - blockRecords) (drop partBytes r) (omega arith) left (omega arith) (omega arith) (stands-after m j r stands) in
-      let here = block-back j (min n blockRecords) (take partBytes r) _ (omega arith) used fits stands in
+      let b = back-from m (suc j) (n - blockRecords) (drop recordsBytes r) (omega arith) left (omega arith) (omega arith) (stands-after m j r stands) in
+      let here = block-back j (min n blockRecords) (take recordsBytes r) _ (omega arith) used fits stands in
       record {
-        parts = take partBytes r ∷ b .parts;
-        row = each-done (blockAt blocks s) m j (take partBytes r) (b .parts) here (b .row);
-        gives = ap (λ (l : List ℕ). take partBytes r ++ l) (b .gives) ∙ take-append-drop partBytes r;
+        parts = take recordsBytes r ∷ b .parts;
+        row = each-done (blockAt blocks s) m j (take recordsBytes r) (b .parts) here (b .row);
+        gives = ap (λ (l : List ℕ). take recordsBytes r ++ l) (b .gives) ∙ take-append-drop recordsBytes r;
       }
 
 -- the file written for flat records is read as these
@@ -322,7 +322,7 @@ unfolding inRoom
 within-short room bytes h = simp (inRoom, lt-leb _ _ h)
 
 -- the buffer keeps its length
-pub length-lent : (before : List ℕ) (due : Result (List ℕ)) → length (lent before due) ≡ length before
-unfolding lent
+pub length-lent : (before : List ℕ) (due : Result (List ℕ)) → length (bufferAfter before due) ≡ length before
+unfolding bufferAfter
 length-lent before (done bytes) = wrote before 0 bytes .same-length
 length-lent before (refusal number position) = refl

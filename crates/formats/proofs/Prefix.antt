@@ -14,7 +14,7 @@ use Rattle.formats.specs.Refusals.{prefixForm}
 use Rattle.formats.specs.Results.{done, refusal, verdict}
 use Rattle.formats.specs.Records.{Kind, Const, Var, Add, IfZero, Let, Leaf, Node, Case, Call, partsOf, partCount}
 use Rattle.formats.specs.Programs.{Expr, const, var, add, ifZero, letIn, leafOf, nodeOf, caseOf, call, Args, noArgs, arg}
-use Rattle.formats.specs.Programs.{prefix, prefixes, countArgs, Applied, AppliedArgs, Every}
+use Rattle.formats.specs.Programs.{prefix, prefixes, countArgs, CallsComplete, ArgsComplete, Every}
 use Rattle.formats.specs.Rows.{pop, popArgs, build, exprsOf, exactlyOne}
 
 -- arguments in front of expressions
@@ -40,7 +40,7 @@ length-inFront noArgs es = omega arith
 length-inFront (arg x xs) es = let h = length-inFront xs es in omega arith
 
 -- where each Call has its arguments, so it is in the arguments and in what follows them
-applied-inFront : (arity : ℕ → ℕ) (xs : Args) (es : List Expr) → Every (Applied arity) (inFront xs es) → AppliedArgs arity xs × Every (Applied arity) es
+applied-inFront : (arity : ℕ → ℕ) (xs : Args) (es : List Expr) → Every (CallsComplete arity) (inFront xs es) → ArgsComplete arity xs × Every (CallsComplete arity) es
 unfolding inFront
 applied-inFront arity noArgs es a = (tt, a)
 applied-inFront arity (arg x xs) es a = let b = applied-inFront arity xs es (a .1) in ((a .0, b .0), b .1)
@@ -75,7 +75,7 @@ record Built (arity : ℕ → ℕ) (kind : Kind) (es : List Expr) : Type 0 where
   is : build arity kind es ≡ some (whole ∷ rest)
   taken : length es ≡ partCount arity (partsOf kind) + length rest
   joined : recordsOfAll (whole ∷ rest) ≡ kind ∷ recordsOfAll es
-  applied : Every (Applied arity) es → Every (Applied arity) (whole ∷ rest)
+  applied : Every (CallsComplete arity) es → Every (CallsComplete arity) (whole ∷ rest)
 
 -- a record with two parts
 two-parts :
@@ -83,7 +83,7 @@ two-parts :
     → ((es : List Expr) → build arity kind es ≡ pop es (λ p es′. pop es′ (λ q rest. some (f p q ∷ rest))))
     → partCount arity (partsOf kind) ≡ 2
     → ((p q : Expr) → prefix (f p q) ≡ kind ∷ (prefix p ++ prefix q))
-    → ((p q : Expr) → Applied arity p → Applied arity q → Applied arity (f p q))
+    → ((p q : Expr) → CallsComplete arity p → CallsComplete arity q → CallsComplete arity (f p q))
     → (es : List Expr)
     → 2 ≤ length es
     → Built arity kind es
@@ -231,7 +231,7 @@ args-popped (arg x xs) es next = args-popped xs es (λ ys after. next (arg x ys)
 mutual
   unfolding prefix prefixes build inFront
 
-  pub exprs-prefix : (e : Expr) (arity : ℕ → ℕ) (ks : List Kind) (es : List Expr) → Applied arity e → exprsOf arity ks ≡ some es
+  pub exprs-prefix : (e : Expr) (arity : ℕ → ℕ) (ks : List Kind) (es : List Expr) → CallsComplete arity e → exprsOf arity ks ≡ some es
       → exprsOf arity (prefix e ++ ks) ≡ some (e ∷ es)
   exprs-prefix (const i) arity ks es a h = exprs-cons arity (Const i) ks es h
   exprs-prefix (var v) arity ks es a h = exprs-cons arity (Var v) ks es h
@@ -251,7 +251,7 @@ mutual
   exprs-prefix (call v b xs) arity ks es a h =
       exprs-cons arity (Call v b) _ (inFront xs es) (exprs-prefixes xs arity ks es (a .1) h) ∙ (rw (← (a .0)) (args-popped xs es _))
 
-  exprs-prefixes : (xs : Args) (arity : ℕ → ℕ) (ks : List Kind) (es : List Expr) → AppliedArgs arity xs → exprsOf arity ks ≡ some es
+  exprs-prefixes : (xs : Args) (arity : ℕ → ℕ) (ks : List Kind) (es : List Expr) → ArgsComplete arity xs → exprsOf arity ks ≡ some es
       → exprsOf arity (prefixes xs ++ ks) ≡ some (inFront xs es)
   exprs-prefixes noArgs arity ks es a h = h
   exprs-prefixes (arg x xs) arity ks es a h =
@@ -261,7 +261,7 @@ mutual
 -- has its arguments
 pub record Parsed (arity : ℕ → ℕ) (ks : List Kind) (es : List Expr) : Type 0 where
   pub joined : recordsOfAll es ≡ ks
-  pub applied : Every (Applied arity) es
+  pub applied : Every (CallsComplete arity) es
 
 -- it stays so with one more record
 parsed-step : (arity : ℕ → ℕ) (kind : Kind) (ks : List Kind) (ds es : List Expr) → Parsed arity ks ds → build arity kind ds ≡ some es

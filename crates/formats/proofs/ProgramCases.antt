@@ -7,9 +7,9 @@ use lib.Dec.{lit<, lit≤}
 use lib.ListN.{length, take, drop, replicate, set}
 use Rattle.formats.specs.Numbers.{bytesOf, numberOf, numberAt}
 use Rattle.formats.specs.Results.{Result, done, refusal, verdict, each}
-use Rattle.formats.specs.Records.{Record, fields, bytesOfRecord, flat, recordAt, Const, Var, Add, IfZero, Let, Leaf, Node, Case, Call, fieldsOf, kinds, nth, kindOf, same, below, nodeRecord}
+use Rattle.formats.specs.Records.{Record, fields, bytesOfRecord, flat, recordAt, Const, Var, Add, IfZero, Let, Leaf, Node, Case, Call, fieldsOf, kinds, nth, kindOf, sameFields, functionBelow, nodeRecord}
 use Rattle.formats.specs.Programs.{const, var, add, ifZero, letIn, leafOf, nodeOf, caseOf, call, noArgs, arg, prefix, prefixes, size, placedAt, partsAt}
-use Rattle.formats.specs.Programs.{Lawful, countArgs, treeValued, sortNumber, signatureRecord, arityOf, total, signatureOf, Program, nodes, headerRecord, headerOf, recordsOf, mostParameters}
+use Rattle.formats.specs.Programs.{Lawful, countArgs, treeValued, sortNumber, signatureRecord, arityOf, sumOfCounts, signatureOf, Program, nodes, headerRecord, headerOf, recordsOf, mostParameters}
 use Rattle.formats.specs.Rows.{headerFrom, headerRow, sorts, functionFrom, functionAt, functionRow, nodeAt, nodeRow, popArgs, build, exprsOf, exactlyOne, bodies, prefixRow, readProgram}
 use Rattle.formats.specs.Blocks.{wordSum, checkWord, blockBody, blockOf, blocksFrom, blocksFor, fileOf, lengthRow, zeros, usedFits, fieldsFit, usedOf, blockAt, blockRow, concatenated, flatIn, programRecords, readFile}
 
@@ -32,16 +32,16 @@ grow-records =
     ∷ fields 7 0 0 0 ∷ fields 5 0 0 0 ∷ fields 2 0 0 0 ∷ fields 1 0 0 0 ∷ fields 0 0 0 1 ∷ fields 6 0 0 0 ∷ fields 8 1 0 0 ∷ fields 8 2 0 0 ∷ []
 
 grow-flattens : recordsOf grow ≡ grow-records
-unfolding recordsOf headerRecord headerOf signatureRecord signatureOf sortNumber total size nodes prefix prefixes fieldsOf grow grow-records
+unfolding recordsOf headerRecord headerOf signatureRecord signatureOf sortNumber sumOfCounts size nodes prefix prefixes fieldsOf grow grow-records
 grow-flattens = refl
 
 grow-parses : readProgram (flat grow-records) ≡ done grow
-unfolding readProgram headerRow headerFrom functionRow functionAt functionFrom sorts mostParameters nodeRow nodeAt nodeRecord kindOf kinds nth same below fieldsOf each prefixRow bodies exactlyOne exprsOf build popArgs arityOf total recordAt flat bytesOfRecord bytesOf numberAt numberOf grow grow-records
+unfolding readProgram headerRow headerFrom functionRow functionAt functionFrom sorts mostParameters nodeRow nodeAt nodeRecord kindOf kinds nth sameFields functionBelow fieldsOf each prefixRow bodies exactlyOne exprsOf build popArgs arityOf sumOfCounts recordAt flat bytesOfRecord bytesOf numberAt numberOf grow grow-records
 grow-parses = refl
 
 -- it is within the limits, so that what is proved of such programs is not empty
 pub grow-lawful : Lawful grow
-unfolding grow total signatureOf size prefix prefixes arityOf nth mostParameters countArgs
+unfolding grow sumOfCounts signatureOf size prefix prefixes arityOf nth mostParameters countArgs
 grow-lawful = record {
   edition = refl;
   some-function = lit≤ tt;
@@ -94,7 +94,7 @@ header-cases : map said
     (two ∷ set two 0 (fields 2 2 4 0) ∷ set two 0 (fields 1 0 4 0) ∷ set two 0 (fields 1 33 4 0) ∷ set two 0 (fields 1 2 0 0) ∷ set two 0 (fields 1 2 1025 0)
     ∷ set two 0 (fields 1 2 4 1) ∷ set two 0 (fields 1 2 5 0) ∷ (two ++ (fields 0 0 0 0 ∷ [])) ∷ [] ∷ [])
     ≡ done tt ∷ replicate 9 (refusal 4 0)
-unfolding readProgram headerRow headerFrom functionRow functionAt functionFrom sorts mostParameters nodeRow nodeAt nodeRecord kindOf kinds nth same below fieldsOf each prefixRow bodies exactlyOne exprsOf build popArgs arityOf total recordAt flat bytesOfRecord bytesOf numberAt numberOf said two
+unfolding readProgram headerRow headerFrom functionRow functionAt functionFrom sorts mostParameters nodeRow nodeAt nodeRecord kindOf kinds nth sameFields functionBelow fieldsOf each prefixRow bodies exactlyOne exprsOf build popArgs arityOf sumOfCounts recordAt flat bytesOfRecord bytesOf numberAt numberOf said two
 header-cases = refl
 
 -- 5: sort 2, parameters of function 0, count 0, the rest; 5 parameters; a sum that is wrong, and
@@ -103,13 +103,13 @@ function-cases : map said
     (set two 1 (fields 2 0 2 0) ∷ set two 1 (fields 0 1 2 0) ∷ set two 1 (fields 0 0 0 0) ∷ set two 1 (fields 0 0 2 1) ∷ set two 2 (fields 1 5 2 0)
     ∷ set two 2 (fields 1 1 3 0) ∷ set (set two 1 (fields 0 0 65535 0)) 2 (fields 1 1 5 0) ∷ [])
     ≡ refusal 5 1 ∷ refusal 5 1 ∷ refusal 5 1 ∷ refusal 5 1 ∷ refusal 5 2 ∷ refusal 5 2 ∷ refusal 5 2 ∷ []
-unfolding readProgram headerRow headerFrom functionRow functionAt functionFrom sorts mostParameters nodeRow nodeAt nodeRecord kindOf kinds nth same below fieldsOf each prefixRow bodies exactlyOne exprsOf build popArgs arityOf total recordAt flat bytesOfRecord bytesOf numberAt numberOf said two
+unfolding readProgram headerRow headerFrom functionRow functionAt functionFrom sorts mostParameters nodeRow nodeAt nodeRecord kindOf kinds nth sameFields functionBelow fieldsOf each prefixRow bodies exactlyOne exprsOf build popArgs arityOf sumOfCounts recordAt flat bytesOfRecord bytesOf numberAt numberOf said two
 function-cases = refl
 
 -- 6: kind 9, a function that is not there, an unused a, an unused i
 node-cases : map said (set two 6 (fields 9 0 0 0) ∷ set two 3 (fields 8 0 2 0) ∷ set two 4 (fields 0 1 0 5) ∷ set two 5 (fields 5 0 0 1) ∷ [])
     ≡ refusal 6 6 ∷ refusal 6 3 ∷ refusal 6 4 ∷ refusal 6 5 ∷ []
-unfolding readProgram headerRow headerFrom functionRow functionAt functionFrom sorts mostParameters nodeRow nodeAt nodeRecord kindOf kinds nth same below fieldsOf each prefixRow bodies exactlyOne exprsOf build popArgs arityOf total recordAt flat bytesOfRecord bytesOf numberAt numberOf said two
+unfolding readProgram headerRow headerFrom functionRow functionAt functionFrom sorts mostParameters nodeRow nodeAt nodeRecord kindOf kinds nth sameFields functionBelow fieldsOf each prefixRow bodies exactlyOne exprsOf build popArgs arityOf sumOfCounts recordAt flat bytesOfRecord bytesOf numberAt numberOf said two
 node-cases = refl
 
 -- 7: an expression that runs on into the next function, one that ends too soon, parts missing in
@@ -118,7 +118,7 @@ prefix-cases : map said
     (set (set two 1 (fields 0 0 1 0)) 2 (fields 1 1 3 0) ∷ set (set two 1 (fields 0 0 3 0)) 2 (fields 1 1 1 0) ∷ set two 5 (fields 2 0 0 0)
     ∷ set two 2 (fields 1 2 2 0) ∷ set (set two 6 (fields 9 0 0 0)) 2 (fields 1 2 2 0) ∷ [])
     ≡ refusal 7 3 ∷ refusal 7 3 ∷ refusal 7 5 ∷ refusal 7 3 ∷ refusal 6 6 ∷ []
-unfolding readProgram headerRow headerFrom functionRow functionAt functionFrom sorts mostParameters nodeRow nodeAt nodeRecord kindOf kinds nth same below fieldsOf each prefixRow bodies exactlyOne exprsOf build popArgs arityOf total recordAt flat bytesOfRecord bytesOf numberAt numberOf said two
+unfolding readProgram headerRow headerFrom functionRow functionAt functionFrom sorts mostParameters nodeRow nodeAt nodeRecord kindOf kinds nth sameFields functionBelow fieldsOf each prefixRow bodies exactlyOne exprsOf build popArgs arityOf sumOfCounts recordAt flat bytesOfRecord bytesOf numberAt numberOf said two
 prefix-cases = refl
 
 -- ---- blocks
@@ -142,16 +142,16 @@ read s = verdict (readFile s)
 
 -- Grow's file, and its last words: number 0, 10 records used, 1 block, and the check 64444
 grow-file : fileOf grow-flat ≡ block grow-flat 0 10 1
-unfolding readFile programRecords flatIn lengthRow blockRow blockAt usedOf fieldsFit usedFits zeros concatenated fileOf blocksFor blocksFrom blockOf blockBody checkWord wordSum readProgram headerRow headerFrom functionRow functionAt functionFrom sorts mostParameters nodeRow nodeAt nodeRecord kindOf kinds nth same below fieldsOf each prefixRow bodies exactlyOne exprsOf build popArgs arityOf total recordAt flat bytesOfRecord bytesOf numberAt numberOf block grow-flat grow-records
+unfolding readFile programRecords flatIn lengthRow blockRow blockAt usedOf fieldsFit usedFits zeros concatenated fileOf blocksFor blocksFrom blockOf blockBody checkWord wordSum readProgram headerRow headerFrom functionRow functionAt functionFrom sorts mostParameters nodeRow nodeAt nodeRecord kindOf kinds nth sameFields functionBelow fieldsOf each prefixRow bodies exactlyOne exprsOf build popArgs arityOf sumOfCounts recordAt flat bytesOfRecord bytesOf numberAt numberOf block grow-flat grow-records
 grow-file = refl
 
 grow-words : drop 504 (fileOf grow-flat) ≡ 0 ∷ 0 ∷ 10 ∷ 0 ∷ 1 ∷ 0 ∷ 188 ∷ 251 ∷ []
-unfolding readFile programRecords flatIn lengthRow blockRow blockAt usedOf fieldsFit usedFits zeros concatenated fileOf blocksFor blocksFrom blockOf blockBody checkWord wordSum readProgram headerRow headerFrom functionRow functionAt functionFrom sorts mostParameters nodeRow nodeAt nodeRecord kindOf kinds nth same below fieldsOf each prefixRow bodies exactlyOne exprsOf build popArgs arityOf total recordAt flat bytesOfRecord bytesOf numberAt numberOf block grow-flat grow-records
+unfolding readFile programRecords flatIn lengthRow blockRow blockAt usedOf fieldsFit usedFits zeros concatenated fileOf blocksFor blocksFrom blockOf blockBody checkWord wordSum readProgram headerRow headerFrom functionRow functionAt functionFrom sorts mostParameters nodeRow nodeAt nodeRecord kindOf kinds nth sameFields functionBelow fieldsOf each prefixRow bodies exactlyOne exprsOf build popArgs arityOf sumOfCounts recordAt flat bytesOfRecord bytesOf numberAt numberOf block grow-flat grow-records
 grow-words = refl
 
 -- 1: lengths 0, 511, 513 and 18 blocks
 length-cases : map read ([] ∷ take 511 (block grow-flat 0 10 1) ∷ (block grow-flat 0 10 1 ++ (0 ∷ [])) ∷ replicate 9216 0 ∷ []) ≡ replicate 4 (refusal 1 0)
-unfolding readFile programRecords flatIn lengthRow blockRow blockAt usedOf fieldsFit usedFits zeros concatenated fileOf blocksFor blocksFrom blockOf blockBody checkWord wordSum readProgram headerRow headerFrom functionRow functionAt functionFrom sorts mostParameters nodeRow nodeAt nodeRecord kindOf kinds nth same below fieldsOf each prefixRow bodies exactlyOne exprsOf build popArgs arityOf total recordAt flat bytesOfRecord bytesOf numberAt numberOf read block grow-flat grow-records
+unfolding readFile programRecords flatIn lengthRow blockRow blockAt usedOf fieldsFit usedFits zeros concatenated fileOf blocksFor blocksFrom blockOf blockBody checkWord wordSum readProgram headerRow headerFrom functionRow functionAt functionFrom sorts mostParameters nodeRow nodeAt nodeRecord kindOf kinds nth sameFields functionBelow fieldsOf each prefixRow bodies exactlyOne exprsOf build popArgs arityOf sumOfCounts recordAt flat bytesOfRecord bytesOf numberAt numberOf read block grow-flat grow-records
 length-cases = refl
 
 -- 2: a byte changed; 3, with a check that fits: block number, records used 0, 64, one too few,
@@ -160,7 +160,7 @@ block-cases : map read
     (block grow-flat 0 10 1 ∷ set (block grow-flat 0 10 1) 16 1 ∷ block grow-flat 1 10 1 ∷ block grow-flat 0 0 1 ∷ block grow-flat 0 64 1 ∷ block grow-flat 0 9 1
     ∷ block grow-flat 0 10 2 ∷ block (grow-flat ++ (replicate 423 0 ++ (1 ∷ []))) 0 10 1 ∷ block grow-flat 0 11 1 ∷ [])
     ≡ done tt ∷ refusal 2 0 ∷ refusal 3 0 ∷ refusal 3 0 ∷ refusal 3 0 ∷ refusal 3 0 ∷ refusal 3 0 ∷ refusal 3 0 ∷ refusal 4 0 ∷ []
-unfolding readFile programRecords flatIn lengthRow blockRow blockAt usedOf fieldsFit usedFits zeros concatenated fileOf blocksFor blocksFrom blockOf blockBody checkWord wordSum readProgram headerRow headerFrom functionRow functionAt functionFrom sorts mostParameters nodeRow nodeAt nodeRecord kindOf kinds nth same below fieldsOf each prefixRow bodies exactlyOne exprsOf build popArgs arityOf total recordAt flat bytesOfRecord bytesOf numberAt numberOf read block grow-flat grow-records
+unfolding readFile programRecords flatIn lengthRow blockRow blockAt usedOf fieldsFit usedFits zeros concatenated fileOf blocksFor blocksFrom blockOf blockBody checkWord wordSum readProgram headerRow headerFrom functionRow functionAt functionFrom sorts mostParameters nodeRow nodeAt nodeRecord kindOf kinds nth sameFields functionBelow fieldsOf each prefixRow bodies exactlyOne exprsOf build popArgs arityOf sumOfCounts recordAt flat bytesOfRecord bytesOf numberAt numberOf read block grow-flat grow-records
 block-cases = refl
 
 -- two blocks: both right; 2 in the second; 3 in the first before 2 in the second; 62 used in the
@@ -170,5 +170,5 @@ two-block-cases : map read
     ∷ (block (take 504 long) 1 63 2 ++ set (block (drop 504 long) 1 1 2) 0 9) ∷ (block (take 496 long) 0 62 2 ++ block (drop 496 long) 1 2 2)
     ∷ (block (take 504 long) 0 63 3 ++ (block (drop 504 long) 1 1 3 ++ block [] 2 0 3)) ∷ [])
     ≡ done tt ∷ refusal 2 1 ∷ refusal 3 0 ∷ refusal 3 0 ∷ refusal 3 1 ∷ []
-unfolding readFile programRecords flatIn lengthRow blockRow blockAt usedOf fieldsFit usedFits zeros concatenated fileOf blocksFor blocksFrom blockOf blockBody checkWord wordSum readProgram headerRow headerFrom functionRow functionAt functionFrom sorts mostParameters nodeRow nodeAt nodeRecord kindOf kinds nth same below fieldsOf each prefixRow bodies exactlyOne exprsOf build popArgs arityOf total recordAt flat bytesOfRecord bytesOf numberAt numberOf read block long
+unfolding readFile programRecords flatIn lengthRow blockRow blockAt usedOf fieldsFit usedFits zeros concatenated fileOf blocksFor blocksFrom blockOf blockBody checkWord wordSum readProgram headerRow headerFrom functionRow functionAt functionFrom sorts mostParameters nodeRow nodeAt nodeRecord kindOf kinds nth sameFields functionBelow fieldsOf each prefixRow bodies exactlyOne exprsOf build popArgs arityOf sumOfCounts recordAt flat bytesOfRecord bytesOf numberAt numberOf read block long
 two-block-cases = refl

@@ -9,7 +9,7 @@ use lib.ListN.{length}
 use Rattle.formats.specs.Numbers.{Bytes}
 use Rattle.formats.specs.Results.{done, onValue}
 use Rattle.formats.specs.Records.{recordBytes}
-use Rattle.formats.specs.Programs.{Program, total, signatures, flatOf, Lawful}
+use Rattle.formats.specs.Programs.{Program, sumOfCounts, signatures, flatOf, Lawful}
 use Rattle.formats.specs.Rows.{readProgram}
 use Rattle.formats.specs.Blocks.{blockRecords, mostBlocks, blocksFor, fileOf, flatIn, programIn, programRecords, readFile, writeFile}
 use Rattle.formats.specs.ProgramFiles.{Flattened, OneFile, Measured, ProgramFiles}
@@ -65,7 +65,7 @@ same-file s t r bs bt e f = sym (blocks-again s r bs (read-file s r e .flat-in))
 
 -- the records of a program
 abbrev records : Program → ℕ
-records program = suc (length (program .functions) + total (signatures program))
+records program = suc (length (program .functions) + sumOfCounts (signatures program))
 
 -- a lawful program's records fit the most blocks
 few-records : (program : Program) → Lawful program → records program ≤ blockRecords * mostBlocks

@@ -9,39 +9,39 @@ use lib.Dec.{lit<}
 use lib.ListN.{length, length-append, length-map}
 use Rattle.formats.specs.Records.{Ranged, Kind, fieldsOf}
 use Rattle.formats.specs.Programs.{Expr, const, var, add, ifZero, letIn, leafOf, nodeOf, caseOf, call, Args, noArgs, arg, prefix, prefixes, size}
-use Rattle.formats.specs.Programs.{argsAt, partsAt, Sort, numberValued, treeValued, sortNumber, Signature, signatureRecord, total, Function, signatureOf}
+use Rattle.formats.specs.Programs.{argsAt, partsAt, Sort, numberValued, treeValued, sortNumber, Signature, signatureRecord, sumOfCounts, Function, signatureOf}
 use Rattle.formats.specs.Programs.{Program, signatures, nodes, headerRecord, headerOf, recordsOf, mostFunctions, mostParameters, InRange, Every, LawfulFunctions, Lawful}
-use Rattle.formats.specs.ProgramFiles.{Stands, nothing, one-more, StandsPlaced}
+use Rattle.formats.specs.ProgramFiles.{RecordsAt, nothing, one-more, StandsPlaced}
 use Rattle.formats.proofs.Records.{ranged-kind}
 
 -- ---- where the parts stand
 
 -- a record number may be exchanged for an equal one
-stands-position : {s : List ℕ} {ks : List Kind} {k j : ℕ} → k ≡ j → Stands s k ks → Stands s j ks
-stands-position {s} {ks} e h = subst (λ (i : ℕ). Stands s i ks) e h
+stands-position : {s : List ℕ} {ks : List Kind} {k j : ℕ} → k ≡ j → RecordsAt s k ks → RecordsAt s j ks
+stands-position {s} {ks} e h = subst (λ (i : ℕ). RecordsAt s i ks) e h
 
 -- joined records that stand come apart
-pub stands-left : {s : List ℕ} {k : ℕ} (us vs : List Kind) → Stands s k (us ++ vs) → Stands s k us
+pub stands-left : {s : List ℕ} {k : ℕ} (us vs : List Kind) → RecordsAt s k (us ++ vs) → RecordsAt s k us
 stands-left [] vs h = nothing
 stands-left (u ∷ us) vs (one-more is more) = one-more is (stands-left us vs more)
 
-pub stands-right : {s : List ℕ} {k : ℕ} (us vs : List Kind) → Stands s k (us ++ vs) → Stands s (k + length us) vs
+pub stands-right : {s : List ℕ} {k : ℕ} (us vs : List Kind) → RecordsAt s k (us ++ vs) → RecordsAt s (k + length us) vs
 stands-right [] vs h = stands-position (sym (add-zero _)) h
 stands-right (u ∷ us) vs (one-more is more) = stands-position (suc-add _ _ ∙ sym (add-suc _ _)) (stands-right us vs more)
 
 -- each argument stands after those before it
-args-stand : (r : List ℕ) (k : ℕ) (xs : Args) → Stands r k (prefixes xs) → Every (StandsPlaced r) (argsAt k xs)
+args-stand : (r : List ℕ) (k : ℕ) (xs : Args) → RecordsAt r k (prefixes xs) → Every (StandsPlaced r) (argsAt k xs)
 unfolding prefixes argsAt size
 args-stand r k noArgs h = tt
 args-stand r k (arg x xs) h =
     (stands-left (prefix x) (prefixes xs) h, args-stand r (k + length (prefix x)) xs (stands-right (prefix x) (prefixes xs) h))
 
 -- two parts stand one after the other
-two-stand : (r : List ℕ) (k : ℕ) (p q : Expr) → Stands r k (prefix p ++ prefix q) → Stands r k (prefix p) × (Stands r (k + length (prefix p)) (prefix q) × Unit {0})
+two-stand : (r : List ℕ) (k : ℕ) (p q : Expr) → RecordsAt r k (prefix p ++ prefix q) → RecordsAt r k (prefix p) × (RecordsAt r (k + length (prefix p)) (prefix q) × Unit {0})
 two-stand r k p q h = (stands-left (prefix p) (prefix q) h, (stands-right (prefix p) (prefix q) h, tt))
 
 -- the parts of an expression stand at their own records
-pub parts-stand : (r : List ℕ) (k : ℕ) (e : Expr) → Stands r k (prefix e) → Every (StandsPlaced r) (partsAt k e)
+pub parts-stand : (r : List ℕ) (k : ℕ) (e : Expr) → RecordsAt r k (prefix e) → Every (StandsPlaced r) (partsAt k e)
 unfolding prefix partsAt size
 parts-stand r k (const i) h = tt
 parts-stand r k (var a) h = tt
@@ -70,19 +70,19 @@ some-record (caseOf a p q) = suc-le-suc zero-le
 some-record (call a b xs) = suc-le-suc zero-le
 
 -- functions have at least one node, where there are some
-pub some-nodes : (fs : List Function) → 1 ≤ length fs → 1 ≤ total (map signatureOf fs)
-unfolding total signatureOf
+pub some-nodes : (fs : List Function) → 1 ≤ length fs → 1 ≤ sumOfCounts (map signatureOf fs)
+unfolding sumOfCounts signatureOf
 some-nodes [] h = absurd (omega arith)
 some-nodes (f ∷ fs) h = let here = some-record (f .body) in omega arith
 
 -- as many nodes as the counts say
-pub length-nodes : (fs : List Function) → length (nodes fs) ≡ total (map signatureOf fs)
-unfolding nodes total signatureOf size
+pub length-nodes : (fs : List Function) → length (nodes fs) ≡ sumOfCounts (map signatureOf fs)
+unfolding nodes sumOfCounts signatureOf size
 length-nodes [] = refl
 length-nodes (f ∷ fs) = length-append (prefix (f .body)) (nodes fs) ∙ ap (λ (n : ℕ). length (prefix (f .body)) + n) (length-nodes fs)
 
 -- 01, Header: "There are 1 + F + N records."
-pub length-records : (program : Program) → length (recordsOf program) ≡ suc (length (program .functions) + total (signatures program))
+pub length-records : (program : Program) → length (recordsOf program) ≡ suc (length (program .functions) + sumOfCounts (signatures program))
 unfolding recordsOf
 length-records program = simp (length-append, length-map, length-nodes)
 
@@ -114,9 +114,9 @@ parameters-fit zero n h = omega arith
 parameters-fit (suc j) n h = omega arith
 
 -- so do those of lawful functions, with not too many nodes
-signatures-fit : (gs : List Signature) (j : ℕ) (fs : List Function) → LawfulFunctions gs j fs → total (map signatureOf fs) < 2 ^ 16
+signatures-fit : (gs : List Signature) (j : ℕ) (fs : List Function) → LawfulFunctions gs j fs → sumOfCounts (map signatureOf fs) < 2 ^ 16
     → Every Ranged (map signatureRecord (map signatureOf fs))
-unfolding total signatureRecord signatureOf
+unfolding sumOfCounts signatureRecord signatureOf
 signatures-fit gs j [] h n = tt
 signatures-fit gs j (f ∷ fs) h n =
     ((sort-fits (f .sort), parameters-fit j (f .parameters) (h .0 .few-parameters), omega arith, lit< tt), signatures-fit gs (suc j) fs (h .1) (omega arith))

@@ -15,10 +15,10 @@ use lib.Dec.{leb, lit<}
 use lib.ListN.{length, getD, take, drop, length-drop}
 use lib.Seq.{getD-drop, take-all, split-at}
 use Rattle.formats.specs.Numbers.{Bytes, numberOf}
-use Rattle.formats.specs.Buffers.{Opens, Lies, nothing, one-more}
+use Rattle.formats.specs.Buffers.{Opens, BytesAt, nothing, one-more}
 use Rattle.formats.specs.Refusals.{inputEnded, notATag, tooDeep}
 use Rattle.formats.specs.Tokens.{Tree, leaf, node, Labelled, depth, leafTag, nodeTag, labelBytes, mostDepth, tokens, Tag, noByte, aLeaf, aNode, labelAt, treeAt, firstTree}
-use Rattle.formats.specs.Reader.{Gave, Due, first, left, right, Refuses, no-tag, no-label, no-such-tag, under-too-many, Fits, Ended, FitsNone, TooDeep, TreeReader}
+use Rattle.formats.specs.Reader.{Gave, Due, first, left, right, Refuses, no-tag, no-label, no-such-tag, under-too-many, OpensSomeTree, Ended, FitsNone, TooDeep, TreeReader}
 use Rattle.formats.proofs.Numbers.{length-bytesOf, bytesOf-opens, numberOf-fits}
 use Rattle.formats.proofs.Buffers.{lies-left, lies-right, lies-part, lies-within, lies-first, opens-lies, lies-shared, lies-take, lies-all, head-is}
 use Rattle.formats.proofs.Tokens.{length-of-tokens, Look, past, at-leaf, at-node, at-other, look, read-ended, read-leaf, read-other, read-deep, label-whole, label-cut, left-refused, right-refused, read-node, reads-at, stands, one-tree}
@@ -165,22 +165,22 @@ filled {s} (right {p = p} l d fl shallow h) u fits =
 record PartAt (s : List ℕ) (p : ℕ) : Type 0 where
   part : Tree
   labelled : Labelled part
-  lies : Lies s p (tokens part)
+  lies : BytesAt s p (tokens part)
 
-left-part : {s : List ℕ} {p : ℕ} (u : Tree) → Labelled u → Lies s p (tokens u) → getD s p 0 ≡ nodeTag → PartAt s (suc p)
+left-part : {s : List ℕ} {p : ℕ} (u : Tree) → Labelled u → BytesAt s p (tokens u) → getD s p 0 ≡ nodeTag → PartAt s (suc p)
 unfolding tokens
 left-part (leaf x) fits (one-more there is more) tag = absurd (omega arith)
 left-part (node l r) fits (one-more there is more) tag = record { part = l; labelled = fits .0; lies = lies-left (tokens l) (tokens r) more }
 
-right-part : {s : List ℕ} {p : ℕ} (u l : Tree) → Labelled u → Labelled l → Lies s p (tokens u) → Lies s p (nodeTag ∷ tokens l) → PartAt s (suc p + length (tokens l))
+right-part : {s : List ℕ} {p : ℕ} (u l : Tree) → Labelled u → Labelled l → BytesAt s p (tokens u) → BytesAt s p (nodeTag ∷ tokens l) → PartAt s (suc p + length (tokens l))
 unfolding tokens
 right-part (leaf x) l fits fl (one-more there is more) (one-more t tag m) = absurd (omega arith)
 right-part {s} {p} (node k r) l fits fl (one-more there is more) (one-more t tag m) =
     let same : k ≡ l = one-tree k l s (suc p) (fits .0) fl (lies-left (tokens k) (tokens r) more) m in
-    record { part = r; labelled = fits .1; lies = subst (λ (v : Tree). Lies s (suc p + length (tokens v)) (tokens r)) same (lies-right (tokens k) (tokens r) more) }
+    record { part = r; labelled = fits .1; lies = subst (λ (v : Tree). BytesAt s (suc p + length (tokens v)) (tokens r)) same (lies-right (tokens k) (tokens r) more) }
 
 -- where a tag is due and a tree opens the buffer, a part of that tree stands
-due-part : {s : List ℕ} {p above : ℕ} → Due s p above → (t : Tree) → Labelled t → Lies s 0 (tokens t) → PartAt s p
+due-part : {s : List ℕ} {p above : ℕ} → Due s p above → (t : Tree) → Labelled t → BytesAt s 0 (tokens t) → PartAt s p
 due-part first t fits h = record { part = t; labelled = fits; lies = h }
 due-part (left d room (one-more there is more)) t fits h = let u = due-part d t fits h in left-part (u .part) (u .labelled) (u .lies) is
 due-part (right l d fl shallow m) t fits h = let u = due-part d t fits h in right-part (u .part) l (u .labelled) fl (u .lies) m
@@ -192,13 +192,13 @@ due-shared n u o (left d room tag) h = left (due-shared n u o d (omega arith)) r
 due-shared n u o (right l d fl shallow m) h = right l (due-shared n u o d (omega arith)) fl shallow (lies-shared n u o m (omega arith))
 
 -- the first byte of a tree's tokens is a tag
-tag-first : {s : List ℕ} {p : ℕ} (u : Tree) → Lies s p (tokens u) → getD s p 0 ≢ leafTag → getD s p 0 ≢ nodeTag → ⊥
+tag-first : {s : List ℕ} {p : ℕ} (u : Tree) → BytesAt s p (tokens u) → getD s p 0 ≢ leafTag → getD s p 0 ≢ nodeTag → ⊥
 unfolding tokens
 tag-first (leaf x) (one-more there is more) nl nn = nl is
 tag-first (node l r) (one-more there is more) nl nn = nn is
 
 -- the bytes before an offset where a tag is due fit some tree
-fits-before : {s : List ℕ} {p above : ℕ} → Due s p above → Fits (take p s)
+fits-before : {s : List ℕ} {p above : ℕ} → Due s p above → OpensSomeTree (take p s)
 fits-before d =
     let f = filled d (leaf 0) (lit< tt) in
     record { whole = f .whole; labelled = f .labelled; opens = record { rest = tokens (leaf 0) ++ f .rest; joined = f .joined } }
@@ -206,7 +206,7 @@ fits-before d =
 fits-none-at : {s : List ℕ} {p above : ℕ} → Due s p above → p < length s → getD s p 0 ≢ leafTag → getD s p 0 ≢ nodeTag → FitsNone s p
 fits-none-at {s} {p} d there nl nn = record { there = there; before = fits-before d; no-longer = refuted }
   where
-    refuted : Fits (take (suc p) s) → ⊥
+    refuted : OpensSomeTree (take (suc p) s) → ⊥
     refuted f =
         let u = due-part (due-shared (suc p) (tokens (f .whole)) (f .opens) d (omega arith)) (f .whole) (f .labelled) (lies-all (tokens (f .whole))) in
         let same : getD (tokens (f .whole)) p 0 ≡ getD s p 0 = head-is (lies-shared {s = s} (suc p) (tokens (f .whole)) (f .opens) (one-more there refl nothing) (omega arith)) in
@@ -216,7 +216,7 @@ fits-none-at {s} {p} d there nl nn = record { there = there; before = fits-befor
 label-joined : (s before b label more rest : List ℕ) → s ≡ before ++ (leafTag ∷ b) → label ≡ b ++ more → before ++ ((leafTag ∷ label) ++ rest) ≡ s ++ (more ++ rest)
 label-joined s before b label more rest e f = simp (e, f, append-assoc)
 
-cut-label-fits : {s : List ℕ} {p above : ℕ} → Bytes s → Due s p above → Lies s p (leafTag ∷ []) → length s < suc p + labelBytes → Fits s
+cut-label-fits : {s : List ℕ} {p above : ℕ} → Bytes s → Due s p above → BytesAt s p (leafTag ∷ []) → length s < suc p + labelBytes → OpensSomeTree s
 unfolding tokens
 cut-label-fits {s} {p} bs d (one-more there is more) cut =
     let b : List ℕ = drop (suc p) s in
@@ -228,12 +228,12 @@ cut-label-fits {s} {p} bs d (one-more there is more) cut =
     record { whole = f .whole; labelled = f .labelled; opens = record { rest = o .rest ++ f .rest; joined = f .joined ∙ label-joined s (take p s) b _ (o .rest) (f .rest) split (o .joined) } }
 
 -- no tree stands where the buffer ends, and no leaf where its label is cut
-never-past : {s : List ℕ} {p : ℕ} (u : Tree) → Lies s p (tokens u) → p ≡ length s → ⊥
+never-past : {s : List ℕ} {p : ℕ} (u : Tree) → BytesAt s p (tokens u) → p ≡ length s → ⊥
 unfolding tokens
 never-past (leaf x) (one-more there is more) e = omega arith
 never-past (node l r) (one-more there is more) e = omega arith
 
-never-cut : {s : List ℕ} {p : ℕ} (u : Tree) → Lies s p (tokens u) → getD s p 0 ≡ leafTag → length s < suc p + labelBytes → ⊥
+never-cut : {s : List ℕ} {p : ℕ} (u : Tree) → BytesAt s p (tokens u) → getD s p 0 ≡ leafTag → length s < suc p + labelBytes → ⊥
 unfolding tokens
 never-cut {s} {p} (leaf x) (one-more there is more) tag cut =
     let whole : suc p + labelBytes ≤ length s = rw length-bytesOf at (lies-within more there) in

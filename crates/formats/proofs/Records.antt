@@ -15,8 +15,8 @@ use lib.ListN.{length, getD, take, drop, length-append, take-append-drop, drop-o
 use lib.Seq.{getD-append-add, take-add, drop-drop, drop-cons}
 use Rattle.formats.specs.Numbers.{Bytes, bytesOf, numberAt}
 use Rattle.formats.specs.Refusals.{nodeField}
-use Rattle.formats.specs.Results.{done, refusal, check}
-use Rattle.formats.specs.Records.{recordBytes, Record, fields, Ranged, bytesOfRecord, flat, recordAt, Kind, Const, Var, Add, IfZero, Let, Leaf, Node, Case, Call, fieldsOf, kinds, nth, kindOf, same, below, nodeRecord}
+use Rattle.formats.specs.Results.{done, refusal, valueIf}
+use Rattle.formats.specs.Records.{recordBytes, Record, fields, Ranged, bytesOfRecord, flat, recordAt, Kind, Const, Var, Add, IfZero, Let, Leaf, Node, Case, Call, fieldsOf, kinds, nth, kindOf, sameFields, functionBelow, nodeRecord}
 use Rattle.formats.specs.Programs.{InRange, Every}
 use Rattle.formats.specs.Rows.{nodeAt}
 use Rattle.formats.specs.Inner.Fields.{headerIn, nodeIn}
@@ -141,8 +141,8 @@ flat-records n s bs e = flat-from n s 0 bs (omega arith)
 -- ---- node records
 
 -- records with the same fields are the same
-same-is : (r q : Record) → same r q ≡ true → r ≡ q
-unfolding same
+same-is : (r q : Record) → sameFields r q ≡ true → r ≡ q
+unfolding sameFields
 same-is (fields x a b i) (fields y c d j) e =
     let h = both-held (eqb x y) _ e in
     let g = both-held (eqb a c) _ (h .1) in
@@ -154,13 +154,13 @@ same-is (fields x a b i) (fields y c d j) e =
     cc (p, q, r, t)
 
 -- a record is the same as itself
-same-self : (r : Record) → same r r ≡ true
-unfolding same
+same-self : (r : Record) → sameFields r r ≡ true
+unfolding sameFields
 same-self (fields x a b i) = simp (eq-eqb x x refl, eq-eqb a a refl, eq-eqb b b refl, eq-eqb i i refl)
 
 -- operands that fit their fields and a function that is one of so many are in range ..
-in-range : (functions : ℕ) (kind : Kind) → Ranged (fieldsOf kind) → below functions kind ≡ true → InRange functions kind
-unfolding fieldsOf below
+in-range : (functions : ℕ) (kind : Kind) → Ranged (fieldsOf kind) → functionBelow functions kind ≡ true → InRange functions kind
+unfolding fieldsOf functionBelow
 in-range functions (Const i) h e = h .3
 in-range functions (Var a) h e = h .1
 in-range functions Add h e = tt
@@ -172,8 +172,8 @@ in-range functions (Case a) h e = h .1
 in-range functions (Call a b) h e = (h .1, ltb-true b functions e)
 
 -- .. and what is in range has such a function ..
-in-range-below : (functions : ℕ) (kind : Kind) → InRange functions kind → below functions kind ≡ true
-unfolding below
+in-range-below : (functions : ℕ) (kind : Kind) → InRange functions kind → functionBelow functions kind ≡ true
+unfolding functionBelow
 in-range-below functions (Const i) h = refl
 in-range-below functions (Var a) h = refl
 in-range-below functions Add h = refl
@@ -220,7 +220,7 @@ unfolding nodeRecord
 node-inv edition functions k r kind h e = by-kind (kindOf edition r) e
   where
     by-kind : (o : Option Kind)
-        → elim o [ none ↦ refusal nodeField k | some found ↦ check (same (fieldsOf found) r && below functions found) nodeField k found ] ≡ done kind
+        → elim o [ none ↦ refusal nodeField k | some found ↦ valueIf (sameFields (fieldsOf found) r && functionBelow functions found) nodeField k found ] ≡ done kind
         → NodeRead functions r kind
     by-kind none e = done-not e refl
     by-kind (some found) e =
@@ -235,7 +235,7 @@ unfolding nodeRecord
 node-done edition functions k kind h = rw (kind-of-own edition kind, nodeRecord, same-self (fieldsOf kind), in-range-below functions kind h)
 
 -- a node that was read calls one of the functions
-pub node-below : (s : List ℕ) (k : ℕ) (kind : Kind) → nodeIn s k ≡ done kind → below (headerIn s .functions) kind ≡ true
+pub node-below : (s : List ℕ) (k : ℕ) (kind : Kind) → nodeIn s k ≡ done kind → functionBelow (headerIn s .functions) kind ≡ true
 unfolding nodeIn nodeAt nodeRecord
 node-below s k kind e = by-kind (kindOf (headerIn s .edition) (recordAt s k)) e
   where
@@ -243,10 +243,10 @@ node-below s k kind e = by-kind (kindOf (headerIn s .edition) (recordAt s k)) e
     functions = headerIn s .functions
 
     by-kind : (o : Option Kind)
-        → elim o [ none ↦ refusal nodeField k | some found ↦ check (same (fieldsOf found) (recordAt s k) && below functions found) nodeField k found ] ≡ done kind
-        → below functions kind ≡ true
+        → elim o [ none ↦ refusal nodeField k | some found ↦ valueIf (sameFields (fieldsOf found) (recordAt s k) && functionBelow functions found) nodeField k found ] ≡ done kind
+        → functionBelow functions kind ≡ true
     by-kind none e = done-not e refl
     by-kind (some found) e =
         let c = check-inv _ nodeField k found kind e in
-        let b = both-held (same (fieldsOf found) (recordAt s k)) _ (c .held) in
-        ap (below functions) (sym (c .same)) ∙ b .1
+        let b = both-held (sameFields (fieldsOf found) (recordAt s k)) _ (c .held) in
+        ap (functionBelow functions) (sym (c .same)) ∙ b .1

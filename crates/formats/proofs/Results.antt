@@ -10,7 +10,7 @@ use native.Mathlib.Numerals.{add-one}
 use native.Mathlib.Omega.{arith}
 use lib.ListN.{length, take, drop, length-drop}
 use lib.Seq.{take-all}
-use Rattle.formats.specs.Results.{Result, done, refusal, andThen, onValue, verdict, check, each}
+use Rattle.formats.specs.Results.{Result, done, refusal, andThen, onValue, verdict, valueIf, each}
 use Rattle.formats.specs.Records.{nth}
 
 -- a reading is a value or a refusal, with the equation kept
@@ -70,21 +70,21 @@ pub record Checked {A : Type 0} (test : Bool) (x y : A) : Type 0 where
   pub held : test ≡ true
   pub same : x ≡ y
 
-pub check-inv : {A : Type 0} (test : Bool) (number position : ℕ) (x y : A) → check test number position x ≡ done y → Checked test x y
+pub check-inv : {A : Type 0} (test : Bool) (number position : ℕ) (x y : A) → valueIf test number position x ≡ done y → Checked test x y
 check-inv true number position x y e = record { held = refl; same = done-injective e }
 check-inv false number position x y e = done-not e refl
 
 -- what a check says does not depend on its value
-pub check-said : {A : Type 0} (test : Bool) (number position : ℕ) (x : A) → check test number position tt ≡ verdict (check test number position x)
+pub check-said : {A : Type 0} (test : Bool) (number position : ℕ) (x : A) → valueIf test number position tt ≡ verdict (valueIf test number position x)
 check-said true number position x = refl
 check-said false number position x = refl
 
 -- the result of a test: passed where it holds, refused where it does not
-pub test-holds : (test : Bool) (number position : ℕ) (r : Result (Unit {0})) → check test number position tt ≡ r → test ≡ true → done tt ≡ r
-test-holds test number position r reported h = ap (λ t. check t number position tt) (sym h) ∙ reported
+pub test-holds : (test : Bool) (number position : ℕ) (r : Result (Unit {0})) → valueIf test number position tt ≡ r → test ≡ true → done tt ≡ r
+test-holds test number position r reported h = ap (λ t. valueIf t number position tt) (sym h) ∙ reported
 
-pub test-fails : (test : Bool) (number position : ℕ) (r : Result (Unit {0})) → check test number position tt ≡ r → test ≡ false → refusal number position ≡ r
-test-fails test number position r reported h = ap (λ t. check t number position tt) (sym h) ∙ reported
+pub test-fails : (test : Bool) (number position : ℕ) (r : Result (Unit {0})) → valueIf test number position tt ≡ r → test ≡ false → refusal number position ≡ r
+test-fails test number position r reported h = ap (λ t. valueIf t number position tt) (sym h) ∙ reported
 
 -- where a check passes there is a value, and what it refuses is refused
 pub record Value {A : Type 0} (r : Result A) : Type 0 where

@@ -14,14 +14,14 @@ use lib.ListN.{length, take, drop, length-drop, length-map, take-append-drop}
 use lib.Seq.{length-take-le, take-append-seam, drop-append-seam}
 use Rattle.formats.specs.Numbers.{Bytes}
 use Rattle.formats.specs.Refusals.{headerField, functionField}
-use Rattle.formats.specs.Results.{Result, done, check, each}
+use Rattle.formats.specs.Results.{Result, done, valueIf, each}
 use Rattle.formats.specs.Records.{recordBytes, Record, fields, Ranged, flat, recordAt, Kind, fieldsOf, nth}
-use Rattle.formats.specs.Programs.{Expr, prefix, size, Applied, Sort, numberValued, treeValued, sortNumber, Signature, signatureRecord, arityOf, total}
+use Rattle.formats.specs.Programs.{Expr, prefix, size, CallsComplete, Sort, numberValued, treeValued, sortNumber, Signature, signatureRecord, arityOf, sumOfCounts}
 use Rattle.formats.specs.Programs.{Function, signatureOf, Program, signatures, nodes, Header, headerRecord, headerOf, recordsOf, flatOf}
 use Rattle.formats.specs.Programs.{firstEdition, mostFunctions, mostNodes, mostParameters, InRange, Every, LawfulFunctions, Lawful}
 use Rattle.formats.specs.Rows.{headerFrom, headerRow, sorts, functionFrom, functionAt, functionRow, nodeAt, nodeRow, exprsOf, exactlyOne, bodies, prefixRow, readProgram}
 use Rattle.formats.specs.Inner.Fields.{headerIn, functionIn, sortIn, arityIn, countIn}
-use Rattle.formats.specs.ProgramFiles.{Flattened, Stands, nothing, one-more}
+use Rattle.formats.specs.ProgramFiles.{Flattened, RecordsAt, nothing, one-more}
 use Rattle.formats.proofs.Results.{done-injective, done-not, then-done, then-inv, each-done, each-inv, each-none, each-nth, each-length, check-inv, both-held}
 use Rattle.formats.proofs.Records.{length-flat, ranged-at, flat-bytes, at-flat, recordsFrom, flat-records, NodeRead, node-inv, node-done}
 use Rattle.formats.proofs.Programs.{some-record, some-nodes, length-nodes, length-records, every-left, every-right, nodes-in-range, records-fit}
@@ -75,7 +75,7 @@ flat-held : (s : List ℕ) (rs : List Record) → Bytes s → length s ≡ recor
 flat-held s rs bs long h = ap flat (sym (holds-records h)) ∙ flat-records (length rs) s bs long
 
 -- held records of nodes stand there
-holds-stands : (s : List ℕ) (k : ℕ) (ks : List Kind) → Holds s k (map fieldsOf ks) → Stands s k ks
+holds-stands : (s : List ℕ) (k : ℕ) (ks : List Kind) → Holds s k (map fieldsOf ks) → RecordsAt s k ks
 holds-stands s k [] h = nothing
 holds-stands s k (kind ∷ ks) (and-more is more) = one-more is (holds-stands s (suc k) ks more)
 
@@ -152,7 +152,7 @@ pub record FunctionRead (j : ℕ) (r : Record) (g : Signature) : Type 0 where
 
 -- a function record with that sort, where the other fields are right
 sorted-inv : (j a n i : ℕ) (sort : Sort) (g : Signature)
-    → check (leb a (mostParameters j) && (leb 1 n && eqb i 0)) functionField (suc j) (record { sort = sort; parameters = a; count = n }) ≡ done g
+    → valueIf (leb a (mostParameters j) && (leb 1 n && eqb i 0)) functionField (suc j) (record { sort = sort; parameters = a; count = n }) ≡ done g
     → FunctionRead j (fields (sortNumber sort) a n i) g
 unfolding signatureRecord
 sorted-inv j a n i sort g e =
@@ -174,18 +174,18 @@ function-inv edition j (fields (suc zero) a n i) g e = sorted-inv j a n i treeVa
 function-inv edition j (fields (suc (suc x)) a n i) g e = done-not e refl
 
 -- a count fits its field, so that a sum of counts never wraps
-counts-fit : (edition : ℕ) (s : List ℕ) (n j : ℕ) (gs : List Signature) → Bytes s → each (functionAt edition s) n j ≡ done gs → total gs ≤ 65535 * n
-unfolding total functionAt signatureRecord
+counts-fit : (edition : ℕ) (s : List ℕ) (n j : ℕ) (gs : List Signature) → Bytes s → each (functionAt edition s) n j ≡ done gs → sumOfCounts gs ≤ 65535 * n
+unfolding sumOfCounts functionAt signatureRecord
 counts-fit edition s zero j gs bs e = rw (each-none (functionAt edition s) j gs e) (omega arith)
 counts-fit edition s (suc n) j gs bs e =
     let i = each-inv (functionAt edition s) n j gs e in
     let known = function-inv edition j (recordAt s (suc j)) (i .head) (i .here) in
     let fits : Ranged (signatureRecord (i .head)) = subst Ranged (sym (known .own)) (ranged-at s (suc j) bs) in
     let first : i .head .count < 2 ^ 16 = fits .2 in
-    let others : total (i .tail) ≤ 65535 * n = counts-fit edition s n (suc j) (i .tail) bs (i .later) in
+    let others : sumOfCounts (i .tail) ≤ 65535 * n = counts-fit edition s n (suc j) (i .tail) bs (i .later) in
     rw (i .both) (omega arith)
 
-pub sums-fit : (edition : ℕ) (s : List ℕ) (n : ℕ) (gs : List Signature) → Bytes s → each (functionAt edition s) n 0 ≡ done gs → total gs ≤ 65535 * n
+pub sums-fit : (edition : ℕ) (s : List ℕ) (n : ℕ) (gs : List Signature) → Bytes s → each (functionAt edition s) n 0 ≡ done gs → sumOfCounts gs ≤ 65535 * n
 sums-fit edition s n gs bs e = counts-fit edition s n 0 gs bs e
 
 -- a sort is found by its number
@@ -272,7 +272,7 @@ one-inv r (some (x ∷ (y ∷ es))) e h = done-not h refl
 -- what is known of the expression that records are
 record BodyRead (arity : ℕ → ℕ) (ks : List Kind) (e : Expr) : Type 0 where
   own : prefix e ≡ ks
-  applied : Applied arity e
+  applied : CallsComplete arity e
 
 -- records that are one expression are its own ..
 body-inv : (arity : ℕ → ℕ) (ks : List Kind) (r : ℕ) (e : Expr) → exactlyOne r (exprsOf arity ks) ≡ done e → BodyRead arity ks e
@@ -282,13 +282,13 @@ body-inv arity ks r e h =
     record { own = sym (append-nil (prefix e)) ∙ p .joined; applied = p .applied .0 }
 
 -- .. and an expression's own records are that expression
-body-done : (arity : ℕ → ℕ) (r : ℕ) (e : Expr) → Applied arity e → exactlyOne r (exprsOf arity (prefix e)) ≡ done e
+body-done : (arity : ℕ → ℕ) (r : ℕ) (e : Expr) → CallsComplete arity e → exactlyOne r (exprsOf arity (prefix e)) ≡ done e
 unfolding exactlyOne exprsOf
 body-done arity r e h = ap (exactlyOne r) (ap (exprsOf arity) (sym (append-nil (prefix e))) ∙ exprs-prefix e arity [] [] h refl)
 
 -- each Call in a function has its arguments
 abbrev pub AppliedBody : (ℕ → ℕ) → Function → Type 0
-AppliedBody arity f = Applied arity (f .body)
+AppliedBody arity f = CallsComplete arity (f .body)
 
 -- what is known of functions whose bodies were read
 pub record BodiesRead (arity : ℕ → ℕ) (gs : List Signature) (ks : List Kind) (fs : List Function) : Type 0 where
@@ -297,16 +297,16 @@ pub record BodiesRead (arity : ℕ → ℕ) (gs : List Signature) (ks : List Kin
   pub applied : Every (AppliedBody arity) fs
 
 -- functions whose bodies were read are known ..
-pub bodies-inv : (arity : ℕ → ℕ) (gs : List Signature) (ks : List Kind) (r : ℕ) (fs : List Function) → length ks ≡ total gs → bodies arity gs ks r ≡ done fs
+pub bodies-inv : (arity : ℕ → ℕ) (gs : List Signature) (ks : List Kind) (r : ℕ) (fs : List Function) → length ks ≡ sumOfCounts gs → bodies arity gs ks r ≡ done fs
     → BodiesRead arity gs ks fs
-unfolding bodies total nodes signatureOf size
+unfolding bodies sumOfCounts nodes signatureOf size
 bodies-inv arity [] [] r fs n e = subst (BodiesRead arity [] []) (done-injective e) (record { signed = refl; own = refl; applied = tt })
 bodies-inv arity [] (k ∷ ks) r fs n e = absurd (omega arith)
 bodies-inv arity (g ∷ gs) ks r fs n e =
     let first = then-inv (exactlyOne r (exprsOf arity (take (g .count) ks))) _ fs e in
     let later = then-inv (bodies arity gs (drop (g .count) ks) (r + g .count)) _ fs (first .second) in
     let b = body-inv arity (take (g .count) ks) r (first .value) (first .first) in
-    let left : length (drop (g .count) ks) ≡ total gs = simp length-drop (omega arith) in
+    let left : length (drop (g .count) ks) ≡ sumOfCounts gs = simp length-drop (omega arith) in
     let rest = bodies-inv arity gs (drop (g .count) ks) (r + g .count) (later .value) left (later .first) in
     let counted : length (prefix (first .value)) ≡ g .count = ap length (b .own) ∙ length-take-le (g .count) ks (omega arith) in
     subst (BodiesRead arity (g ∷ gs) ks) (done-injective (later .second))
@@ -338,7 +338,7 @@ record RowsRead (s : List ℕ) (program : Program) : Type 0 where
 -- what is known where the function row is done
 pub record Summed (h : Header) (s : List ℕ) (gs : List Signature) : Type 0 where
   pub each-read : each (functionAt (h .edition) s) (h .functions) 0 ≡ done gs
-  pub sum : total gs ≡ h .nodes
+  pub sum : sumOfCounts gs ≡ h .nodes
 
 -- its readings are done, and the counts have the sum that the header says
 pub summed-inv : (h : Header) (s : List ℕ) (gs : List Signature) → functionRow h s ≡ done gs → Summed h s gs
@@ -346,7 +346,7 @@ unfolding functionRow
 summed-inv h s gs e =
     let t = then-inv (each (functionAt (h .edition) s) (h .functions) 0) _ gs e in
     let c = check-inv _ functionField (h .functions) (t .value) gs (t .second) in
-    record { each-read = t .first ∙ ap done (c .same); sum = ap total (sym (c .same)) ∙ eqb-true (total (t .value)) (h .nodes) (c .held) }
+    record { each-read = t .first ∙ ap done (c .same); sum = ap sumOfCounts (sym (c .same)) ∙ eqb-true (sumOfCounts (t .value)) (h .nodes) (c .held) }
 
 -- ---- the fields of records that were read
 
@@ -395,7 +395,7 @@ rows-of s h gs ks fs bs eh eg ek ef =
     let g = summed-inv h s gs eg in
     let b = bodies-inv (arityOf gs) gs ks (suc (h .functions)) fs (each-length _ (h .nodes) (suc (h .functions)) ks ek ∙ sym (g .sum)) ef in
     let many : length fs ≡ h .functions = sym (length-map fs signatureOf) ∙ ap length (b .signed) ∙ each-length _ (h .functions) 0 gs (g .each-read) in
-    let sum : total (map signatureOf fs) ≡ h .nodes = ap total (b .signed) ∙ g .sum in
+    let sum : sumOfCounts (map signatureOf fs) ≡ h .nodes = ap sumOfCounts (b .signed) ∙ g .sum in
     record {
       header = rw (many, sum) (header-inv (length s) (recordAt s 0) h eh);
       functions = rw (b .signed) (functions-inv (h .edition) s (h .functions) 0 gs (g .each-read));
@@ -420,7 +420,7 @@ module _ (s : List ℕ) (program : Program) (known : RowsRead s program) where
   unfolding functionRow headerOf
   function-row =
       let all = functions-done (program .edition) s 0 (signatures program) (known .functions) in
-      then-done _ (rw (length-map (program .functions) signatureOf) at all) ∙ simp (eq-eqb (total (signatures program)) (total (signatures program)) refl)
+      then-done _ (rw (length-map (program .functions) signatureOf) at all) ∙ simp (eq-eqb (sumOfCounts (signatures program)) (sumOfCounts (signatures program)) refl)
 
   -- .. the node row the nodes ..
   node-row : nodeRow (headerOf program) s ≡ done (nodes (program .functions))
@@ -465,7 +465,7 @@ length-signatures program = simp length-map
 
 module _ (program : Program) (lawful : Lawful program) where
   -- it has a node
-  pub some-node : 1 ≤ total (signatures program)
+  pub some-node : 1 ≤ sumOfCounts (signatures program)
   some-node = some-nodes (program .functions) (lawful .some-function)
 
   -- its flat records are bytes
@@ -474,7 +474,7 @@ module _ (program : Program) (lawful : Lawful program) where
   flat-lawful-bytes = flat-bytes (recordsOf program) (records-fit program lawful)
 
   -- it has 1 + F + N records
-  pub lawful-length : length (flatOf program) ≡ recordBytes * suc (length (program .functions) + total (signatures program))
+  pub lawful-length : length (flatOf program) ≡ recordBytes * suc (length (program .functions) + sumOfCounts (signatures program))
   unfolding flatOf
   lawful-length = length-flat (recordsOf program) ∙ ap (λ (n : ℕ). recordBytes * n) (length-records program)
 
@@ -547,5 +547,5 @@ module _ (r : List ℕ) (program : Program) (bs : Bytes r) (e : readProgram r �
   }
 
   -- the nodes stand after the header and the function records
-  pub nodes-stand : Stands r (suc (length (program .functions))) (nodes (program .functions))
+  pub nodes-stand : RecordsAt r (suc (length (program .functions))) (nodes (program .functions))
   nodes-stand = holds-stands r (suc (length (program .functions))) (nodes (program .functions)) held-kinds

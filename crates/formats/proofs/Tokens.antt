@@ -13,7 +13,7 @@ use borrow.Author.Tests.{lt-ltb, le-ltb, le-leb, lt-leb, eq-eqb, ne-eqb, ltb-tru
 use lib.Dec.{leb, ltb, eqb}
 use lib.ListN.{length, getD, take, drop, length-append}
 use Rattle.formats.specs.Numbers.{Bytes, bytesOf, numberOf, numberAt}
-use Rattle.formats.specs.Buffers.{Lies, one-more}
+use Rattle.formats.specs.Buffers.{BytesAt, one-more}
 use Rattle.formats.specs.Refusals.{inputEnded, notATag, tooDeep}
 use Rattle.formats.specs.Tokens.{Tree, leaf, node, Labelled, tips, depth, leafTag, nodeTag, labelBytes, tokens, Tag, noByte, aLeaf, aNode, other, tagOf, tagAt, labelAt, branchesAt, treeByTag, treeAt}
 use Rattle.formats.proofs.Numbers.{length-bytesOf, number-bytesOf, numberAt-whole, numberAt-lt, bytesOf-numberAt}
@@ -120,14 +120,14 @@ module _ (room : ℕ) {s : List ℕ} {p : ℕ} (k : Look s p aNode) where
   read-node e f = rw (read-parts room k) (simp (branchesAt, e, f))
 
 -- a label that stands at an offset is read there
-label-read : (s : List ℕ) (p x : ℕ) → x < 2 ^ 32 → p ≤ length s → Lies s p (bytesOf labelBytes x) → labelAt s p ≡ done (leaf x)
+label-read : (s : List ℕ) (p x : ℕ) → x < 2 ^ 32 → p ≤ length s → BytesAt s p (bytesOf labelBytes x) → labelAt s p ≡ done (leaf x)
 label-read s p x fits h label =
     let whole : p + labelBytes ≤ length s = rw length-bytesOf at (lies-within label h) in
     let is : take labelBytes (drop p s) ≡ bytesOf labelBytes x = rw length-bytesOf at (lies-part label) in
     label-whole s p whole ∙ ap (λ (n : ℕ). done (leaf n)) (numberAt-whole labelBytes s p whole ∙ ap numberOf is ∙ number-bytesOf labelBytes x fits)
 
 -- a tree that stands at an offset, with room for its depth, is read there
-pub reads-at : (t : Tree) (room : ℕ) (s : List ℕ) (p : ℕ) → Labelled t → depth t ≤ room → Lies s p (tokens t) → treeAt room s p ≡ done t
+pub reads-at : (t : Tree) (room : ℕ) (s : List ℕ) (p : ℕ) → Labelled t → depth t ≤ room → BytesAt s p (tokens t) → treeAt room s p ≡ done t
 unfolding depth tokens
 reads-at (leaf x) room s p fits h (one-more there is more) =
     read-leaf room (at-leaf there is) ∙ label-read s (suc p) x fits (omega arith) more
@@ -139,7 +139,7 @@ reads-at (node l r) (suc room) s p fits h (one-more there is more) =
 
 -- what is known of a tree that was read at an offset with so much room
 pub record Stands (room : ℕ) (s : List ℕ) (p : ℕ) (t : Tree) : Type 0 where
-  pub lies : Lies s p (tokens t)
+  pub lies : BytesAt s p (tokens t)
   pub labelled : Labelled t
   pub shallow : depth t ≤ room
 
@@ -150,7 +150,7 @@ leaf-stands room s p t bs (at-leaf there is) e = whole (leb (suc p + labelBytes)
     whole : (b : Bool) → leb (suc p + labelBytes) (length s) ≡ b → Stands room s p t
     whole true h =
         let within : suc p + labelBytes ≤ length s = leb-true _ _ h in
-        let label : Lies s (suc p) (bytesOf labelBytes (numberAt labelBytes s (suc p))) = rw (bytesOf-numberAt labelBytes s (suc p) bs within) (lies-taken labelBytes s (suc p) within) in
+        let label : BytesAt s (suc p) (bytesOf labelBytes (numberAt labelBytes s (suc p))) = rw (bytesOf-numberAt labelBytes s (suc p) bs within) (lies-taken labelBytes s (suc p) within) in
         let same : leaf (numberAt labelBytes s (suc p)) ≡ t = cc (label-whole s (suc p) within) in
         subst (Stands room s p) same
         (record { lies = one-more there is label; labelled = numberAt-lt labelBytes s (suc p) bs within; shallow = omega arith })
@@ -195,7 +195,7 @@ stands zero s p t bs e = by-tag zero s p t bs (λ k. done-not e (read-deep k)) (
 stands (suc room) s p t bs e = by-tag (suc room) s p t bs (λ k. node-stands room s p t (λ q u f. stands room s q u bs f) k e) (look s p) e
 
 -- tokens are prefix-free: two trees that stand at one offset are the same
-pub one-tree : (t u : Tree) (s : List ℕ) (p : ℕ) → Labelled t → Labelled u → Lies s p (tokens t) → Lies s p (tokens u) → t ≡ u
+pub one-tree : (t u : Tree) (s : List ℕ) (p : ℕ) → Labelled t → Labelled u → BytesAt s p (tokens t) → BytesAt s p (tokens u) → t ≡ u
 one-tree t u s p lt lu ht hu =
     let room : ℕ = max (depth t) (depth u) in
     let rt : treeAt room s p ≡ done t = reads-at t room s p lt (le-max-left _ _) ht in

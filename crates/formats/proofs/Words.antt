@@ -8,7 +8,7 @@ use native.Mathlib.Omega.{arith}
 use lib.ListN.{length, take, drop, length-drop}
 use lib.Seq.{drop-drop}
 use Rattle.formats.specs.Numbers.{bytesOf, numberOf, numberAt}
-use Rattle.formats.specs.Blocks.{wordSum, checkSum, wordLimit, checkWord}
+use Rattle.formats.specs.Blocks.{wordSum, checkTarget, wordLimit, checkWord}
 use Rattle.formats.proofs.Numbers.{number-bytesOf, numberAt-whole}
 
 -- whole words in front add their own sum
@@ -49,11 +49,11 @@ unfolding checkWord
 checkWord-lt s = omega arith
 
 -- it makes the sum right ..
-pub checkWord-right : (s : List ℕ) (n : ℕ) → length s ≡ 2 * n → wordSum (s ++ bytesOf 2 (checkWord s)) % wordLimit ≡ checkSum
+pub checkWord-right : (s : List ℕ) (n : ℕ) → length s ≡ 2 * n → wordSum (s ++ bytesOf 2 (checkWord s)) % wordLimit ≡ checkTarget
 unfolding checkWord
 checkWord-right s n e = rw (wordSum-after s n (checkWord s) e (checkWord-lt s)) (omega arith)
 
 -- .. and no other word does
-pub checkWord-only : (s : List ℕ) (n w : ℕ) → length s ≡ 2 * n → w < wordLimit → wordSum (s ++ bytesOf 2 w) % wordLimit ≡ checkSum → w ≡ checkWord s
+pub checkWord-only : (s : List ℕ) (n w : ℕ) → length s ≡ 2 * n → w < wordLimit → wordSum (s ++ bytesOf 2 w) % wordLimit ≡ checkTarget → w ≡ checkWord s
 unfolding checkWord
 checkWord-only s n w e h right = omega (arith, wordSum-after s n w e h)

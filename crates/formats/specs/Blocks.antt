@@ -7,7 +7,7 @@ use lib.Dec.{leb, ltb, eqb}
 use Rattle.formats.specs.Numbers.{bytesOf, numberOf, numberAt}
 use Rattle.formats.specs.Written.{written}
 use Rattle.formats.specs.Refusals.{fileLength, blockCheck, blockField, spaceTooShort}
-use Rattle.formats.specs.Results.{Result, done, refusal, andThen, onValue, check, each}
+use Rattle.formats.specs.Results.{Result, done, refusal, andThen, onValue, valueIf, each}
 use Rattle.formats.specs.Records.{recordBytes}
 use Rattle.formats.specs.Programs.{Program}
 use Rattle.formats.specs.Rows.{readProgram}
@@ -24,8 +24,8 @@ abbrev pub blockRecords : ℕ
 blockRecords = 63
 
 -- The bytes of all records of a block.
-abbrev pub partBytes : ℕ
-partBytes = recordBytes * blockRecords
+abbrev pub recordsBytes : ℕ
+recordsBytes = recordBytes * blockRecords
 
 -- 01, Blocks: "504–505: block number from 0. 506–507: records used .. 508–509: number of blocks."
 abbrev pub numberOffset : ℕ
@@ -45,8 +45,8 @@ wordSum (low ∷ []) = 0
 wordSum (low ∷ (high ∷ s)) = numberOf (low ∷ high ∷ []) + wordSum s
 
 -- 01, Blocks: ".. so that the block's 256 16-bit words sum to 65,535 modulo 65,536."
-abbrev pub checkSum : ℕ
-checkSum = 65535
+abbrev pub checkTarget : ℕ
+checkTarget = 65535
 
 -- How many values a 16-bit word has.
 abbrev pub wordLimit : ℕ
@@ -54,13 +54,13 @@ wordLimit = 2 ^ 16
 
 -- The check word of a block whose other bytes are s.
 unfoldable pub checkWord : List ℕ → ℕ
-checkWord s = checkSum - wordSum s % wordLimit
+checkWord s = checkTarget - wordSum s % wordLimit
 
 -- Block j of a file of `blocks` blocks, but for its check word. `part` has the records that it
 -- uses, as bytes. 01, Blocks: "Unused records are zero."
 unfoldable pub blockBody : List ℕ → ℕ → ℕ → List ℕ
 blockBody part j blocks =
-    part ++ (replicate (partBytes - length part) 0 ++ (bytesOf 2 j ++ (bytesOf 2 (length part / recordBytes) ++ bytesOf 2 blocks)))
+    part ++ (replicate (recordsBytes - length part) 0 ++ (bytesOf 2 j ++ (bytesOf 2 (length part / recordBytes) ++ bytesOf 2 blocks)))
 
 -- The whole block: its check word comes last.
 unfoldable pub blockOf : List ℕ → ℕ → ℕ → List ℕ
@@ -70,11 +70,11 @@ blockOf part j blocks = blockBody part j blocks ++ bytesOf 2 (checkWord (blockBo
 -- Blocks: "63 in all but the last".
 unfoldable pub blocksFrom : ℕ → ℕ → ℕ → List ℕ → List ℕ
 blocksFrom blocks zero j s = []
-blocksFrom blocks (suc n) j s = blockOf (take partBytes s) j blocks ++ blocksFrom blocks n (suc j) (drop partBytes s)
+blocksFrom blocks (suc n) j s = blockOf (take recordsBytes s) j blocks ++ blocksFrom blocks n (suc j) (drop recordsBytes s)
 
 -- The fewest blocks that hold so many bytes of flat records.
 unfoldable pub blocksFor : ℕ → ℕ
-blocksFor bytes = (bytes + (partBytes - 1)) / partBytes
+blocksFor bytes = (bytes + (recordsBytes - 1)) / recordsBytes
 
 -- The file of the flat records s.
 unfoldable pub fileOf : List ℕ → List ℕ
@@ -87,7 +87,7 @@ fileOf s = blocksFrom (blocksFor (length s)) (blocksFor (length s)) 0 s
 unfoldable pub lengthRow : List ℕ → Result ℕ
 lengthRow s =
     let n = length s / blockBytes in
-    check (eqb (length s) (blockBytes * n) && (leb 1 n && leb n mostBlocks)) fileLength 0 n
+    valueIf (eqb (length s) (blockBytes * n) && (leb 1 n && leb n mostBlocks)) fileLength 0 n
 
 -- Whether every byte is zero.
 unfoldable pub zeros : List ℕ → Bool
@@ -105,15 +105,15 @@ fieldsFit blocks j block =
     eqb (numberAt 2 block numberOffset) j
     && (usedFits blocks j (numberAt 2 block usedOffset)
     && (eqb (numberAt 2 block blocksOffset) blocks
-    && zeros (drop (recordBytes * numberAt 2 block usedOffset) (take partBytes block))))
+    && zeros (drop (recordBytes * numberAt 2 block usedOffset) (take recordsBytes block))))
 
 -- The records that block j uses, as bytes, or its refusal at position j. 01, The order of the
 -- tests: "2 check, then 3 other block fields or unused records".
 unfoldable pub usedOf : ℕ → ℕ → List ℕ → Result (List ℕ)
 usedOf blocks j block =
-    elim (eqb (wordSum block % wordLimit) checkSum) [
+    elim (eqb (wordSum block % wordLimit) checkTarget) [
       | false ↦ refusal blockCheck j
-      | true ↦ check (fieldsFit blocks j block) blockField j (take (recordBytes * numberAt 2 block usedOffset) block)
+      | true ↦ valueIf (fieldsFit blocks j block) blockField j (take (recordBytes * numberAt 2 block usedOffset) block)
     ]
 
 -- The same for block j of the file s.
@@ -157,7 +157,7 @@ writeFile r = onValue (λ program. fileOf r) (readProgram r)
 -- The bytes, where a buffer of `room` bytes can hold them. 01, The table of refusals: "13 code,
 -- file or work buffer too short", at position 0.
 unfoldable pub inRoom : ℕ → List ℕ → Result (List ℕ)
-inRoom room bytes = check (leb (length bytes) room) spaceTooShort 0 bytes
+inRoom room bytes = valueIf (leb (length bytes) room) spaceTooShort 0 bytes
 
 -- What the file reader is to put into a buffer of `room` bytes, or its refusal.
 unfoldable pub readInto : ℕ → List ℕ → Result (List ℕ)
@@ -169,6 +169,6 @@ writeInto room r = andThen (writeFile r) (inRoom room)
 
 -- What a lent buffer holds after such a call. 01, What the lent buffers hold: "A refusal leaves
 -- every output buffer untouched".
-unfoldable pub lent : List ℕ → Result (List ℕ) → List ℕ
-lent before (done bytes) = written before 0 bytes
-lent before (refusal number position) = before
+unfoldable pub bufferAfter : List ℕ → Result (List ℕ) → List ℕ
+bufferAfter before (done bytes) = written before 0 bytes
+bufferAfter before (refusal number position) = before

@@ -10,6 +10,6 @@ pub record Opens (vs s : List ℕ) : Type 0 where
   pub joined : s ≡ vs ++ rest
 
 -- The bytes vs stand at offset p of s, all of them within s. (An empty vs stands at every p.)
-pub data Lies (s : List ℕ) : ℕ → List ℕ → Type 0 where
-  nothing : {p : ℕ} → Lies s p []
-  one-more : {p v : ℕ} {vs : List ℕ} → p < length s → getD s p 0 ≡ v → Lies s (suc p) vs → Lies s p (v ∷ vs)
+pub data BytesAt (s : List ℕ) : ℕ → List ℕ → Type 0 where
+  nothing : {p : ℕ} → BytesAt s p []
+  one-more : {p v : ℕ} {vs : List ℕ} → p < length s → getD s p 0 ≡ v → BytesAt s (suc p) vs → BytesAt s p (v ∷ vs)

@@ -6,7 +6,7 @@ use lib.ListN.{length}
 use Rattle.formats.specs.Numbers.{Bytes}
 use Rattle.formats.specs.Results.{done, each}
 use Rattle.formats.specs.Records.{recordBytes, recordAt, Kind, fieldsOf}
-use Rattle.formats.specs.Programs.{Expr, prefix, Placed, partsAt, Every, Program, Signature, total, signatures, nodes, flatOf, Lawful, mostFunctions, mostNodes}
+use Rattle.formats.specs.Programs.{Expr, prefix, Placed, partsAt, Every, Program, Signature, sumOfCounts, signatures, nodes, flatOf, Lawful, mostFunctions, mostNodes}
 use Rattle.formats.specs.Rows.{functionAt, readProgram}
 use Rattle.formats.specs.Blocks.{blockBytes, blockRecords, mostBlocks, programIn, readFile, writeFile}
 
@@ -16,13 +16,13 @@ pub record Flattened (r : List ℕ) (program : Program) : Type 0 where
   pub lawful : Lawful program
 
 -- Records of these kinds stand in the flat records s, the first of them record k.
-pub data Stands (s : List ℕ) : ℕ → List Kind → Type 0 where
-  nothing : {k : ℕ} → Stands s k []
-  one-more : {k : ℕ} {kind : Kind} {rest : List Kind} → recordAt s k ≡ fieldsOf kind → Stands s (suc k) rest → Stands s k (kind ∷ rest)
+pub data RecordsAt (s : List ℕ) : ℕ → List Kind → Type 0 where
+  nothing : {k : ℕ} → RecordsAt s k []
+  one-more : {k : ℕ} {kind : Kind} {rest : List Kind} → recordAt s k ≡ fieldsOf kind → RecordsAt s (suc k) rest → RecordsAt s k (kind ∷ rest)
 
 -- An expression's records stand from its own record on.
 abbrev pub StandsPlaced : List ℕ → Placed → Type 0
-StandsPlaced s part = Stands s (part .at-record) (prefix (part .expr))
+StandsPlaced s part = RecordsAt s (part .at-record) (prefix (part .expr))
 
 -- A program has one file: this one holds it, and no other does.
 pub record OneFile (program : Program) : Type 0 where
@@ -41,13 +41,13 @@ pub record Fewest (blocks records : ℕ) : Type 0 where
 pub record Measured (s r : List ℕ) (program : Program) : Type 0 where
   pub some-function : 1 ≤ length (program .functions)
   pub few-functions : length (program .functions) ≤ mostFunctions
-  pub some-node : 1 ≤ total (signatures program)
-  pub few-nodes : total (signatures program) ≤ mostNodes
+  pub some-node : 1 ≤ sumOfCounts (signatures program)
+  pub few-nodes : sumOfCounts (signatures program) ≤ mostNodes
   -- 01, Header: "There are 1 + F + N records."
-  pub records : length r ≡ recordBytes * suc (length (program .functions) + total (signatures program))
+  pub records : length r ≡ recordBytes * suc (length (program .functions) + sumOfCounts (signatures program))
   pub blocks : ℕ
   pub whole-blocks : length s ≡ blockBytes * blocks
-  pub fewest : Fewest blocks (suc (length (program .functions) + total (signatures program)))
+  pub fewest : Fewest blocks (suc (length (program .functions) + sumOfCounts (signatures program)))
   -- 01, Blocks: "Blocks of 512 bytes, 1 to 17."
   pub some-block : 1 ≤ blocks
   pub few-blocks : blocks ≤ mostBlocks
@@ -71,10 +71,10 @@ pub record ProgramFiles : Type 0 where
   -- The nodes stand after the header and the function records, and the parts of an expression at
   -- their own records.
   pub nodes-stand : (r : List ℕ) (program : Program) → Bytes r → readProgram r ≡ done program
-      → Stands r (suc (length (program .functions))) (nodes (program .functions))
-  pub parts-stand : (r : List ℕ) (k : ℕ) (e : Expr) → Stands r k (prefix e) → Every (StandsPlaced r) (partsAt k e)
+      → RecordsAt r (suc (length (program .functions))) (nodes (program .functions))
+  pub parts-stand : (r : List ℕ) (k : ℕ) (e : Expr) → RecordsAt r k (prefix e) → Every (StandsPlaced r) (partsAt k e)
   -- The sum of n node counts is at most 65,535 n, whether it is the right one or not. So for as
   -- many functions as a header can count it fits 32 bits, and never wraps.
-  pub sums-fit : (edition : ℕ) (s : List ℕ) (n : ℕ) (gs : List Signature) → Bytes s → each (functionAt edition s) n 0 ≡ done gs → total gs ≤ 65535 * n
+  pub sums-fit : (edition : ℕ) (s : List ℕ) (n : ℕ) (gs : List Signature) → Bytes s → each (functionAt edition s) n 0 ≡ done gs → sumOfCounts gs ≤ 65535 * n
   -- The counts are within the limits, and the file has the fewest blocks that hold the records.
   pub measured : (r s : List ℕ) (program : Program) → Bytes r → readProgram r ≡ done program → writeFile r ≡ done s → Measured s r program

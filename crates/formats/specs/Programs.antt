@@ -78,20 +78,20 @@ countArgs (arg x xs) = suc (countArgs xs)
 -- 01, Nine kinds of record: "Call .. its number arguments": each Call has as many as its function
 -- has number parameters. `arity` says how many these are.
 abbrev mutual
-  pub Applied : (ℕ → ℕ) → Expr → Type 0
-  Applied arity (const i) = Unit {0}
-  Applied arity (var a) = Unit {0}
-  Applied arity (add p q) = Applied arity p × Applied arity q
-  Applied arity (ifZero t z o) = Applied arity t × (Applied arity z × Applied arity o)
-  Applied arity (letIn p body) = Applied arity p × Applied arity body
-  Applied arity (leafOf p) = Applied arity p
-  Applied arity (nodeOf p q) = Applied arity p × Applied arity q
-  Applied arity (caseOf a p q) = Applied arity p × Applied arity q
-  Applied arity (call a b xs) = (countArgs xs ≡ arity b) × AppliedArgs arity xs
+  pub CallsComplete : (ℕ → ℕ) → Expr → Type 0
+  CallsComplete arity (const i) = Unit {0}
+  CallsComplete arity (var a) = Unit {0}
+  CallsComplete arity (add p q) = CallsComplete arity p × CallsComplete arity q
+  CallsComplete arity (ifZero t z o) = CallsComplete arity t × (CallsComplete arity z × CallsComplete arity o)
+  CallsComplete arity (letIn p body) = CallsComplete arity p × CallsComplete arity body
+  CallsComplete arity (leafOf p) = CallsComplete arity p
+  CallsComplete arity (nodeOf p q) = CallsComplete arity p × CallsComplete arity q
+  CallsComplete arity (caseOf a p q) = CallsComplete arity p × CallsComplete arity q
+  CallsComplete arity (call a b xs) = (countArgs xs ≡ arity b) × ArgsComplete arity xs
 
-  pub AppliedArgs : (ℕ → ℕ) → Args → Type 0
-  AppliedArgs arity noArgs = Unit {0}
-  AppliedArgs arity (arg x xs) = Applied arity x × AppliedArgs arity xs
+  pub ArgsComplete : (ℕ → ℕ) → Args → Type 0
+  ArgsComplete arity noArgs = Unit {0}
+  ArgsComplete arity (arg x xs) = CallsComplete arity x × ArgsComplete arity xs
 
 -- 01, Function records: "byte 0 result (0 number, 1 tree)". The sort of a function.
 pub data Sort : Type 0 where
@@ -118,9 +118,9 @@ unfoldable pub arityOf : List Signature → ℕ → ℕ
 arityOf gs b = elim (nth gs b) [ none ↦ 0 | some g ↦ g .parameters ]
 
 -- 01, Function records: "the counts sum to N".
-unfoldable pub total : List Signature → ℕ
-total [] = 0
-total (g ∷ gs) = g .count + total gs
+unfoldable pub sumOfCounts : List Signature → ℕ
+sumOfCounts [] = 0
+sumOfCounts (g ∷ gs) = g .count + sumOfCounts gs
 
 -- A function: its sort, its number parameters and its body. It takes one tree besides.
 pub record Function : Type 0 where
@@ -157,7 +157,7 @@ unfoldable pub headerRecord : Header → Record
 headerRecord h = fields (h .edition) (h .functions) (h .nodes) 0
 
 unfoldable pub headerOf : Program → Header
-headerOf program = record { edition = program .edition; functions = length (program .functions); nodes = total (signatures program) }
+headerOf program = record { edition = program .edition; functions = length (program .functions); nodes = sumOfCounts (signatures program) }
 
 -- 01, Header: "There are 1 + F + N records": the header, the function records, the nodes.
 unfoldable pub recordsOf : Program → List Record
@@ -206,7 +206,7 @@ Every P (x ∷ xs) = P x × Every P xs
 pub record LawfulFunction (gs : List Signature) (j : ℕ) (f : Function) : Type 0 where
   pub few-parameters : f .parameters ≤ mostParameters j
   pub in-range : Every (InRange (length gs)) (prefix (f .body))
-  pub applied : Applied (arityOf gs) (f .body)
+  pub applied : CallsComplete (arityOf gs) (f .body)
 
 -- So are all these functions, the first of them function j.
 abbrev pub LawfulFunctions : List Signature → ℕ → List Function → Type 0
@@ -218,5 +218,5 @@ pub record Lawful (program : Program) : Type 0 where
   pub edition : program .edition ≡ firstEdition
   pub some-function : 1 ≤ length (program .functions)
   pub few-functions : length (program .functions) ≤ mostFunctions
-  pub few-nodes : total (signatures program) ≤ mostNodes
+  pub few-nodes : sumOfCounts (signatures program) ≤ mostNodes
   pub functions : LawfulFunctions (signatures program) 0 (program .functions)

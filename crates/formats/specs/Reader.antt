@@ -5,7 +5,7 @@ use mathlib.Core.Logic.{_≢_, _↔_}
 use mathlib.Core.Path.{_≡_}
 use lib.ListN.{length, getD, take}
 use Rattle.formats.specs.Numbers.{Bytes}
-use Rattle.formats.specs.Buffers.{Opens, Lies}
+use Rattle.formats.specs.Buffers.{Opens, BytesAt}
 use Rattle.formats.specs.Refusals.{inputEnded, notATag, tooDeep}
 use Rattle.formats.specs.Tokens.{Tree, Labelled, tips, depth, leafTag, nodeTag, labelBytes, mostDepth, tokens, firstTree}
 use Rattle.formats.specs.Results.{done, refusal}
@@ -25,13 +25,13 @@ pub record Gave (s : List ℕ) (t : Tree) : Type 0 where
 -- after the left one.
 pub data Due (s : List ℕ) : ℕ → ℕ → Type 0 where
   first : Due s 0 0
-  left : {p above : ℕ} → Due s p above → above < mostDepth → Lies s p (nodeTag ∷ []) → Due s (suc p) (suc above)
+  left : {p above : ℕ} → Due s p above → above < mostDepth → BytesAt s p (nodeTag ∷ []) → Due s (suc p) (suc above)
   right :
       {p above : ℕ} (l : Tree)
       → Due s p above
       → Labelled l
       → suc (above + depth l) ≤ mostDepth
-      → Lies s p (nodeTag ∷ tokens l)
+      → BytesAt s p (nodeTag ∷ tokens l)
       → Due s (suc p + length (tokens l)) (suc above)
 
 -- The refusals of the row "tree reader", each with its number and its position: a rule for each
@@ -40,14 +40,14 @@ pub data Refuses (s : List ℕ) : ℕ → ℕ → Type 0 where
   -- 15 at the start of a tag that is not there
   no-tag : {p above : ℕ} → Due s p above → p ≡ length s → Refuses s inputEnded p
   -- 15 at the start of a label that is not whole
-  no-label : {p above : ℕ} → Due s p above → Lies s p (leafTag ∷ []) → length s < suc p + labelBytes → Refuses s inputEnded (suc p)
+  no-label : {p above : ℕ} → Due s p above → BytesAt s p (leafTag ∷ []) → length s < suc p + labelBytes → Refuses s inputEnded (suc p)
   -- 16 at a byte that is not 1 or 2
   no-such-tag : {p above : ℕ} → Due s p above → p < length s → getD s p 0 ≢ leafTag → getD s p 0 ≢ nodeTag → Refuses s notATag p
   -- 20 at a node tag under 1,024 others
-  under-too-many : {p : ℕ} → Due s p mostDepth → Lies s p (nodeTag ∷ []) → Refuses s tooDeep p
+  under-too-many : {p : ℕ} → Due s p mostDepth → BytesAt s p (nodeTag ∷ []) → Refuses s tooDeep p
 
 -- s are opening bytes of the tokens of some tree, however deep.
-pub record Fits (s : List ℕ) : Type 0 where
+pub record OpensSomeTree (s : List ℕ) : Type 0 where
   pub whole : Tree
   pub labelled : Labelled whole
   pub opens : Opens s (tokens whole)
@@ -55,18 +55,18 @@ pub record Fits (s : List ℕ) : Type 0 where
 -- What refusal 15 means: the bytes given are opening bytes of some tree's tokens, and do not hold a
 -- whole tree.
 pub record Ended (s : List ℕ) : Type 0 where
-  pub so-far : Fits s
+  pub so-far : OpensSomeTree s
   pub more : (t : Tree) → Labelled t → Opens (tokens t) s → ⊥
 
 -- What refusal 16 at position p means: the byte at p is the first that fits no tree.
 pub record FitsNone (s : List ℕ) (p : ℕ) : Type 0 where
   pub there : p < length s
-  pub before : Fits (take p s)
-  pub no-longer : Fits (take (suc p) s) → ⊥
+  pub before : OpensSomeTree (take p s)
+  pub no-longer : OpensSomeTree (take (suc p) s) → ⊥
 
 -- What refusal 20 at position p means: a node tag stands there, under 1,024 others.
 pub record TooDeep (s : List ℕ) (p : ℕ) : Type 0 where
-  pub tag : Lies s p (nodeTag ∷ [])
+  pub tag : BytesAt s p (nodeTag ∷ [])
   pub under : Due s p mostDepth
 
 -- 01, The tree reader, sentence by sentence.

@@ -7,7 +7,7 @@ use lib.ListN.{length, getD}
 use lib.Dec.{ltb, eqb}
 use Rattle.formats.specs.Numbers.{bytesOf, numberAt}
 use Rattle.formats.specs.Refusals.{nodeField}
-use Rattle.formats.specs.Results.{Result, refusal, check}
+use Rattle.formats.specs.Results.{Result, refusal, valueIf}
 
 -- 01, Blocks: "63 records of 8 bytes".
 abbrev pub recordBytes : ℕ
@@ -80,20 +80,20 @@ unfoldable pub kindOf : ℕ → Record → Option Kind
 kindOf edition (fields x a b i) = nth (kinds edition a b i) x
 
 -- Whether two records have the same fields.
-unfoldable pub same : Record → Record → Bool
-same (fields x a b i) (fields y c d j) = eqb x y && (eqb a c && (eqb b d && eqb i j))
+unfoldable pub sameFields : Record → Record → Bool
+sameFields (fields x a b i) (fields y c d j) = eqb x y && (eqb a c && (eqb b d && eqb i j))
 
 -- Whether the function that a Call names is one of so many functions. Other kinds name none.
-unfoldable pub below : ℕ → Kind → Bool
-below functions (Call a b) = ltb b functions
-below functions (Const i) = true
-below functions (Var a) = true
-below functions Add = true
-below functions IfZero = true
-below functions Let = true
-below functions Leaf = true
-below functions Node = true
-below functions (Case a) = true
+unfoldable pub functionBelow : ℕ → Kind → Bool
+functionBelow functions (Call a b) = ltb b functions
+functionBelow functions (Const i) = true
+functionBelow functions (Var a) = true
+functionBelow functions Add = true
+functionBelow functions IfZero = true
+functionBelow functions Let = true
+functionBelow functions Leaf = true
+functionBelow functions Node = true
+functionBelow functions (Case a) = true
 
 -- 01, Nine kinds of record: "A record read is its kind with its operands, or a refusal with its
 -- place." Record k, whose fields are r, read as a node. 01, The table of refusals: "6 kind above 8,
@@ -103,7 +103,7 @@ unfoldable pub nodeRecord : ℕ → ℕ → ℕ → Record → Result Kind
 nodeRecord edition functions k r =
     elim (kindOf edition r) [
       | none ↦ refusal nodeField k
-      | some kind ↦ check (same (fieldsOf kind) r && below functions kind) nodeField k kind
+      | some kind ↦ valueIf (sameFields (fieldsOf kind) r && functionBelow functions kind) nodeField k kind
     ]
 
 -- A part: what is expected of it, and what more is named in it. 01, Pass one: "Add's parts, tests,

@@ -22,9 +22,9 @@ abbrev pub verdict : {A : Type 0} → Result A → Result (Unit {0})
 verdict r = onValue (λ x. tt) r
 
 -- The value where the test holds, else the refusal.
-abbrev pub check : {A : Type 0} → Bool → ℕ → ℕ → A → Result A
-check true number position x = done x
-check false number position x = refusal number position
+abbrev pub valueIf : {A : Type 0} → Bool → ℕ → ℕ → A → Result A
+valueIf true number position x = done x
+valueIf false number position x = refusal number position
 
 -- The values of f at k, k + 1 and so on, n of them, or the first refusal.
 unfoldable pub each : {A : Type 0} → (ℕ → Result A) → ℕ → ℕ → Result (List A)

@@ -8,16 +8,16 @@ use mathlib.Core.Option.{Option, none, some}
 use lib.ListN.{length, take, drop}
 use lib.Dec.{leb, eqb}
 use Rattle.formats.specs.Refusals.{headerField, functionField, prefixForm}
-use Rattle.formats.specs.Results.{Result, done, refusal, andThen, check, each}
+use Rattle.formats.specs.Results.{Result, done, refusal, andThen, valueIf, each}
 use Rattle.formats.specs.Records.{Record, fields, recordBytes, recordAt, Kind, Const, Var, Add, IfZero, Let, Leaf, Node, Case, Call, nth, nodeRecord}
 use Rattle.formats.specs.Programs.{Expr, const, var, add, ifZero, letIn, leafOf, nodeOf, caseOf, call, Args, noArgs, arg}
-use Rattle.formats.specs.Programs.{Sort, numberValued, treeValued, Signature, arityOf, total, Function, Program, Header, firstEdition, mostFunctions, mostNodes, mostParameters}
+use Rattle.formats.specs.Programs.{Sort, numberValued, treeValued, Signature, arityOf, sumOfCounts, Function, Program, Header, firstEdition, mostFunctions, mostNodes, mostParameters}
 
 -- The header, from the fields of record 0 and the number of bytes of all flat records. 01, The
 -- table of refusals: "4 a field, or the record count", at record 0.
 unfoldable pub headerFrom : ℕ → Record → Result Header
 headerFrom bytes (fields edition f n i) =
-    check
+    valueIf
     (eqb edition firstEdition
     && ((leb 1 f && leb f mostFunctions) && ((leb 1 n && leb n mostNodes) && (eqb i 0 && eqb bytes (recordBytes * suc (f + n))))))
     headerField
@@ -39,7 +39,7 @@ functionFrom edition j (fields x a n i) =
     elim (nth (sorts edition) x) [
       | none ↦ refusal functionField (suc j)
       | some sort ↦
-          check (leb a (mostParameters j) && (leb 1 n && eqb i 0)) functionField (suc j) (record { sort = sort; parameters = a; count = n })
+          valueIf (leb a (mostParameters j) && (leb 1 n && eqb i 0)) functionField (suc j) (record { sort = sort; parameters = a; count = n })
     ]
 
 -- The signature of function j in the flat records s.
@@ -50,7 +50,7 @@ functionAt edition s j = functionFrom edition j (recordAt s (suc j))
 -- of refusals: "a wrong sum of counts at the last one".
 unfoldable pub functionRow : Header → List ℕ → Result (List Signature)
 functionRow h s =
-    andThen (each (functionAt (h .edition) s) (h .functions) 0) (λ gs. check (eqb (total gs) (h .nodes)) functionField (h .functions) gs)
+    andThen (each (functionAt (h .edition) s) (h .functions) 0) (λ gs. valueIf (eqb (sumOfCounts gs) (h .nodes)) functionField (h .functions) gs)
 
 -- Record k as a node. 01, The table of refusals: "6 ..", at the record.
 unfoldable pub nodeAt : Header → List ℕ → ℕ → Result Kind

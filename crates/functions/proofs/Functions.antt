@@ -12,9 +12,9 @@ use borrow.Author.Tests.{not-true, not-false, le-leb, lt-leb, eq-eqb, ne-eqb}
 use lib.Dec.{leb, eqb}
 use Rattle.formats.specs.Numbers.{numberAt}
 use Rattle.formats.specs.Refusals.{functionField}
-use Rattle.formats.specs.Results.{andThen, check, done, refusal, verdict, each}
+use Rattle.formats.specs.Results.{andThen, valueIf, done, refusal, verdict, each}
 use Rattle.formats.specs.Records.{fields, recordAt, recordBytes, nth}
-use Rattle.formats.specs.Programs.{Signature, numberValued, treeValued, total, mostParameters}
+use Rattle.formats.specs.Programs.{Signature, numberValued, treeValued, sumOfCounts, mostParameters}
 use Rattle.formats.specs.Rows.{sorts, functionFrom, functionAt, functionRow}
 use Rattle.formats.specs.Inner.Fields.{headerIn, functionIn, sortIn, arityIn, countIn}
 use Rattle.formats.proofs.Results.{then-done, then-refused, each-inv, each-none, check-said, test-holds, test-fails, passed-is, refused-is, Passing, pass-more, pass-refused, pass-all}
@@ -46,7 +46,7 @@ pub ruleset parameters = (parameters-first, parameters-other)
 right-sort :
     (edition j x a n i : ℕ)
     → x ≤ 1
-    → check (leb a (mostParameters j) && (leb 1 n && eqb i 0)) functionField (suc j) tt ≡ verdict (functionFrom edition j (fields x a n i))
+    → valueIf (leb a (mostParameters j) && (leb 1 n && eqb i 0)) functionField (suc j) tt ≡ verdict (functionFrom edition j (fields x a n i))
 unfolding functionFrom sorts nth
 right-sort edition j zero a n i h =
     let g : Signature = record { sort = numberValued; parameters = a; count = n } in
@@ -57,7 +57,7 @@ right-sort edition j (suc zero) a n i h =
 right-sort edition j (suc (suc x)) a n i h = absurd (omega arith)
 
 -- .. and one whose sort is not
-wrong-sort-from : (edition j x a n i : ℕ) → 1 < x → check false functionField (suc j) tt ≡ verdict (functionFrom edition j (fields x a n i))
+wrong-sort-from : (edition j x a n i : ℕ) → 1 < x → valueIf false functionField (suc j) tt ≡ verdict (functionFrom edition j (fields x a n i))
 unfolding functionFrom sorts nth
 wrong-sort-from edition j zero a n i h = absurd (omega arith)
 wrong-sort-from edition j (suc zero) a n i h = absurd (omega arith)
@@ -66,7 +66,7 @@ wrong-sort-from edition j (suc (suc x)) a n i h = refl
 module _ (s : List ℕ) (j : ℕ) where
   -- what the answer says of function j
   abbrev pub Says : Bool → Type 0
-  Says fits = check fits functionField (suc j) tt ≡ verdict (functionIn s j)
+  Says fits = valueIf fits functionField (suc j) tt ≡ verdict (functionIn s j)
 
   -- function j is read from the fields of its record
   function-is :
@@ -95,7 +95,7 @@ module _ (s : List ℕ) (j : ℕ) where
           → (leb a (mostParameters j) && (leb 1 n && eqb i 0)) ≡ test
           → Says test
       others-decide n i test en ei e =
-          ap (λ t. check t functionField (suc j) tt) (sym e) ∙ right-sort _ j x a n i right ∙ sym (ap verdict (function-is x a n i ex ea en ei))
+          ap (λ t. valueIf t functionField (suc j) tt) (sym e) ∙ right-sort _ j x a n i right ∙ sym (ap verdict (function-is x a n i ex ea en ei))
 
       pub many-parameters : (most : ℕ) → most ≡ mostParameters j → most < a → Says false
       many-parameters most em h = others-decide _ _ false refl refl (simp (← em, lt-leb _ _ h))
@@ -160,7 +160,7 @@ module _ (s : List ℕ) (functions : ℕ) where
   fields-none = record { left = simp sub-zero }
 
   module _ (j : ℕ) (more : j < functions) (p : Passing (functionIn s) (verdict (each (functionIn s) functions 0)) functions j)
-      (fits : Bool) (reported : check fits functionField (suc j) tt ≡ verdict (functionIn s j))
+      (fits : Bool) (reported : valueIf fits functionField (suc j) tt ≡ verdict (functionIn s j))
     where
       pub fields-more : not fits ≡ false → Passing (functionIn s) (verdict (each (functionIn s) functions 0)) functions (j + 1)
       fields-more u = pass-more _ _ functions j more p (sym (test-holds fits functionField (suc j) _ reported (not-false fits u)))
@@ -175,18 +175,18 @@ pub ruleset fields-checked = (fields-none, fields-more, fields-refused, pass-all
 -- ---- `function_row`
 
 -- the sum of the counts of functions that were read
-total-is : (s : List ℕ) (n j : ℕ) (gs : List Signature) → each (functionIn s) n j ≡ done gs → total gs ≡ countsFrom n s j
-unfolding total countsFrom
-total-is s zero j gs e = ap total (each-none (functionIn s) j gs e)
+total-is : (s : List ℕ) (n j : ℕ) (gs : List Signature) → each (functionIn s) n j ≡ done gs → sumOfCounts gs ≡ countsFrom n s j
+unfolding sumOfCounts countsFrom
+total-is s zero j gs e = ap sumOfCounts (each-none (functionIn s) j gs e)
 total-is s (suc n) j gs e =
     let i = each-inv (functionIn s) n j gs e in
-    ap total (i .both) ∙ ap₂ _+_ (function-read s j (i .head) (i .here) .count) (total-is s n (suc j) (i .tail) (i .later))
+    ap sumOfCounts (i .both) ∙ ap₂ _+_ (function-read s j (i .head) (i .here) .count) (total-is s n (suc j) (i .tail) (i .later))
 
 module _ (s : List ℕ) (functions nodes : ℕ) (ef : functions ≡ headerIn s .functions) (en : nodes ≡ headerIn s .nodes) where
   -- the row, by the numbers that were read
   row-is :
       functionRow (headerIn s) s
-      ≡ andThen (each (functionIn s) functions 0) (λ gs. check (eqb (total gs) nodes) functionField functions gs)
+      ≡ andThen (each (functionIn s) functions 0) (λ gs. valueIf (eqb (sumOfCounts gs) nodes) functionField functions gs)
   unfolding functionRow headerIn recordAt functionIn
   row-is = rw (ef, en)
 
@@ -200,11 +200,11 @@ module _ (s : List ℕ) (functions nodes : ℕ) (ef : functions ≡ headerIn s .
         (sum : ℕ)
         → read ≡ Passed
         → sum ≡ countsFrom functions s 0
-        → check (eqb sum nodes) functionField functions tt ≡ verdict (functionRow (headerIn s) s)
+        → valueIf (eqb sum nodes) functionField functions tt ≡ verdict (functionRow (headerIn s) s)
     sum-decides sum case es =
         let v = passed-is (each (functionIn s) functions 0) (sym reported ∙ ap verdictResult case) in
-        ap (λ n. check (eqb n nodes) functionField functions tt) (es ∙ sym (total-is s functions 0 (v .value) (v .is)))
-        ∙ check-said (eqb (total (v .value)) nodes) functionField functions (v .value)
+        ap (λ n. valueIf (eqb n nodes) functionField functions tt) (es ∙ sym (total-is s functions 0 (v .value) (v .is)))
+        ∙ check-said (eqb (sumOfCounts (v .value)) nodes) functionField functions (v .value)
         ∙ sym (ap verdict (row-is ∙ then-done _ (v .is)))
 
     pub row-passed : (sum : ℕ) → read ≡ Passed → sum ≡ countsFrom functions s 0 → sum ≡ nodes → done tt ≡ verdict (functionRow (headerIn s) s)

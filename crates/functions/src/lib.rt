@@ -5,7 +5,7 @@ ghost use Prim.Native.Nat.{suc};
 ghost use mathlib.Core.Path.{_≡_};
 ghost use Rattle.formats.specs.Programs.{mostParameters};
 ghost use Rattle.formats.specs.Refusals.{functionField};
-ghost use Rattle.formats.specs.Results.{check, each, verdict};
+ghost use Rattle.formats.specs.Results.{valueIf, each, verdict};
 ghost use Rattle.formats.specs.Rows.{functionRow};
 ghost use Rattle.formats.specs.Inner.Fields.{headerIn, functionIn};
 ghost use Rattle.refusal.specs.Inner.Verdicts.{verdictResult};
@@ -30,7 +30,7 @@ fn most_parameters(j: u16) -> u8
 
 // Whether the fields of function j's record are right.
 fn function_fits(flat: &[u8], j: u16) -> bool
-    ensures { λ r. ⌜ check r functionField (suc j) tt ≡ verdict
+    ensures { λ r. ⌜ valueIf r functionField (suc j) tt ≡ verdict
         (functionIn (now (flat .entry)) j) ⌝ }
 {
     if MOST_SORT < signatures::sort_number(flat, j) {

@@ -10,7 +10,7 @@ use lib.Dec.{eqb}
 use lib.ListN.{length, getD}
 use Rattle.formats.specs.Numbers.{numberAt}
 use Rattle.formats.specs.Refusals.{headerField}
-use Rattle.formats.specs.Results.{check, done, refusal, verdict}
+use Rattle.formats.specs.Results.{valueIf, done, refusal, verdict}
 use Rattle.formats.specs.Records.{fields, recordAt, recordBytes}
 use Rattle.formats.specs.Programs.{Header, firstEdition, mostFunctions, mostNodes}
 use Rattle.formats.specs.Rows.{headerFrom, headerRow}
@@ -22,7 +22,7 @@ use Rattle.formats.proofs.Results.{check-said, test-holds, test-fails}
 module _ (bytes edition f n i : ℕ) where
   -- what the answer says of the header with these fields
   abbrev pub Says : Bool → Type 0
-  Says fits = check fits headerField 0 tt ≡ verdict (headerFrom bytes (fields edition f n i))
+  Says fits = valueIf fits headerField 0 tt ≡ verdict (headerFrom bytes (fields edition f n i))
 
   pub wrong-edition : edition ≢ firstEdition → Says false
   unfolding headerFrom
@@ -70,9 +70,9 @@ pub ruleset header-fields = (wrong-edition, no-functions, many-functions, no-nod
 
 module _ (s : List ℕ) (edition f n i : ℕ) (fits : Bool)
     (e : edition ≡ getD s 0 0) (ef : f ≡ headerIn s .functions) (en : n ≡ headerIn s .nodes) (ei : i ≡ numberAt 4 s 4)
-    (reported : check fits headerField 0 tt ≡ verdict (headerFrom (length s) (fields edition f n i)))
+    (reported : valueIf fits headerField 0 tt ≡ verdict (headerFrom (length s) (fields edition f n i)))
   where
-    header-reported : check fits headerField 0 tt ≡ verdict (headerRow s)
+    header-reported : valueIf fits headerField 0 tt ≡ verdict (headerRow s)
     unfolding headerRow headerIn recordAt
     header-reported = reported ∙ cc
 

@@ -4,7 +4,7 @@ use refusal::Verdict;
 ghost use mathlib.Core.Path.{_≡_};
 ghost use Rattle.formats.specs.Records.{fields};
 ghost use Rattle.formats.specs.Refusals.{headerField};
-ghost use Rattle.formats.specs.Results.{check, verdict};
+ghost use Rattle.formats.specs.Results.{valueIf, verdict};
 ghost use Rattle.formats.specs.Rows.{headerFrom, headerRow};
 ghost use Rattle.refusal.specs.Inner.Verdicts.{verdictResult};
 
@@ -18,7 +18,7 @@ const MOST_NODES: usize = 1024;
 
 // Whether the header's fields and the record count are right.
 fn header_fits(edition: u8, functions: usize, nodes: usize, rest: u32, bytes: usize) -> bool
-    ensures { λ r. ⌜ check r headerField 0 tt ≡ verdict
+    ensures { λ r. ⌜ valueIf r headerField 0 tt ≡ verdict
         (headerFrom bytes (fields edition functions nodes rest)) ⌝ }
 {
     if edition != FIRST_EDITION {

@@ -8,7 +8,7 @@ ghost use Rattle.formats.specs.Tokens.{firstEnd, firstTree, ownBytes};
 ghost use Rattle.rules.specs.PassTwo.{checkRecords, checkFile};
 ghost use Rattle.meaning.specs.Running.{streamRun};
 ghost use Rattle.meaning.specs.SourceRun.{sourceRun};
-ghost use Rattle.translation.specs.Calls.{translateFile};
+ghost use Rattle.translation.specs.TranslateAndRun.{translateFile};
 ghost use Rattle.answers.specs.Answer.{Answers};
 ghost use Rattle.answers.specs.Fills.{Fills};
 ghost use Rattle.run_answers.specs.RunCall.{StreamCall};

@@ -14,7 +14,7 @@ use Rattle.translation.specs.Listing.{listingLine}
 use Rattle.formats.specs.Characters.{space, digitZero}
 use Rattle.formats.specs.Decimal.{decimal}
 use Rattle.translation.specs.ListingText.{field, signedField, lineText}
-use Rattle.listing.specs.Shown.{Puts}
+use Rattle.listing.specs.PrintedText.{Puts}
 use Rattle.formats.proofs.Decimal.{decimal-one, decimal-more}
 
 -- ---- pieces

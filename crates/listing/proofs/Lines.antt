@@ -19,7 +19,7 @@ use Rattle.formats.proofs.Records.{ranged-at}
 use Rattle.translation.specs.Listing.{ListingLine, listingLine, lineOf, linesFrom, instructionsIn}
 use Rattle.formats.specs.Characters.{newline, space}
 use Rattle.translation.specs.ListingText.{field, signedField, lineText, linesText}
-use Rattle.listing.specs.Shown.{longestLine, Puts}
+use Rattle.listing.specs.PrintedText.{longestLine, Puts}
 use Rattle.listing.specs.Inner.Shown.{mostCode}
 use Rattle.formats.proofs.Decimal.{decimal-length}
 use Rattle.listing.proofs.Fields.{put-both, put-length}

@@ -14,7 +14,7 @@ use mir.Facts.{toZ-ofZ, fits-of-lt}
 use borrow.Author.Tests.{ltb-true, le-ltb}
 use Rattle.formats.specs.Characters.{newline, minus}
 use Rattle.translation.specs.ListingText.{field, signedField}
-use Rattle.listing.specs.Shown.{Puts}
+use Rattle.listing.specs.PrintedText.{Puts}
 use Rattle.listing.proofs.Fields.{put-both, put-length}
 
 -- the number that the code reads off a word

@@ -9,7 +9,7 @@ use mir.Syntax.{w64}
 use mir.Val.{Fits}
 use mir.Facts.{fits-lt-pow}
 use Rattle.formats.specs.Results.{done, refusal}
-use Rattle.formats.specs.Blocks.{lent}
+use Rattle.formats.specs.Blocks.{bufferAfter}
 use Rattle.formats.specs.Written.{written}
 use Rattle.formats.proofs.Results.{value-inv, value-refused}
 use Rattle.formats.proofs.Written.{wrote, written-fits}
@@ -18,12 +18,12 @@ use Rattle.refusal.specs.Inner.FilledBuffer.{filledResult, FilledBuffer}
 use Rattle.refusal.specs.declared.Refusal.{Refusal}
 use Rattle.refusal.specs.declared.Filled.{Filled}
 use Rattle.refusal.specs.declared.Filled.the-variants.{Written, Refused}
-use Rattle.translation.specs.Calls.{translateFile}
+use Rattle.translation.specs.TranslateAndRun.{translateFile}
 use Rattle.translation.specs.Listing.{refusedListing, linesFrom, instructionsIn, listingOf, listing}
 use Rattle.translation.proofs.Calls.{has-room}
 use Rattle.formats.specs.Characters.{newline, space, ascii}
 use Rattle.translation.specs.ListingText.{field, linesText, codeWord, refusedWord, text}
-use Rattle.listing.specs.Shown.{longestLine, mostText, Puts}
+use Rattle.listing.specs.PrintedText.{longestLine, mostText, Puts}
 use Rattle.listing.specs.Inner.Shown.{mostCode}
 use Rattle.listing.proofs.Fields.{put-both, put-length}
 use Rattle.listing.proofs.Lines.{field-length}
@@ -106,11 +106,11 @@ module _ (file code after : List ℕ) (size : length code ≡ mostCode) (filled 
     short : length (take bytes after) ≤ mostCode
 
   emitted : (bytes : ℕ) → filled ≡ Written bytes → Emitted bytes
-  unfolding lent
+  unfolding bufferAfter
   emitted bytes e =
       let v = value-inv length (translateFile (length code) file) bytes (sym (put .answer) ∙ ap filledResult e) in
       let fits : 0 + length (v .value) ≤ length code = omega (arith, has-room (length code) file (v .value) (v .first)) in
-      let stands : after ≡ v .value ++ drop (0 + length (v .value)) code = put .buffer ∙ ap (lent code) (v .first) ∙ written-fits code 0 (v .value) fits in
+      let stands : after ≡ v .value ++ drop (0 + length (v .value)) code = put .buffer ∙ ap (bufferAfter code) (v .first) ∙ written-fits code 0 (v .value) fits in
       let there : take bytes after ≡ v .value = ap (take bytes) stands ∙ take-at (v .value) _ bytes (v .second) in
       record {
         is = v .first ∙ ap done (sym there);

@@ -1,3 +1,3 @@
 -- What the functions of the listing program put into its text.
-pub mod Shown
+pub mod PrintedText
 pub mod Inner

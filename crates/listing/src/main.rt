@@ -13,7 +13,7 @@ ghost use Rattle.formats.specs.Results.{done};
 ghost use Rattle.translation.specs.Listing.{lineOf, linesFrom, refusedListing, instructionsIn, listingOf, listing};
 ghost use Rattle.formats.specs.Decimal.{decimal};
 ghost use Rattle.translation.specs.ListingText.{field, signedField, lineText, linesText, text};
-ghost use Rattle.listing.specs.Shown.{longestLine, mostText, Puts};
+ghost use Rattle.listing.specs.PrintedText.{longestLine, mostText, Puts};
 ghost use Rattle.listing.specs.Inner.Shown.{mostCode, shown};
 
 const INSTRUCTION_BYTES: usize = 8;
@@ -138,14 +138,14 @@ fn put_lines(out: &mut [u8], at: usize, code: &[u8]) -> usize
 }
 
 // Puts the one line of a refusal.
-fn put_refusal(out: &mut [u8], number: usize, offset: usize) -> usize
+fn put_refusal(out: &mut [u8], number: usize, position: usize) -> usize
     requires { ⌜ mostText ≤ length (now out) ⌝ }
     ensures { λ r. ⌜ Puts (now (out .entry)) (now (out .exit)) 0
-        (text (refusedListing number offset)) r ⌝ }
+        (text (refusedListing number position)) r ⌝ }
 {
     writing::write_bytes(out, 0, b"refused ");
     let last = put_field(out, 8, number, b' ');
-    put_field(out, last, offset, b'\n')
+    put_field(out, last, position, b'\n')
 }
 
 // Puts the listing of code: the heading, and the lines.
@@ -168,7 +168,11 @@ fn put_listing(out: &mut [u8], file: &[u8]) -> usize
     let mut code = [0u8; CODE_BYTES];
     let filled = translate::translate_file(file, &mut code);
     match filled {
-        Filled::Refused(why, offset) => put_refusal(out, refusal::number_of(why) as usize, offset),
+        Filled::Refused(why, position) => put_refusal(
+            out,
+            refusal::number_of(why) as usize,
+            position,
+        ),
         Filled::Written(bytes) => put_code(out, &code[..bytes]),
     }
 }

@@ -12,7 +12,7 @@ use lib.Dec.{lit<}
 use lib.ListN.{length, getD, set, take, drop, length-set}
 use Rattle.formats.specs.Refusals.{tooManyCalls, cannotPerform}
 use Rattle.meaning.specs.Instructions.{Call, Return}
-use Rattle.meaning.specs.Performing.{Setting, opened, ends, openCall, kept, numberKept, leave, operate}
+use Rattle.meaning.specs.Performing.{Setting, callsOpen, ends, openCall, kept, numberKept, leave, operate}
 use Rattle.meaning.specs.Running.{valueWords, returnWords}
 use Rattle.machine.specs.declared.Machine.{Machine}
 use Rattle.machine.specs.Inner.States.{wordsFrom, waiting, frameOf, stateOf, stepOf, Chained, first, above, Held, Sound}
@@ -71,14 +71,14 @@ module _ (entry n : ℕ) (returns : List ℕ) (s : Machine) where
 
     -- 01, The table of refusals: "18 a call with 1,024 open"
     pub call-deep : (r : Machine) → returnWords - 2 ≤ s .saved → r ≡ stoppedBy tooManyCalls s → OnReturns (Call entry n) returns returns s r
-    unfolding openCall opened
+    unfolding openCall callsOpen
     call-deep r deep e =
         record {
           does =
               λ m values output h.
               let counted = count-waiting values returns (s .base) (s .saved) (h .chained) in
               let full : m .mostOpen ≤ suc (length (waiting values returns (s .base) (s .saved))) = omega (arith, h .calls-limit) in
-              refused-so m _ values returns output s r tooManyCalls e (calls m values output ∙ rw (openCall, opened, le-ltb _ _ full)) (lit< tt) h;
+              refused-so m _ values returns output s r tooManyCalls e (calls m values output ∙ rw (openCall, callsOpen, le-ltb _ _ full)) (lit< tt) h;
         }
 
     -- the machine in the new frame, and the return places after the call
@@ -104,7 +104,7 @@ module _ (entry n : ℕ) (returns : List ℕ) (s : Machine) where
         → s .saved < returnWords - 2
         → Held m values returns output s
         → Does m (operate m (stateOf values returns output s) (Call entry n)) values returns output values returns′ output s inside
-    unfolding openCall opened
+    unfolding openCall callsOpen
     called m values output going fits h =
         let counted = count-waiting values returns (s .base) (s .saved) (h .chained) in
         let few : suc (length (waiting values returns (s .base) (s .saved))) < m .mostOpen = omega (arith, h .calls-limit) in
@@ -120,7 +120,7 @@ module _ (entry n : ℕ) (returns : List ℕ) (s : Machine) where
         let chained = chained-more returns (s .base) (s .saved) back (h .chained) (omega arith) (s .top - n) (omega arith) in
         let same : length returns′ ≡ length returns = simp length-set in
         goes-so m _ values returns output values returns′ output s inside
-        (calls m values output ∙ rw (openCall, opened, lt-ltb _ _ few, arguments, rest, callers))
+        (calls m values output ∙ rw (openCall, callsOpen, lt-ltb _ _ few, arguments, rest, callers))
         going
         (held-as m values returns output values returns′ output s inside h refl same refl (omega arith) (h .topped) (omega arith) chained (h .read-there) (h .written-there))
         refl same refl refl

@@ -15,7 +15,7 @@ use lib.Seq.{getD-set-same, getD-set-other}
 use Rattle.formats.specs.Refusals.{cannotPerform}
 use Rattle.meaning.specs.Levels.{atLevel}
 use Rattle.meaning.proofs.Levels.{level-newest, level-older}
-use Rattle.meaning.specs.Performing.{Caller, wordsBelow, standing, Step, refuses, one, two}
+use Rattle.meaning.specs.Performing.{Caller, wordsBelow, wordsStanding, Step, refuses, popOne, popTwo}
 use Rattle.machine.specs.declared.Machine.{Machine}
 use Rattle.machine.specs.Inner.States.{wordsFrom, waiting, stateOf, Chained, first, above}
 
@@ -62,32 +62,32 @@ words-top values base top h =
 
 -- one word or two are taken, or are missing
 module _ (values : List ℕ) (base top : ℕ) where
-  pub one-missing : (f : ℕ → List ℕ → Step) → top ≤ base → one (wordsFrom values base (top - base)) f ≡ refuses cannotPerform
-  unfolding wordsFrom one
+  pub one-missing : (f : ℕ → List ℕ → Step) → top ≤ base → popOne (wordsFrom values base (top - base)) f ≡ refuses cannotPerform
+  unfolding wordsFrom popOne
   one-missing f few = let none-there : top - base ≡ 0 = omega arith in rw none-there
 
   pub one-taken :
       (f : ℕ → List ℕ → Step)
       → base < top
-      → one (wordsFrom values base (top - base)) f ≡ f (getD values (top - 1) 0) (wordsFrom values base (top - 1 - base))
-  unfolding one
-  one-taken f some-there = ap (λ ws. one ws f) (words-top values base top some-there)
+      → popOne (wordsFrom values base (top - base)) f ≡ f (getD values (top - 1) 0) (wordsFrom values base (top - 1 - base))
+  unfolding popOne
+  one-taken f some-there = ap (λ ws. popOne ws f) (words-top values base top some-there)
 
 module _ (values : List ℕ) (base top : ℕ) (f : ℕ → ℕ → List ℕ → Step) where
-  pub two-missing : top - base < 2 → two (wordsFrom values base (top - base)) f ≡ refuses cannotPerform
-  unfolding wordsFrom one two
+  pub two-missing : top - base < 2 → popTwo (wordsFrom values base (top - base)) f ≡ refuses cannotPerform
+  unfolding wordsFrom popOne popTwo
   two-missing few = by (top - base) few
     where
-      by : (n : ℕ) → n < 2 → two (wordsFrom values base n) f ≡ refuses cannotPerform
+      by : (n : ℕ) → n < 2 → popTwo (wordsFrom values base n) f ≡ refuses cannotPerform
       by zero h = refl
       by (suc zero) h = refl
       by (suc (suc n)) h = absurd (omega arith)
 
   pub two-taken :
       base + 2 ≤ top
-      → two (wordsFrom values base (top - base)) f
+      → popTwo (wordsFrom values base (top - base)) f
       ≡ f (getD values (top - 1) 0) (getD values (top - 2) 0) (wordsFrom values base (top - 2 - base))
-  unfolding two
+  unfolding popTwo
   two-taken there =
       let less : top - 1 - 1 ≡ top - 2 = omega arith in
       one-taken values base top _ (omega arith)
@@ -216,7 +216,7 @@ pub all-standing :
     (values returns output : List ℕ) (s : Machine)
     → Chained returns (s .base) (s .saved)
     → s .base ≤ s .top
-    → standing (stateOf values returns output s) ≡ s .top
-unfolding standing
+    → wordsStanding (stateOf values returns output s) ≡ s .top
+unfolding wordsStanding
 all-standing values returns output s c h =
     rw (length-words values (s .base) (s .top - s .base), words-below values returns (s .base) (s .saved) c) (omega arith)

@@ -22,7 +22,7 @@ use Rattle.refusal.specs.declared.Refusal.the-variants.{FuelUsedUp}
 use Rattle.refusal.specs.declared.Verdict.the-variants.{Passed, Refused}
 use Rattle.meaning.specs.Performing.{Setting, State, start, goes, ends, refuses, step, numberKept}
 use Rattle.meaning.specs.Running.{Run, Stop, refused, Ran, ranTo, noneDone, tooShort, ofCode, outcomeOf, numberReported, valueWords, returnWords, streamRun}
-use Rattle.meaning.specs.StreamRun.{StepRefusal, ended-there, no-tag, full, too-many, cannot, Stops, used-up, returned, stuck, here, on}
+use Rattle.meaning.specs.StreamRun.{StepRefusal, ended-there, not-a-tag, full, too-many, cannot, Stops, used-up, returned, stuck, here, on}
 use Rattle.meaning.specs.StreamRun.{Steps as Led}
 use Rattle.meaning.proofs.Steps.{one-step}
 use Rattle.meaning.proofs.Runs.{runs}
@@ -123,7 +123,7 @@ module _ (values returns output : List ℕ) (r : Machine) where
 names-itself : (n : ℕ) → StepRefusal n → refusalNumber n ≡ n
 unfolding refusalNumber
 names-itself n ended-there = refl
-names-itself n no-tag = refl
+names-itself n not-a-tag = refl
 names-itself n full = refl
 names-itself n too-many = refl
 names-itself n cannot = refl
@@ -132,7 +132,7 @@ names-itself n cannot = refl
 not-before : (n : ℕ) → StepRefusal n → beforeStream n ≡ false
 unfolding beforeStream
 not-before n ended-there = refl
-not-before n no-tag = refl
+not-before n not-a-tag = refl
 not-before n full = refl
 not-before n too-many = refl
 not-before n cannot = refl

@@ -11,7 +11,7 @@ use lib.ListN.{length, getD, set, length-set}
 use Rattle.formats.specs.Numbers.{sum32}
 use Rattle.formats.specs.Refusals.{cannotPerform}
 use Rattle.meaning.specs.Instructions.{Operation, Push, Get, Add, Ifnot, Slide, Drop}
-use Rattle.meaning.specs.Performing.{Setting, Step, goes, refuses, toNext, holding, one, room, pushWord, operate}
+use Rattle.meaning.specs.Performing.{Setting, Step, goes, refuses, toNext, holding, popOne, ifRoom, pushWord, operate}
 use Rattle.meaning.specs.Running.{valueWords}
 use Rattle.machine.specs.declared.Machine.{Machine}
 use Rattle.machine.specs.Inner.States.{wordsFrom, stateOf, Held, Sound, stoppedBy, nextTo}
@@ -83,24 +83,24 @@ stays-set op values s r i top x sound lent is above based topped e =
 
 module _ (values : List ℕ) (x : ℕ) (s r : Machine) (sound : Sound s) where
   pub push-full : valueWords ≤ s .top → r ≡ stoppedBy cannotPerform s → OnValues (Push x) values values s r
-  unfolding operate pushWord room
+  unfolding operate pushWord ifRoom
   push-full full is =
       cannot (Push x) values s r is
       (λ m returns output h.
       let all = all-standing values returns output s (h .chained) (sound .based) in
-      rw (room, all, h .words-limit, le-ltb _ _ full))
+      rw (ifRoom, all, h .words-limit, le-ltb _ _ full))
 
   pub push-room :
       valueWords ≤ length values
       → s .top < valueWords
       → r ≡ nextTo (s .top + 1) s
       → OnValues (Push x) values (set values (s .top) x) s r
-  unfolding operate pushWord room
+  unfolding operate pushWord ifRoom
   push-room lent fits is =
       stays-set (Push x) values s r (s .top) (s .top + 1) x sound lent is (omega arith) (sound .based) fits
       (λ m returns output h.
       let all = all-standing values returns output s (h .chained) (sound .based) in
-      rw (room, all, h .words-limit, lt-ltb _ _ fits))
+      rw (ifRoom, all, h .words-limit, lt-ltb _ _ fits))
 
 pub ruleset pushes = (push-full, push-room)
 

@@ -19,8 +19,8 @@ use Rattle.formats.proofs.Numbers.{number-read}
 use Rattle.formats.proofs.Tokens.{past, at-leaf, at-node, at-other, tag-is}
 use Rattle.formats.proofs.Written.{front-written, after-written, written-one, wrote}
 use Rattle.meaning.specs.Instructions.{WriteNumber, ReadTag, ReadNumber}
-use Rattle.meaning.specs.Performing.{Setting, State, Step, goes, refuses, toNext, holding, writing, standing}
-use Rattle.meaning.specs.Performing.{room, write, onTag, takeNumber, operate}
+use Rattle.meaning.specs.Performing.{Setting, State, Step, goes, refuses, toNext, holding, writing, wordsStanding}
+use Rattle.meaning.specs.Performing.{ifRoom, write, onTag, takeNumber, operate}
 use Rattle.meaning.specs.Running.{valueWords}
 use Rattle.machine.specs.declared.Machine.{Machine}
 use Rattle.machine.specs.Inner.States.{wordsFrom, frameOf, stateOf, Sound, Held, goesOn, hasEnded, stoppedBy, nextTo, jumpTo}
@@ -240,27 +240,27 @@ pub ruleset tags-in = (tag-ended, tag-other, tag-leaf, tag-node)
 module _ (input values : List ℕ) (s r : Machine) where
   -- no room, which comes first
   pub number-surplus : valueWords ≤ s .top → r ≡ stoppedBy cannotPerform s → FromInput ReadNumber input values values s r
-  unfolding operate room
+  unfolding operate ifRoom
   number-surplus surplus is = record {
     does = λ m returns output e h.
-        let full : m .mostWords ≤ standing (stateOf values returns output s) =
+        let full : m .mostWords ≤ wordsStanding (stateOf values returns output s) =
         rw (h .words-limit, all-standing values returns output s (h .chained) (h .based)) surplus in
-        refused-so m _ values returns output s r cannotPerform is (rw (operate, room, le-ltb _ _ full)) (lit< tt) h;
+        refused-so m _ values returns output s r cannotPerform is (rw (operate, ifRoom, le-ltb _ _ full)) (lit< tt) h;
   }
 
   module _ (more : s .top < valueWords) where
     -- there is room for the word
-    roomy : (m : Setting) (returns output : List ℕ) → Held m values returns output s → standing (stateOf values returns output s) < m .mostWords
+    roomy : (m : Setting) (returns output : List ℕ) → Held m values returns output s → wordsStanding (stateOf values returns output s) < m .mostWords
     roomy m returns output h = rw (h .words-limit, all-standing values returns output s (h .chained) (h .based)) more
 
     -- the four bytes are not there
     pub number-ended : length input - s .read < labelBytes → r ≡ stoppedBy inputEnded s → FromInput ReadNumber input values values s r
-    unfolding operate room takeNumber
+    unfolding operate ifRoom takeNumber
     number-ended end is = record {
       does = λ m returns output e h.
           let cut : length (m .input) < s .read + labelBytes = rw e (omega arith) in
           refused-so m _ values returns output s r inputEnded is
-          (rw (operate, room, lt-ltb _ _ (roomy m returns output h), takeNumber, lt-leb _ _ cut)) (lit< tt) h;
+          (rw (operate, ifRoom, lt-ltb _ _ (roomy m returns output h), takeNumber, lt-leb _ _ cut)) (lit< tt) h;
     }
 
     -- they are, and their number is set on top
@@ -271,7 +271,7 @@ module _ (input values : List ℕ) (s r : Machine) where
         → Sound s
         → r ≡ nextTo (s .top + 1) s
         → FromInput ReadNumber input values (set values (s .top) x) s (moved (r .address) (r .top) (s .read + labelBytes) (r .written) r)
-    unfolding operate room takeNumber
+    unfolding operate ifRoom takeNumber
     number-there x whole is-x sound is = record {
       does = λ m returns output e h.
           let there : s .read + labelBytes ≤ length (m .input) = rw e (omega arith) in
@@ -284,7 +284,7 @@ module _ (input values : List ℕ) (s r : Machine) where
           let kept = waiting-kept values returns (s .base) (s .saved) (s .top) x (h .chained) (h .based) in
           rw is
           (reads-so m _ values (set values (s .top) x) returns output s (s .address + 1) (s .top + 1) (s .read + labelBytes)
-          (rw (operate, room, lt-ltb _ _ (roomy m returns output h), takeNumber, le-leb _ _ there, e, ← number, pushed, kept, add-one (s .address)))
+          (rw (operate, ifRoom, lt-ltb _ _ (roomy m returns output h), takeNumber, le-leb _ _ there, e, ← number, pushed, kept, add-one (s .address)))
           h (sound .going) (length-set values (s .top) x) (omega (arith, h .based)) (omega arith) there);
     }
 

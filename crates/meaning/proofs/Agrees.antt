@@ -16,7 +16,7 @@ use Rattle.rules.specs.Printed.{Term}
 use Rattle.meaning.specs.Evaluation.{Value}
 use Rattle.meaning.specs.OpenCalls.{Outcome, evaluation}
 use Rattle.meaning.specs.Reductions.{IsValue, an-integer, a-tree, Leads, none-made, one-made, treeTerm, valueTerm, programOn}
-use Rattle.meaning.specs.Meaning.{Goes, Taken, ValueReached, Agrees}
+use Rattle.meaning.specs.Meaning.{CanReduce, EndsWithValue, ValueReached, Agrees}
 use Rattle.meaning.proofs.Outcomes.{Ended, given, stopped, ended}
 use Rattle.meaning.proofs.Proper.{ProperProgram}
 use Rattle.meaning.proofs.OpenCalls.{held}
@@ -54,14 +54,14 @@ module _ (program : Program) (first : Function) (t : Tree) (proper : ProperProgr
   -- ---- two ways on from one term
 
   -- where one way leads to a value, the other is at that value, or goes on
-  value-or-on : {j k : ℕ} {L M W : Term} → Leads program j L M → IsValue W → Leads program k L W → (M ≡ W) ⊎ Goes program M
+  value-or-on : {j k : ℕ} {L M W : Term} → Leads program j L M → IsValue W → Leads program k L W → (M ≡ W) ⊎ CanReduce program M
   value-or-on none-made v none-made = inl refl
   value-or-on none-made v (one-made r d) = inr (record { to = _; reduces = r })
   value-or-on (one-made r d) v none-made = absurd (at-end program _ _ v r)
   value-or-on (one-made r d) v (one-made r′ d′) = value-or-on d v (rw (one-way program _ _ _ r′ r) at d′)
 
   -- where one way is longer, the other goes on
-  longer-on : {k : ℕ} {L M N : Term} → Leads program k L M → Leads program (suc k) L N → Goes program M
+  longer-on : {k : ℕ} {L M N : Term} → Leads program k L M → Leads program (suc k) L N → CanReduce program M
   longer-on none-made (one-made r d) = record { to = _; reduces = r }
   longer-on (one-made r d) (one-made r′ d′) = longer-on d (rw (one-way program _ _ _ r′ r) at d′)
 
@@ -70,15 +70,15 @@ module _ (program : Program) (first : Function) (t : Tree) (proper : ProperProgr
   -- The evaluation ends, and the term is that of its value.
   record EndsAt (M : Term) : Type 0 where
     reached : ValueReached M
-    evaluated : Taken program t (reached .value)
+    evaluated : EndsWithValue program t (reached .value)
 
-  ended-or-on : {k : ℕ} {M : Term} → Leads program k (programOn first t) M → EndsAt M ⊎ Goes program M
+  ended-or-on : {k : ℕ} {M : Term} → Leads program k (programOn first t) M → EndsAt M ⊎ CanReduce program M
   ended-or-on {k} {M} d = by-outcome (ended (evaluation program k t)) refl
     where
-      by-outcome : {o : Outcome Value} → Ended o → evaluation program k t ≡ o → EndsAt M ⊎ Goes program M
+      by-outcome : {o : Outcome Value} → Ended o → evaluation program k t ≡ o → EndsAt M ⊎ CanReduce program M
       by-outcome (given n v u) e =
           let reached = value-reached program proper first t is-first k n v e in
-          let evaluated : Taken program t v = record { calls = k; expressions = n; ends = held program t proper .gives-value k n v .0 e } in
+          let evaluated : EndsWithValue program t v = record { calls = k; expressions = n; ends = held program t proper .gives-value k n v .0 e } in
           elim (value-or-on d (value-is v) (reached .leads)) [
             | inl same ↦ inl (record { reached = record { value = v; is-term = same }; evaluated = evaluated })
             | inr on ↦ inr on
@@ -93,7 +93,7 @@ module _ (program : Program) (first : Function) (t : Tree) (proper : ProperProgr
     leads = λ o n v e. value-reached program proper first t is-first o n v (held program t proper .gives-value o n v .1 e);
     taken = λ v r.
         let end = value-ended (r .leads) (value-is v) in
-        subst (Taken program t) (same-value (end .reached .value) v (sym (end .reached .is-term))) (end .evaluated);
+        subst (EndsWithValue program t) (same-value (end .reached .value) v (sym (end .reached .is-term))) (end .evaluated);
     values = λ k M d v. value-ended d v .reached;
     progress = λ k M d. elim (ended-or-on d) [ inl end ↦ inl (rw (end .reached .is-term) (value-is (end .reached .value))) | inr on ↦ inr on ];
     endless = λ never k.

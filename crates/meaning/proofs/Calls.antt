@@ -15,9 +15,9 @@ use Rattle.formats.specs.Results.{Result, refusal}
 use Rattle.formats.specs.Written.{written}
 use Rattle.formats.proofs.Results.{done-not}
 use Rattle.formats.proofs.Written.{front-written, after-written, wrote}
-use Rattle.meaning.specs.Performing.{Setting, State, start, wordsBelow, standing, opened}
+use Rattle.meaning.specs.Performing.{Setting, State, start, wordsBelow, wordsStanding, callsOpen}
 use Rattle.meaning.specs.Running.{Stop, ended, refused, Run, run, outcomeOf, numberReported, valueWords, returnWords, ofCode, ranTo, tooShort, streamRun}
-use Rattle.meaning.specs.StreamRun.{Within, Runs, Calls}
+use Rattle.meaning.specs.StreamRun.{Within, Runs, StreamCalls}
 use Rattle.meaning.specs.Running.{writtenBy}
 use Rattle.meaning.proofs.Inputs.{run-same}
 
@@ -47,7 +47,7 @@ refuses-so (refused number) why position read e = record { stops = cc; there = c
 -- ---- calls
 
 -- A call that is refused before its first instruction.
-calls-short : (output : List ℕ) → Calls output (λ input fuel. tooShort output)
+calls-short : (output : List ℕ) → StreamCalls output (λ input fuel. tooShort output)
 calls-short output =
     record {
       within-fuel = λ input fuel. zero-le;
@@ -78,7 +78,7 @@ module _ (runs : (m : Setting) (s : State) → Runs m s) (code output : List ℕ
 
   -- the start is within the limits, so the run stays within them
   within : (input : List ℕ) (fuel : ℕ) → Within (setting input) (ran input fuel .last)
-  unfolding standing wordsBelow opened
+  unfolding wordsStanding wordsBelow callsOpen
   within input fuel = runs (setting input) start .within fuel (record { words = zero-le; calls = lit< tt; read = zero-le; written = zero-le })
 
   -- its refusals
@@ -103,7 +103,7 @@ module _ (runs : (m : Setting) (s : State) → Runs m s) (code output : List ℕ
       let other-reason : ran input fuel .stop ≢ refused fuelUsedUp = λ used. other _ (ap (λ w. outcomeOf w (ran input fuel .last .read)) used) in
       ap (ranTo output) (runs (setting input) start .settled fuel more other-reason h)
 
-  calls-ran : Calls output (λ input fuel. ranTo output (ran input fuel))
+  calls-ran : StreamCalls output (λ input fuel. ranTo output (ran input fuel))
   calls-ran =
       record {
         within-fuel = λ input fuel. runs (setting input) start .within-fuel fuel;
@@ -125,12 +125,12 @@ module _ (runs : (m : Setting) (s : State) → Runs m s) (code output : List ℕ
 pub calls-from :
     ((m : Setting) (s : State) → Runs m s)
     → (code output : List ℕ) (values returns : ℕ)
-    → Calls output (λ input fuel. streamRun code input output fuel values returns)
+    → StreamCalls output (λ input fuel. streamRun code input output fuel values returns)
 unfolding streamRun
 calls-from runs code output values returns = by-space (leb valueWords values && leb returnWords returns)
   where
     by-space :
         (enough : Bool)
-        → Calls output (λ input fuel. elim enough [ true ↦ ranTo output (ran runs code output input fuel) | false ↦ tooShort output ])
+        → StreamCalls output (λ input fuel. elim enough [ true ↦ ranTo output (ran runs code output input fuel) | false ↦ tooShort output ])
     by-space true = calls-ran runs code output
     by-space false = calls-short output

@@ -21,8 +21,8 @@ use Rattle.formats.proofs.Records.{none-past}
 use Rattle.formats.proofs.Tokens.{Look, past, at-other, look}
 use Rattle.meaning.specs.Levels.{atLevel}
 use Rattle.meaning.specs.Instructions.{Instruction, Operation, Push, Get, Add, Ifnot, Jump, Slide, Drop, LeafTag, NodeTag, WriteNumber, ReadTag, ReadNumber, Call, Return, heldBy, operations, operationOf, instructionOf}
-use Rattle.meaning.specs.Performing.{Setting, Caller, State, wordsBelow, standing, opened, Step, goes, ends, refuses}
-use Rattle.meaning.specs.Performing.{holding, one, two, room, pushWord, write, onTag, takeNumber, openCall, kept, numberKept, leave, operate, perform, step}
+use Rattle.meaning.specs.Performing.{Setting, Caller, State, wordsBelow, wordsStanding, callsOpen, Step, goes, ends, refuses}
+use Rattle.meaning.specs.Performing.{holding, popOne, popTwo, ifRoom, pushWord, write, onTag, takeNumber, openCall, kept, numberKept, leave, operate, perform, step}
 use Rattle.meaning.specs.Running.{ofCode}
 use Rattle.meaning.specs.CannotPerform.{wordsNeeded, wordsAdded, Fetches, fetched, CannotPerform, no-instruction, no-operation, return-byte, missing-words, surplus-words}
 use Rattle.meaning.specs.Stopping.{Prevented, no-tag, no-label, no-such-tag, no-room-for-leaf, no-room-for-node, no-room-for-number, all-open, Refused, prevented, ReturnsFirst, none-kept, one-kept}
@@ -90,8 +90,8 @@ module _ {C : Type 0} {R E : ℕ → Type 0} where
       (words : List ℕ) (f : ℕ → List ℕ → Step)
       → (length words < 1 → C)
       → ((x : ℕ) (rest : List ℕ) → 1 ≤ length words → Exactly C R E (f x rest))
-      → Exactly C R E (one words f)
-  unfolding one
+      → Exactly C R E (popOne words f)
+  unfolding popOne
   exactly-one [] f g h = stuck (g (omega arith))
   exactly-one (x ∷ rest) f g h = h x rest (omega arith)
 
@@ -99,8 +99,8 @@ module _ {C : Type 0} {R E : ℕ → Type 0} where
       (words : List ℕ) (f : ℕ → ℕ → List ℕ → Step)
       → (length words < 2 → C)
       → ((x y : ℕ) (rest : List ℕ) → 2 ≤ length words → Exactly C R E (f x y rest))
-      → Exactly C R E (two words f)
-  unfolding two one
+      → Exactly C R E (popTwo words f)
+  unfolding popTwo popOne
   exactly-two [] f g h = stuck (g (omega arith))
   exactly-two (x ∷ []) f g h = stuck (g (omega arith))
   exactly-two (x ∷ y ∷ rest) f g h = h x y rest (omega arith)
@@ -119,7 +119,7 @@ module _ (m : Setting) (s : State) where
   data Cannot (op : Operation) : Type 0 where
     byte : (k : ℕ) → op ≡ Return k → 1 < k → Cannot op
     missing : length (s .frame) < wordsNeeded op → Cannot op
-    surplus : 0 < wordsAdded op → m .mostWords < standing s + wordsAdded op → Cannot op
+    surplus : 0 < wordsAdded op → m .mostWords < wordsStanding s + wordsAdded op → Cannot op
 
   -- a return's byte, or 0
   byteIn : Operation → ℕ
@@ -143,7 +143,7 @@ module _ (m : Setting) (s : State) where
       (op : Operation)
       → byteIn op ≤ 1
       → wordsNeeded op ≤ length (s .frame)
-      → (0 < wordsAdded op → standing s + wordsAdded op ≤ m .mostWords)
+      → (0 < wordsAdded op → wordsStanding s + wordsAdded op ≤ m .mostWords)
       → Cannot op
       → ⊥
   unfolding byteIn
@@ -163,13 +163,13 @@ module _ (m : Setting) (s : State) where
   exactly-room :
       (op : Operation) (r : Step)
       → wordsAdded op ≡ 1
-      → ((0 < wordsAdded op → standing s + wordsAdded op ≤ m .mostWords) → Performs op r)
-      → Performs op (room m s r)
-  unfolding room
+      → ((0 < wordsAdded op → wordsStanding s + wordsAdded op ≤ m .mostWords) → Performs op r)
+      → Performs op (ifRoom m s r)
+  unfolding ifRoom
   exactly-room op r adds h =
       exactly-if _ r
-      (λ e. let below = ltb-true (standing s) (m .mostWords) e in h (λ some-added. omega arith))
-      (λ e. let full = ltb-false (standing s) (m .mostWords) e in surplus (omega arith) (omega arith))
+      (λ e. let below = ltb-true (wordsStanding s) (m .mostWords) e in h (λ some-added. omega arith))
+      (λ e. let full = ltb-false (wordsStanding s) (m .mostWords) e in surplus (omega arith) (omega arith))
 
   exactly-push : (op : Operation) (x : ℕ) → wordsAdded op ≡ 1 → byteIn op ≤ 1 → wordsNeeded op ≤ length (s .frame) → Performs op (pushWord m x s)
   unfolding pushWord
@@ -206,7 +206,7 @@ module _ (m : Setting) (s : State) where
   exactly-call : (entry n : ℕ) → (Cannot (Call entry n) → ⊥) → Performs (Call entry n) (openCall m entry n s)
   unfolding openCall
   exactly-call entry n h =
-      exactly-or (ltb (opened s) (m .mostOpen)) _ _ (going h) (λ e. refused {number = tooManyCalls} (all-open (ltb-false _ _ e)) (omega arith) h)
+      exactly-or (ltb (callsOpen s) (m .mostOpen)) _ _ (going h) (λ e. refused {number = tooManyCalls} (all-open (ltb-false _ _ e)) (omega arith) h)
 
   -- a tag read
   exactly-tag : (g : Tag) (a : ℕ) → Look (m .input) (s .read) g → (Cannot (ReadTag a) → ⊥) → Performs (ReadTag a) (onTag g a s)
@@ -359,12 +359,12 @@ both-apply :
     refusal-of ReadNumber 16384 0 ∷ refusal-of ReadNumber 16383 0 ∷ refusal-of WriteNumber 0 0 ∷ refusal-of WriteNumber 1 0 ∷ refusal-of (Call 0 1) 0 1023
     ∷ refusal-of (Call 0 1) 1 1023 ∷ []
     ≡ 19 ∷ 15 ∷ 19 ∷ 17 ∷ 19 ∷ 18 ∷ []
-unfolding refusal-of numberIn alone standing-at waiting step perform operate heldBy operationOf operations instructionOf nth recordAt bytesOfRecord bytesOf numberOf numberAt standing wordsBelow opened one room write takeNumber openCall zero-words
+unfolding refusal-of numberIn alone standing-at waiting step perform operate heldBy operationOf operations instructionOf nth recordAt bytesOfRecord bytesOf numberOf numberAt wordsStanding wordsBelow callsOpen popOne ifRoom write takeNumber openCall zero-words
 both-apply = refl
 
 -- a derivation by each rule
 stack-full : CannotPerform (alone ReadNumber) (standing-at 16384 0)
-unfolding alone standing-at waiting heldBy operationOf operations instructionOf nth recordAt bytesOfRecord bytesOf numberOf numberAt standing wordsBelow wordsAdded zero-words
+unfolding alone standing-at waiting heldBy operationOf operations instructionOf nth recordAt bytesOfRecord bytesOf numberOf numberAt wordsStanding wordsBelow wordsAdded zero-words
 stack-full = surplus-words ReadNumber (fetched (instructionOf ReadNumber) refl refl) (lit< tt) (lit< tt)
 
 number-missing : CannotPerform (alone WriteNumber) (standing-at 0 0)

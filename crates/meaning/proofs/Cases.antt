@@ -11,7 +11,7 @@ use Rattle.formats.specs.Tokens.{tagOf, tagAt}
 use Rattle.formats.specs.Written.{written}
 use Rattle.meaning.specs.Instructions.{Instruction, Operation, Push, Get, Add, Ifnot, Jump, Slide, Drop, LeafTag, NodeTag, WriteNumber, ReadTag, ReadNumber, Call, Return, heldBy, operations, operationOf, instructionOf}
 use Rattle.meaning.specs.Levels.{atLevel}
-use Rattle.meaning.specs.Performing.{Setting, start, goes, ends, refuses, holding, wordsBelow, standing, opened, one, two, room, pushWord, write, onTag, takeNumber, openCall, kept, numberKept, leave, operate, perform, step}
+use Rattle.meaning.specs.Performing.{Setting, start, goes, ends, refuses, holding, wordsBelow, wordsStanding, callsOpen, popOne, popTwo, ifRoom, pushWord, write, onTag, takeNumber, openCall, kept, numberKept, leave, operate, perform, step}
 use Rattle.meaning.specs.Running.{ofCode, Ran, Run, run, unitsOf, outcomeOf, numberReported, streamRun, valueWords, returnWords}
 
 -- A code's bytes.
@@ -160,7 +160,7 @@ cases : List Row
 cases = worked ++ (performed-well ++ (not-performed ++ at-ends))
 
 as-reported : map ranOn cases ≡ map (λ r. r .gives) cases
-unfolding streamRun run step perform operate heldBy operationOf operations instructionOf nth recordAt flat bytesOfRecord bytesOf numberOf numberAt sum32 tagAt tagOf written standing wordsBelow opened atLevel one two room pushWord write onTag takeNumber openCall kept numberKept leave outcomeOf numberReported cases worked performed-well not-performed at-ends grow grow-operations two-leaves grown blank codeOf ranOn ended-with refused-with ends-with stuck on-grow bare
+unfolding streamRun run step perform operate heldBy operationOf operations instructionOf nth recordAt flat bytesOfRecord bytesOf numberOf numberAt sum32 tagAt tagOf written wordsStanding wordsBelow callsOpen atLevel popOne popTwo ifRoom pushWord write onTag takeNumber openCall kept numberKept leave outcomeOf numberReported cases worked performed-well not-performed at-ends grow grow-operations two-leaves grown blank codeOf ranOn ended-with refused-with ends-with stuck on-grow bare
 as-reported = refl
 
 -- ---- the limits, on a machine that has room for 2 words and 2 open calls
@@ -191,7 +191,7 @@ limits = map stops
 within-limits :
     limits
     ≡ done 3 ∷ refusal 19 2 ∷ refusal 19 2 ∷ refusal 19 2 ∷ refusal 15 1 ∷ refusal 19 3 ∷ done 3 ∷ refusal 18 1 ∷ refusal 19 1 ∷ refusal 19 1 ∷ []
-unfolding streamRun run step perform operate heldBy operationOf operations instructionOf nth recordAt flat bytesOfRecord bytesOf numberOf numberAt sum32 tagAt tagOf written standing wordsBelow opened atLevel one two room pushWord write onTag takeNumber openCall kept numberKept leave outcomeOf numberReported limits stops small codeOf
+unfolding streamRun run step perform operate heldBy operationOf operations instructionOf nth recordAt flat bytesOfRecord bytesOf numberOf numberAt sum32 tagAt tagOf written wordsStanding wordsBelow callsOpen atLevel popOne popTwo ifRoom pushWord write onTag takeNumber openCall kept numberKept leave outcomeOf numberReported limits stops small codeOf
 within-limits = refl
 
 -- ---- the limit of 16,384 words
@@ -205,7 +205,7 @@ pushed-on : ℕ → ℕ
 pushed-on n = elim (pushWord (ofCode [] [] 0) 1 (holding (replicate n) start)) [ goes t ↦ 0 | ends number ↦ 0 | refuses number ↦ number ]
 
 full-stack : map pushed-on (16383 ∷ 16384 ∷ []) ≡ 0 ∷ 19 ∷ []
-unfolding pushWord room standing wordsBelow pushed-on replicate
+unfolding pushWord ifRoom wordsStanding wordsBelow pushed-on replicate
 full-stack = refl
 
 -- ---- the limit of 4,128 instructions
@@ -250,7 +250,7 @@ others-set =
     ∷ []
 
 unused-fields : map ranOn others-set ≡ map (λ r. r .gives) others-set
-unfolding streamRun run step perform operate heldBy operationOf operations nth recordAt flat bytesOfRecord bytesOf numberOf numberAt sum32 tagAt tagOf written standing wordsBelow opened atLevel one two room pushWord write onTag takeNumber openCall kept numberKept leave outcomeOf numberReported others-set with-others grow-operations two-leaves grown blank ranOn ended-with refused-with ends-with bare
+unfolding streamRun run step perform operate heldBy operationOf operations nth recordAt flat bytesOfRecord bytesOf numberOf numberAt sum32 tagAt tagOf written wordsStanding wordsBelow callsOpen atLevel popOne popTwo ifRoom pushWord write onTag takeNumber openCall kept numberKept leave outcomeOf numberReported others-set with-others grow-operations two-leaves grown blank ranOn ended-with refused-with ends-with bare
 unused-fields = refl
 
 -- ---- the refusals of a call in their order

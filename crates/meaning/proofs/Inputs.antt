@@ -19,7 +19,7 @@ use Rattle.formats.specs.Refusals.{inputEnded, cannotPerform}
 use Rattle.formats.specs.Results.{refusal}
 use Rattle.formats.specs.Tokens.{labelBytes, Tag, noByte, aLeaf, aNode, other, tagOf, tagAt}
 use Rattle.meaning.specs.Instructions.{Operation, Push, Get, Add, Ifnot, Jump, Slide, Drop, LeafTag, NodeTag, WriteNumber, ReadTag, ReadNumber, Call, Return, operationOf}
-use Rattle.meaning.specs.Performing.{Setting, State, toNext, holding, reading, standing, Step, goes, ends, refuses, room, pushWord, write, onTag, takeNumber, openCall, operate, perform, step}
+use Rattle.meaning.specs.Performing.{Setting, State, toNext, holding, reading, wordsStanding, Step, goes, ends, refuses, ifRoom, pushWord, write, onTag, takeNumber, openCall, operate, perform, step}
 use Rattle.meaning.specs.Running.{Run, afterPerforming, stopped, ended as returned, refused, run, answerOf, outcomeOf}
 use Rattle.meaning.specs.StreamRun.{lookedAt, restsOn, Runs}
 
@@ -127,7 +127,7 @@ module _ (m : Setting) (input : List ℕ) (s : State) where
 
   -- no other operation looks at the input
   operate-same : (op : Operation) → Same (operate m s op) (operate (given input m) s op)
-  unfolding operate room pushWord write openCall
+  unfolding operate ifRoom pushWord write openCall
   operate-same (Push x) e = refl
   operate-same (Get k) e = refl
   operate-same Add e = refl
@@ -141,7 +141,7 @@ module _ (m : Setting) (input : List ℕ) (s : State) where
   operate-same (ReadTag a) e =
       let agree = opens-less input (m .input) (suc (s .read)) _ (tag-rests (tagAt (m .input) (s .read)) a s) e in
       ap (λ g. onTag g a s) (same-tag input (m .input) (s .read) agree)
-  operate-same ReadNumber e = same-test (ltb (standing s) (m .mostWords)) (takeNumber m s) (takeNumber (given input m) s) read-same e
+  operate-same ReadNumber e = same-test (ltb (wordsStanding s) (m .mostWords)) (takeNumber m s) (takeNumber (given input m) s) read-same e
   operate-same (Call entry n) e = refl
   operate-same (Return k) e = refl
 

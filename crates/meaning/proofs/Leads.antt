@@ -5,7 +5,7 @@ use Rattle.formats.specs.Programs.{Program}
 use Rattle.rules.specs.Printed.{Term}
 use Rattle.meaning.specs.Reductions.{Redex, Context, hole, app-left, app-right, plus-left, plus-right, in-leaf, node-left, node-right, in-case, in-let, in-test}
 use Rattle.meaning.specs.Reductions.{plug, Reduces, in-context, Leads, none-made, one-made}
-use Rattle.meaning.specs.Meaning.{Makes, Reaches}
+use Rattle.meaning.specs.Meaning.{CanReduceTimes, Reaches}
 
 module _ {program : Program} where
   -- no reduction at all
@@ -18,16 +18,16 @@ module _ {program : Program} where
   reaches-on (one-made s d) r = let rest = reaches-on d r in record { steps = suc (rest .steps); leads = one-made s (rest .leads) }
 
   -- one more reduction in front
-  pub makes-more : {k : ℕ} {L M : Term} → Reduces program L M → Makes program k M → Makes program (suc k) L
+  pub makes-more : {k : ℕ} {L M : Term} → Reduces program L M → CanReduceTimes program k M → CanReduceTimes program (suc k) L
   makes-more r m = record { last = m .last; leads = one-made r (m .leads) }
 
   -- all but the last
-  pub makes-fewer : {L N : Term} (k : ℕ) → Leads program (suc k) L N → Makes program k L
+  pub makes-fewer : {L N : Term} (k : ℕ) → Leads program (suc k) L N → CanReduceTimes program k L
   makes-fewer zero d = record { last = _; leads = none-made }
   makes-fewer (suc k) (one-made r d) = makes-more r (makes-fewer k d)
 
   -- as many, where others come first
-  pub makes-on : {j k : ℕ} {L M : Term} → Leads program j L M → Makes program k M → Makes program k L
+  pub makes-on : {j k : ℕ} {L M : Term} → Leads program j L M → CanReduceTimes program k M → CanReduceTimes program k L
   makes-on none-made m = m
   makes-on (one-made r d) m = makes-fewer _ (makes-more r (makes-on d m) .leads)
 
@@ -62,7 +62,7 @@ module _ {program : Program} where
   pub reaches-in : {M N : Term} (E : Context) → Reaches program M N → Reaches program (plug E M) (plug E N)
   reaches-in E r = record { steps = r .steps; leads = leads-in E (r .leads) }
 
-  pub makes-in : {k : ℕ} {M : Term} (E : Context) → Makes program k M → Makes program k (plug E M)
+  pub makes-in : {k : ℕ} {M : Term} (E : Context) → CanReduceTimes program k M → CanReduceTimes program k (plug E M)
   makes-in E m = record { last = _; leads = leads-in E (m .leads) }
 
   -- a redex, where nothing is around it

@@ -8,7 +8,7 @@ use Rattle.formats.specs.Numbers.{sum32}
 use Rattle.formats.specs.Tokens.{Tree, leaf, node}
 use Rattle.formats.specs.Records.{nth}
 use Rattle.formats.specs.Programs.{Expr, const, var, add, ifZero, letIn, leafOf, nodeOf, caseOf, call, noArgs, arg, prefix, prefixes, size}
-use Rattle.formats.specs.Programs.{numberValued, signatureOf, total, Program}
+use Rattle.formats.specs.Programs.{numberValued, signatureOf, sumOfCounts, Program}
 use Rattle.formats.proofs.ProgramCases.{grow}
 use Rattle.rules.proofs.Cases.{numbered, treed, taking, programOf, on, with-one, swap}
 use Rattle.meaning.specs.Levels.{atLevel}
@@ -130,7 +130,7 @@ cases : List Row
 cases = worked ++ (each-kind ++ each-stop)
 
 as-reported : map evaluated cases ≡ map (λ r. r .reports) cases
-unfolding evaluation called evaluate evaluateArgs followedBy resultNumber resultTree numberOr treeOr atLevel sum32 nth firstRecord total signatureOf size prefix prefixes numbered treed programOf on with-two on-two grow swap again sum two-leaves reported-from row evaluated worked in-number of-number of-tree each-kind each-stop cases
+unfolding evaluation called evaluate evaluateArgs followedBy resultNumber resultTree numberOr treeOr atLevel sum32 nth firstRecord sumOfCounts signatureOf size prefix prefixes numbered treed programOf on with-two on-two grow swap again sum two-leaves reported-from row evaluated worked in-number of-number of-tree each-kind each-stop cases
 as-reported = refl
 
 -- Grow on T with fuel for 14 expressions, and for 13; Call 0 on 0 with fuel for 1,024, and for
@@ -144,7 +144,7 @@ fuelled :
     ∷ withFuel 0 (evaluation grow mostCalls two-leaves)
     ∷ [])
     ≡ value 14 (tree (node (leaf 6) (leaf 8))) ∷ stop 13 14 0 ∷ stop 1024 18 2 ∷ stop 1023 14 0 ∷ stop 0 14 0 ∷ []
-unfolding withFuel evaluation called evaluate evaluateArgs followedBy resultNumber resultTree numberOr treeOr atLevel sum32 nth firstRecord total signatureOf size prefix prefixes numbered programOf on grow again two-leaves reported-from
+unfolding withFuel evaluation called evaluate evaluateArgs followedBy resultNumber resultTree numberOr treeOr atLevel sum32 nth firstRecord sumOfCounts signatureOf size prefix prefixes numbered programOf on grow again two-leaves reported-from
 fuelled = refl
 
 -- ---- derivations by hand

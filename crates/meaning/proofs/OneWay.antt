@@ -48,44 +48,44 @@ position (let-01 x M N) = inside (position M) (λ L. let-01 x L N) (whole (let-0
 position (ifZero-01 M M₁ M₂) = inside (position M) (λ L. ifZero-01 L M₁ M₂) (whole (ifZero-01 M M₁ M₂))
 
 -- a value has none: first a tree value, then any
-place-tree : {M : Term} → TreeValue M → position M ≡ none
+focus-tree : {M : Term} → TreeValue M → position M ≡ none
 unfolding position inside
-place-tree leaf-value = refl
-place-tree (node-value v w) = rw (place-tree v, place-tree w)
+focus-tree leaf-value = refl
+focus-tree (node-value v w) = rw (focus-tree v, focus-tree w)
 
-place-value : {M : Term} → IsValue M → position M ≡ none
+focus-value : {M : Term} → IsValue M → position M ≡ none
 unfolding position
-place-value an-integer = refl
-place-value an-abstraction = refl
-place-value (a-tree v) = place-tree v
+focus-value an-integer = refl
+focus-value an-abstraction = refl
+focus-value (a-tree v) = focus-tree v
 
 module _ {program : Program} where
   -- a redex's position is the whole of it
-  place-redex : {M N : Term} → Redex program M N → position M ≡ whole M
+  focus-redex : {M N : Term} → Redex program M N → position M ≡ whole M
   unfolding position inside
-  place-redex Es-Plus = refl
-  place-redex (Es-App w) = rw (place-value w)
-  place-redex (Es-App-let (Es-App w)) = rw (place-value w)
-  place-redex Es-Fix = refl
-  place-redex Es-Case1 = refl
-  place-redex (Es-Case2 v w) = rw (place-tree v, place-tree w)
-  place-redex IfZero-zero = refl
-  place-redex IfZero-other = refl
+  focus-redex Es-Plus = refl
+  focus-redex (Es-App w) = rw (focus-value w)
+  focus-redex (Es-App-let (Es-App w)) = rw (focus-value w)
+  focus-redex Es-Fix = refl
+  focus-redex Es-Case1 = refl
+  focus-redex (Es-Case2 v w) = rw (focus-tree v, focus-tree w)
+  focus-redex IfZero-zero = refl
+  focus-redex IfZero-other = refl
 
   -- with a redex in the hole of a context, it is the hole
-  place-plug : {M N : Term} → Redex program M N → (E : Context) → position (plug E M) ≡ some (record { part = M; around = plug E })
+  focus-plug : {M N : Term} → Redex program M N → (E : Context) → position (plug E M) ≡ some (record { part = M; around = plug E })
   unfolding position inside whole plug
-  place-plug r hole = place-redex r
-  place-plug r (app-left E N) = rw (place-plug r E)
-  place-plug r (app-right x N E) = rw (place-plug r E)
-  place-plug r (plus-left E N) = rw (place-plug r E)
-  place-plug r (plus-right i E) = rw (place-plug r E)
-  place-plug r (in-leaf E) = rw (place-plug r E)
-  place-plug r (node-left E N) = rw (place-plug r E)
-  place-plug r (node-right v E) = rw (place-tree v, place-plug r E)
-  place-plug r (in-case E x M₁ x₁ x₂ M₂) = rw (place-plug r E)
-  place-plug r (in-let x E N) = rw (place-plug r E)
-  place-plug r (in-test E M₁ M₂) = rw (place-plug r E)
+  focus-plug r hole = focus-redex r
+  focus-plug r (app-left E N) = rw (focus-plug r E)
+  focus-plug r (app-right x N E) = rw (focus-plug r E)
+  focus-plug r (plus-left E N) = rw (focus-plug r E)
+  focus-plug r (plus-right i E) = rw (focus-plug r E)
+  focus-plug r (in-leaf E) = rw (focus-plug r E)
+  focus-plug r (node-left E N) = rw (focus-plug r E)
+  focus-plug r (node-right v E) = rw (focus-tree v, focus-plug r E)
+  focus-plug r (in-case E x M₁ x₁ x₂ M₂) = rw (focus-plug r E)
+  focus-plug r (in-let x E N) = rw (focus-plug r E)
+  focus-plug r (in-test E M₁ M₂) = rw (focus-plug r E)
 
 module _ (program : Program) where
   -- ---- one way
@@ -107,13 +107,13 @@ module _ (program : Program) where
     where
       same : {P Q : Term} → Reduces program P Q → M ≡ P → N ≡ Q
       same (in-context {M = L′} E′ r′) e =
-          let one-position = Option·some-injective _ _ (sym (place-plug r E) ∙ ap position e ∙ place-plug r′ E′) in
+          let one-position = Option·some-injective _ _ (sym (focus-plug r E) ∙ ap position e ∙ focus-plug r′ E′) in
           let one-redex : L ≡ L′ = ap (λ p. p .part) one-position in
           ap (λ p. p .around K) one-position ∙ ap (plug E′) (redex-one-way r (rw one-redex r′))
 
   -- a value does not reduce
   pub at-end : (M N : Term) → IsValue M → Reduces program M N → ⊥
-  at-end M N v (in-context E r) = Option·none-ne-some _ (sym (place-value v) ∙ place-plug r E)
+  at-end M N v (in-context E r) = Option·none-ne-some _ (sym (focus-value v) ∙ focus-plug r E)
 
   -- ---- one function
 

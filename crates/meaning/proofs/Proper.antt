@@ -15,7 +15,7 @@ use lib.ListN.{length}
 use Rattle.formats.specs.Results.{done}
 use Rattle.formats.specs.Records.{Call, nth}
 use Rattle.formats.specs.Programs.{Expr, const, var, add, ifZero, letIn, leafOf, nodeOf, caseOf, call, Args, noArgs, arg, prefix, prefixes}
-use Rattle.formats.specs.Programs.{countArgs, Applied, AppliedArgs, Sort, numberValued, treeValued, Signature, arityOf, Function, signatureOf}
+use Rattle.formats.specs.Programs.{countArgs, CallsComplete, ArgsComplete, Sort, numberValued, treeValued, Signature, arityOf, Function, signatureOf}
 use Rattle.formats.specs.Programs.{Program, signatures, mostParameters, InRange, Every, LawfulFunctions}
 use Rattle.formats.proofs.Records.{nth-map}
 use Rattle.formats.proofs.Programs.{every-left, every-right}
@@ -96,7 +96,7 @@ module _ (fs : List Function) where
     passing : {g n : ℕ} {s : Sort} (w r : ℕ) (e : Expr)
         → Passes gs (scope g n w (resultType s)) r e
         → Every (InRange (length gs)) (prefix e)
-        → Applied (arityOf gs) e
+        → CallsComplete (arityOf gs) e
         → Proper fs g n s e
     passing {g} {n} {s} w r (const i) h ranged applied = rw (sort-by-type s numberValued (pass-const _ g n w r _ i h)) (proper-const (ranged .0))
     passing {g} {n} {s} w r (var a) h ranged applied =
@@ -147,7 +147,7 @@ module _ (fs : List Function) where
     passing-args : {g n : ℕ} (w r : ℕ) (τ : Ty) (a b i : ℕ) (xs : Args)
         → PassesArgs gs (Call a b) i (scope g n w τ) r xs
         → Every (InRange (length gs)) (prefixes xs)
-        → AppliedArgs (arityOf gs) xs
+        → ArgsComplete (arityOf gs) xs
         → ProperArgs fs g n (countArgs xs) xs
     passing-args w r τ a b i noArgs h ranged applied = proper-none
     passing-args {g} {n} w r τ a b i (arg x xs) h ranged applied =

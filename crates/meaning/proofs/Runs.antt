@@ -10,7 +10,7 @@ use lib.ListN.{length, length-append}
 use Rattle.formats.specs.Refusals.{fuelUsedUp}
 use Rattle.meaning.specs.Performing.{Setting, State, goes, ends, refuses, step}
 use Rattle.meaning.specs.Running.{Run, Stop, ended, refused, stopped, afterPerforming, run, unitsOf}
-use Rattle.meaning.specs.StreamRun.{StepRefusal, ended-there, no-tag, full, too-many, cannot, Grows, Steps, here, on, Stops, used-up, returned, stuck, afterAll, Runs}
+use Rattle.meaning.specs.StreamRun.{StepRefusal, ended-there, not-a-tag, full, too-many, cannot, Grows, Steps, here, on, Stops, used-up, returned, stuck, afterAll, Runs}
 use Rattle.meaning.proofs.Steps.{it-goes, it-ends, it-refuses, stepped, Follows, grows-same, follows-same, follows-on, follows-step, one-step}
 
 -- ---- a run by the outcome of its first instruction
@@ -95,7 +95,7 @@ module _ {m : Setting} {fuel : ℕ} {s : State} where
     where
       not-fuel : {n : ℕ} → StepRefusal n → n ≢ fuelUsedUp
       not-fuel ended-there e = omega arith
-      not-fuel no-tag e = omega arith
+      not-fuel not-a-tag e = omega arith
       not-fuel full e = omega arith
       not-fuel too-many e = omega arith
       not-fuel cannot e = omega arith

@@ -26,7 +26,7 @@ use Rattle.meaning.specs.Reductions.{TreeValue, leaf-value, node-value, 
 use Rattle.meaning.specs.Reductions.{Redex, Es-Plus, Es-App, Es-App-let, Es-Fix, Es-Case1, Es-Case2, IfZero-zero, IfZero-other}
 use Rattle.meaning.specs.Reductions.{Context, hole, app-left, app-right, plus-left, plus-right, in-leaf, node-left, node-right, in-let, in-test}
 use Rattle.meaning.specs.Reductions.{plug, none-made, treeTerm, valueTerm, programOn as appliedTo}
-use Rattle.meaning.specs.Meaning.{Makes, Reaches}
+use Rattle.meaning.specs.Meaning.{CanReduceTimes, Reaches}
 use Rattle.meaning.proofs.Levels.{level-found}
 use Rattle.meaning.proofs.Outcomes.{ComesTo, given, stopped, comes-map, comes-begins, comes-next, comes-value, comes-stop}
 use Rattle.meaning.proofs.Leads.{nothing, reaches-on, makes-more, makes-on, reaches-in, makes-in, reduces, reaches-one}
@@ -46,7 +46,7 @@ tree-value (aNode l r) = node-value (tree-value l) (tree-value r)
 -- M leads to the term of what the outcome gives, which is of this form, or makes k reductions where
 -- the outcome is a stop.
 abbrev Does : {X A : Type 0} → Program → ℕ → (X → A) → (A → Term) → Term → Outcome A → Type 0
-Does program k form term M o = ComesTo form (λ n a. Reaches program M (term a)) (λ why. Makes program k M) o
+Does program k form term M o = ComesTo form (λ n a. Reaches program M (term a)) (λ why. CanReduceTimes program k M) o
 
 module _ {program : Program} {k : ℕ} {X A : Type 0} {form : X → A} {term : A → Term} where
   -- other reductions come first
@@ -126,8 +126,8 @@ module _ (program : Program) (proper : ProperProgram program) where
   -- what is applied to arguments is reduced first
   makes-applied :
       {k : ℕ} (E : Environment) (g n : ℕ) (M : Term) (xs : Args)
-      → Makes program k (put E M)
-      → Makes program k (put E (applied g n M xs))
+      → CanReduceTimes program k (put E M)
+      → CanReduceTimes program k (put E (applied g n M xs))
   unfolding substitute applied plug
   makes-applied E g n M noArgs m = m
   makes-applied E g n M (arg x xs) m = makes-applied E g n _ xs (makes-in (app-left hole (put E (termOf g n x))) m)
@@ -238,6 +238,6 @@ module _ (program : Program) (proper : ProperProgram program) where
     value-reached d n v e = comes-value (suc n) v (program-does d) (ap begins e)
 
     -- where it stops, there are more reductions than calls may be opened
-    pub stop-makes : (d n why r : ℕ) → evaluation program d t ≡ afterBegun n (stops why r) → Makes program (suc d) (appliedTo first t)
+    pub stop-makes : (d n why r : ℕ) → evaluation program d t ≡ afterBegun n (stops why r) → CanReduceTimes program (suc d) (appliedTo first t)
     unfolding afterBegun
     stop-makes d n why r e = comes-stop (suc n) why r (program-does d) (ap begins e)

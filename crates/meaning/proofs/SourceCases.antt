@@ -8,14 +8,14 @@ use Rattle.formats.specs.Numbers.{bytesOf, numberOf, numberAt, sum32}
 use Rattle.formats.specs.Results.{done, refusal, each}
 use Rattle.formats.specs.Written.{written}
 use Rattle.formats.specs.Tokens.{Tree, leaf, node, tokens, tagOf, tagAt, labelAt, branchesAt, treeByTag, treeAt, firstTree}
-use Rattle.formats.specs.Records.{bytesOfRecord, flat, recordAt, fieldsOf, kinds, nth, kindOf, same, below, nodeRecord}
-use Rattle.formats.specs.Programs.{const, prefix, prefixes, size, sortNumber, signatureRecord, arityOf, total, signatureOf, Program, nodes, headerRecord, headerOf, recordsOf, flatOf, mostParameters}
+use Rattle.formats.specs.Records.{bytesOfRecord, flat, recordAt, fieldsOf, kinds, nth, kindOf, sameFields, functionBelow, nodeRecord}
+use Rattle.formats.specs.Programs.{const, prefix, prefixes, size, sortNumber, signatureRecord, arityOf, sumOfCounts, signatureOf, Program, nodes, headerRecord, headerOf, recordsOf, flatOf, mostParameters}
 use Rattle.formats.specs.Rows.{headerFrom, headerRow, sorts, functionFrom, functionAt, functionRow, nodeAt, nodeRow, popArgs, build, exprsOf, exactlyOne, bodies, prefixRow, readProgram}
 use Rattle.formats.specs.Blocks.{wordSum, checkWord, blockBody, blockOf, blocksFrom, blocksFor, fileOf, lengthRow, zeros, usedFits, fieldsFit, usedOf, blockAt, blockRow, concatenated, flatIn, programIn}
 use Rattle.formats.proofs.ProgramCases.{grow}
-use Rattle.rules.specs.Types.{isInt, isTree, fits, resultType}
+use Rattle.rules.specs.Types.{isInt, isOutputTree, hasType, resultType}
 use Rattle.rules.specs.Scopes.{inside, startOf, entered, enteredArgs, enteredAll}
-use Rattle.rules.specs.PassOne.{named, typed, bareNumber, wordsTested, roomy, atEntry, passOver, passOne}
+use Rattle.rules.specs.PassOne.{nameBound, typeFits, bareNumber, wordsTested, hasRoom, atEntry, passOver, passOne}
 use Rattle.rules.proofs.Cases.{numbered, treed, programOf, on, swap}
 use Rattle.meaning.specs.Levels.{atLevel}
 use Rattle.meaning.specs.Running.{valueWords, returnWords}
@@ -104,5 +104,5 @@ cases : List Row
 cases = worked ++ (first-refusal ++ work-space)
 
 as-reported : map ran cases ≡ map (λ r. r .gives) cases
-unfolding sourceRun checkSource reportFrom reported withFuel evaluation called evaluate evaluateArgs followedBy resultNumber resultBytes resultTree numberOr treeOr atLevel sum32 firstRecord written tokens firstTree treeAt treeByTag branchesAt labelAt tagAt tagOf passOne passOver atEntry roomy wordsTested bareNumber typed named enteredAll entered enteredArgs inside startOf resultType isInt isTree fits programIn flatIn lengthRow blockRow blockAt usedOf fieldsFit usedFits zeros concatenated fileOf blocksFor blocksFrom blockOf blockBody checkWord wordSum readProgram headerRow headerFrom functionRow functionAt functionFrom sorts mostParameters nodeRow nodeAt nodeRecord kindOf kinds nth same below fieldsOf each prefixRow bodies exactlyOne exprsOf build popArgs arityOf total recordAt flat bytesOfRecord bytesOf numberAt numberOf flatOf recordsOf headerRecord headerOf signatureRecord signatureOf sortNumber nodes size prefix prefixes grow swap again sum wrong numbered treed programOf on two-leaves blank ended-with refused-with ran row bare worked first-refusal work-space cases
+unfolding sourceRun checkSource reportFrom reported withFuel evaluation called evaluate evaluateArgs followedBy resultNumber resultBytes resultTree numberOr treeOr atLevel sum32 firstRecord written tokens firstTree treeAt treeByTag branchesAt labelAt tagAt tagOf passOne passOver atEntry hasRoom wordsTested bareNumber typeFits nameBound enteredAll entered enteredArgs inside startOf resultType isInt isOutputTree hasType programIn flatIn lengthRow blockRow blockAt usedOf fieldsFit usedFits zeros concatenated fileOf blocksFor blocksFrom blockOf blockBody checkWord wordSum readProgram headerRow headerFrom functionRow functionAt functionFrom sorts mostParameters nodeRow nodeAt nodeRecord kindOf kinds nth sameFields functionBelow fieldsOf each prefixRow bodies exactlyOne exprsOf build popArgs arityOf sumOfCounts recordAt flat bytesOfRecord bytesOf numberAt numberOf flatOf recordsOf headerRecord headerOf signatureRecord signatureOf sortNumber nodes size prefix prefixes grow swap again sum wrong numbered treed programOf on two-leaves blank ended-with refused-with ran row bare worked first-refusal work-space cases
 as-reported = refl

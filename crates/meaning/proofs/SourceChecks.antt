@@ -13,7 +13,7 @@ use lib.Dec.{leb}
 use lib.ListN.{length, drop, take-append-drop}
 use Rattle.formats.specs.Numbers.{Bytes}
 use Rattle.formats.specs.Refusals.{spaceTooShort}
-use Rattle.formats.specs.Results.{Result, done, refusal, andThen, check}
+use Rattle.formats.specs.Results.{Result, done, refusal, andThen, valueIf}
 use Rattle.formats.specs.Tokens.{Tree, tokens, firstTree}
 use Rattle.formats.specs.Programs.{Program}
 use Rattle.formats.specs.Rows.{readProgram}
@@ -32,17 +32,17 @@ use Rattle.meaning.specs.Meaning.{PassesOne, Passed}
 module _ (values returns : ℕ) where
   -- Its test.
   abbrev spaceTest : Result (Unit {0})
-  spaceTest = check (leb valueWords values && leb returnWords returns) spaceTooShort 0 tt
+  spaceTest = valueIf (leb valueWords values && leb returnWords returns) spaceTooShort 0 tt
 
   -- it passes where both are enough
   enough-space : valueWords ≤ values → returnWords ≤ returns → spaceTest ≡ done tt
-  enough-space v r = ap₂ (λ a b. check (a && b) spaceTooShort 0 tt) (le-leb valueWords values v) (le-leb returnWords returns r)
+  enough-space v r = ap₂ (λ a b. valueIf (a && b) spaceTooShort 0 tt) (le-leb valueWords values v) (le-leb returnWords returns r)
 
   -- it refuses where one is too short
   short-space : (values < valueWords) ⊎ (returns < returnWords) → spaceTest ≡ refusal spaceTooShort 0
-  short-space (inl v) = ap (λ a. check (a && leb returnWords returns) spaceTooShort 0 tt) (lt-leb valueWords values v)
+  short-space (inl v) = ap (λ a. valueIf (a && leb returnWords returns) spaceTooShort 0 tt) (lt-leb valueWords values v)
   short-space (inr r) =
-      ap (λ b. check b spaceTooShort 0 tt)
+      ap (λ b. valueIf b spaceTooShort 0 tt)
       (ap (λ b. leb valueWords values && b) (lt-leb returnWords returns r) ∙ and-false (leb valueWords values))
 
 -- ---- all checks

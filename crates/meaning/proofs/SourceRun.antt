@@ -28,7 +28,7 @@ use Rattle.meaning.specs.Running.{mostCalls}
 use Rattle.meaning.specs.Evaluation.{Value, Ends, resultBytes, resultNumber}
 use Rattle.meaning.specs.OpenCalls.{Outcome, gives, stops, begins, begun, afterBegun, evaluation, withFuel}
 use Rattle.meaning.specs.SourceRun.{SourceRan, refusedAfter, endedAfter, reported, reportFrom, sourceRun}
-use Rattle.meaning.specs.Meaning.{OfSort, TooMany, Cut, Passed, EndedWith, RefusedWith, ByReductions, EndedFrom, Refuses18, SourceRuns}
+use Rattle.meaning.specs.Meaning.{OfSort, TooMany, Cut, Passed, EndedWith, RefusedWith, ByReductions, EndedFrom, SourceTooManyCalls, SourceRuns}
 use Rattle.meaning.proofs.Outcomes.{begun-after}
 use Rattle.meaning.proofs.Proper.{ProperProgram, proper}
 use Rattle.meaning.proofs.OpenCalls.{of-sort, held}
@@ -176,7 +176,7 @@ module _ (file input output : List ℕ) (values returns : ℕ) (bs : Bytes file)
       call-short less = refused-with (call-reports fuel ∙ report-short _ (gives v) n fuel output value-given refl less)
 
     -- an evaluation that stops at a call too many
-    call-stops : TooMany program t mostCalls → Refuses18 output ran
+    call-stops : TooMany program t mostCalls → SourceTooManyCalls output ran
     unfolding reportFrom begun
     call-stops s =
         let last : Outcome Value = stops tooManyCalls (s .position) in

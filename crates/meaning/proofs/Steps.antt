@@ -16,9 +16,9 @@ use Rattle.formats.specs.Tokens.{labelBytes, Tag, noByte, aLeaf, aNode, other}
 use Rattle.formats.proofs.Tokens.{Look, at-leaf, at-node, look}
 use Rattle.meaning.specs.Instructions.{Instruction, Operation, Push, Get, Add, Ifnot, Jump, Slide, Drop, LeafTag, NodeTag, WriteNumber, ReadTag, ReadNumber, Call, Return, operationOf}
 use Rattle.meaning.specs.Levels.{atLevel}
-use Rattle.meaning.specs.Performing.{Setting, Caller, State, wordsBelow, standing, opened, Step, goes, ends, refuses, to, holding, reading, writing}
-use Rattle.meaning.specs.Performing.{one, two, room, pushWord, write, onTag, takeNumber, openCall, kept, leave, operate, perform, step}
-use Rattle.meaning.specs.StreamRun.{StepRefusal, ended-there, no-tag, full, too-many, cannot, Within, Grows, OneStep}
+use Rattle.meaning.specs.Performing.{Setting, Caller, State, wordsBelow, wordsStanding, callsOpen, Step, goes, ends, refuses, goTo, holding, reading, writing}
+use Rattle.meaning.specs.Performing.{popOne, popTwo, ifRoom, pushWord, write, onTag, takeNumber, openCall, kept, leave, operate, perform, step}
+use Rattle.meaning.specs.StreamRun.{StepRefusal, ended-there, not-a-tag, full, too-many, cannot, Within, Grows, OneStep}
 use Rattle.meaning.proofs.CannotPerform.{cannot-first}
 use Rattle.meaning.proofs.Stopping.{refused-exactly, ends-exactly}
 
@@ -63,10 +63,10 @@ module _ (m : Setting) (s : State) where
   -- other words in other frames, and nothing read or written
   follows-frames :
       (a : ℕ) (words : List ℕ) (cs : List Caller)
-      → (standing s ≤ m .mostWords → length words + wordsBelow cs ≤ m .mostWords)
-      → (opened s ≤ m .mostOpen → suc (length cs) ≤ m .mostOpen)
+      → (wordsStanding s ≤ m .mostWords → length words + wordsBelow cs ≤ m .mostWords)
+      → (callsOpen s ≤ m .mostOpen → suc (length cs) ≤ m .mostOpen)
       → Follows m s (record { address = a; frame = words; callers = cs; read = s .read; output = s .output })
-  unfolding standing opened
+  unfolding wordsStanding callsOpen
   follows-frames a words cs fewer deep = record {
     grows = record { reads = le-refl _; writes = grows-same s .writes };
     within = λ w. record { words = fewer (w .words); calls = deep (w .calls); read = w .read; written = w .written };
@@ -75,26 +75,26 @@ module _ (m : Setting) (s : State) where
   -- other words in the frame
   follows-holding :
       (a : ℕ) (words : List ℕ)
-      → (standing s ≤ m .mostWords → length words + wordsBelow (s .callers) ≤ m .mostWords)
-      → Follows m s (to a (holding words s))
-  unfolding opened
+      → (wordsStanding s ≤ m .mostWords → length words + wordsBelow (s .callers) ≤ m .mostWords)
+      → Follows m s (goTo a (holding words s))
+  unfolding callsOpen
   follows-holding a words fewer = follows-frames a words (s .callers) fewer (λ h. h)
 
   -- a frame with no more words
-  follows-fewer : (a : ℕ) (words : List ℕ) → length words ≤ length (s .frame) → Follows m s (to a (holding words s))
-  unfolding standing
+  follows-fewer : (a : ℕ) (words : List ℕ) → length words ≤ length (s .frame) → Follows m s (goTo a (holding words s))
+  unfolding wordsStanding
   follows-fewer a words h = follows-holding a words (λ w. omega arith)
 
   -- bytes that are there read, bytes that fit written
-  follows-reading : (a bytes : ℕ) → s .read + bytes ≤ length (m .input) → Follows m s (to a (reading bytes s))
-  unfolding standing opened
+  follows-reading : (a bytes : ℕ) → s .read + bytes ≤ length (m .input) → Follows m s (goTo a (reading bytes s))
+  unfolding wordsStanding callsOpen
   follows-reading a bytes there = record {
     grows = record { reads = omega arith; writes = grows-same s .writes };
     within = λ w. record { words = w .words; calls = w .calls; read = there; written = w .written };
   }
 
-  follows-writing : (a : ℕ) (bytes : List ℕ) → length (s .output) + length bytes ≤ m .space → Follows m s (to a (writing bytes s))
-  unfolding standing opened
+  follows-writing : (a : ℕ) (bytes : List ℕ) → length (s .output) + length bytes ≤ m .space → Follows m s (goTo a (writing bytes s))
+  unfolding wordsStanding callsOpen
   follows-writing a bytes fits = record {
     grows = record { reads = le-refl _; writes = record { rest = bytes; joined = refl } };
     within = λ w. record { words = w .words; calls = w .calls; read = w .read; written = simp length-append fits };
@@ -122,8 +122,8 @@ module _ (P : Step → Type 0) where
       (words : List ℕ) (f : ℕ → List ℕ → Step)
       → P (refuses cannotPerform)
       → ((x : ℕ) (rest : List ℕ) → length words ≡ suc (length rest) → P (f x rest))
-      → P (one words f)
-  unfolding one
+      → P (popOne words f)
+  unfolding popOne
   holds-one [] f g h = g
   holds-one (x ∷ rest) f g h = h x rest refl
 
@@ -131,8 +131,8 @@ module _ (P : Step → Type 0) where
       (words : List ℕ) (f : ℕ → ℕ → List ℕ → Step)
       → P (refuses cannotPerform)
       → ((x y : ℕ) (rest : List ℕ) → length words ≡ suc (suc (length rest)) → P (f x y rest))
-      → P (two words f)
-  unfolding two
+      → P (popTwo words f)
+  unfolding popTwo
   holds-two words f g h = holds-one words _ g (λ x under e. holds-one under _ g (λ y rest d. h x y rest (e ∙ ap suc d)))
 
 -- ---- the outcome of an instruction is sound: the next state follows, a refusal is one of the five
@@ -144,12 +144,12 @@ Sound m s (refuses number) = StepRefusal number
 
 module _ (m : Setting) (s : State) where
   -- room for one word more, and that word pushed
-  sound-room : (r : Step) → (standing s < m .mostWords → Sound m s r) → Sound m s (room m s r)
-  unfolding room
+  sound-room : (r : Step) → (wordsStanding s < m .mostWords → Sound m s r) → Sound m s (ifRoom m s r)
+  unfolding ifRoom
   sound-room r h = holds-if (Sound m s) _ r _ (λ e. h (ltb-true _ _ e)) cannot
 
   sound-push : (x : ℕ) → Sound m s (pushWord m x s)
-  unfolding pushWord standing
+  unfolding pushWord wordsStanding
   sound-push x = sound-room _ (λ h. follows-holding m s _ (x ∷ s .frame) (λ w. omega arith))
 
   -- bytes written, with no more words in the frame
@@ -164,10 +164,10 @@ module _ (m : Setting) (s : State) where
   sound-tag noByte a l = ended-there
   sound-tag aLeaf a (at-leaf there is) = follows-reading m s _ 1 (omega arith)
   sound-tag aNode a (at-node there is) = follows-reading m s a 1 (omega arith)
-  sound-tag other a l = no-tag
+  sound-tag other a l = not-a-tag
 
-  sound-number : standing s < m .mostWords → Sound m s (takeNumber m s)
-  unfolding takeNumber standing
+  sound-number : wordsStanding s < m .mostWords → Sound m s (takeNumber m s)
+  unfolding takeNumber wordsStanding
   sound-number h =
       let x = numberAt labelBytes (m .input) (s .read) in
       holds-if (Sound m s) _ _ _
@@ -176,7 +176,7 @@ module _ (m : Setting) (s : State) where
 
   -- the arguments and the words that wait are the frame's
   sound-call : (entry n : ℕ) → n ≤ length (s .frame) → Sound m s (openCall m entry n s)
-  unfolding openCall standing opened wordsBelow
+  unfolding openCall wordsStanding callsOpen wordsBelow
   sound-call entry n h =
       let front = length-take n (s .frame) in
       let back = length-drop n (s .frame) in
@@ -197,7 +197,7 @@ module _ (m : Setting) (s : State) where
   sound-kept (suc (suc k)) words f h = cannot
 
   sound-leave : (cs : List Caller) (words : List ℕ) → s .callers ≡ cs → length words ≤ length (s .frame) → Sound m s (leave cs words s)
-  unfolding leave standing opened wordsBelow
+  unfolding leave wordsStanding callsOpen wordsBelow
   sound-leave [] words e h = tt
   sound-leave (c ∷ cs) words e h =
       let long = length-append words (c .words) in

@@ -14,7 +14,7 @@ use native.Mathlib.Nat.{add-zero, zero-add, add-suc, suc-add, add-assoc}
 use lib.ListN.{length, take}
 use Rattle.formats.specs.Tokens.{Tree, leaf, node}
 use Rattle.formats.specs.Records.{Kind, Call, nth}
-use Rattle.formats.specs.Programs.{Expr, const, var, add, ifZero, letIn, leafOf, nodeOf, caseOf, call, Args, noArgs, arg, prefix, prefixes, size, total}
+use Rattle.formats.specs.Programs.{Expr, const, var, add, ifZero, letIn, leafOf, nodeOf, caseOf, call, Args, noArgs, arg, prefix, prefixes, size, sumOfCounts}
 use Rattle.formats.specs.Programs.{Function, signatureOf, Program, nodes}
 use Rattle.meaning.specs.Evaluation.{Value, number, Environment, treeNamed, inCall, resultNumber}
 use Rattle.meaning.specs.OpenCalls.{Outcome, gives, stops, begins, afterBegun, followedBy, treeOr, Handler, evaluate, evaluateArgs}
@@ -65,8 +65,8 @@ module _ (P : ℕ → Type 0) where
       {r : ℕ} (fs : List Function) (b : ℕ) {f : Function}
       → nth fs b ≡ some f
       → CallsAt r (nodes fs)
-      → CallsAt (r + total (take b (map signatureOf fs))) (prefix (f .body))
-  unfolding nth nodes total signatureOf size
+      → CallsAt (r + sumOfCounts (take b (map signatureOf fs))) (prefix (f .body))
+  unfolding nth nodes sumOfCounts signatureOf size
   calls-body [] b {f} e c = absurd (Option·none-ne-some f e)
   calls-body (g ∷ fs) zero {f} e c = rw (← Option·some-injective g f e, add-zero) (calls-parts (prefix (g .body)) (nodes fs) c .0)
   calls-body (g ∷ fs) (suc b) e c = rw (← add-assoc) (calls-body fs b e (calls-parts (prefix (g .body)) (nodes fs) c .1))

@@ -18,8 +18,8 @@ use Rattle.formats.specs.Records.{nth, bytesOfRecord, recordAt}
 use Rattle.formats.proofs.Numbers.{length-bytesOf}
 use Rattle.formats.proofs.Tokens.{past, at-other, tag-is}
 use Rattle.meaning.specs.Instructions.{Operation, LeafTag, NodeTag, WriteNumber, ReadTag, ReadNumber, Call, Return, heldBy, operations, operationOf, instructionOf}
-use Rattle.meaning.specs.Performing.{Setting, State, wordsBelow, standing, opened, Step, goes, ends, refuses}
-use Rattle.meaning.specs.Performing.{one, room, write, onTag, takeNumber, openCall, kept, numberKept, leave, operate, perform, step}
+use Rattle.meaning.specs.Performing.{Setting, State, wordsBelow, wordsStanding, callsOpen, Step, goes, ends, refuses}
+use Rattle.meaning.specs.Performing.{popOne, ifRoom, write, onTag, takeNumber, openCall, kept, numberKept, leave, operate, perform, step}
 use Rattle.meaning.specs.Running.{ofCode}
 use Rattle.meaning.specs.CannotPerform.{Fetches, fetched, CannotPerform}
 use Rattle.meaning.specs.Stopping.{Prevented, no-tag, no-label, no-such-tag, no-room-for-leaf, no-room-for-node, no-room-for-number, all-open, Refused, cannot, prevented, ReturnsFirst, none-kept, one-kept}
@@ -46,36 +46,36 @@ module _ (m : Setting) (s : State) where
   step-fetched (fetched i held is) = rw (step, held, perform, is)
 
   -- a test that gives 19, a word that must be there
-  finished-test :
+  passed-test :
       {number : ℕ} (test : Bool) (r : Step)
       → (CannotPerform m s → ⊥)
       → step m s ≡ elim test [ true ↦ r | false ↦ refuses cannotPerform ]
       → r ≡ refuses number
       → step m s ≡ refuses number
-  finished-test true r can e is = e ∙ is
-  finished-test false r can e is = absurd (can (cannot-first m s .0 e))
+  passed-test true r can e is = e ∙ is
+  passed-test false r can e is = absurd (can (cannot-first m s .0 e))
 
   finished-one :
       {number : ℕ} (words : List ℕ) (f : ℕ → List ℕ → Step)
       → (CannotPerform m s → ⊥)
-      → step m s ≡ one words f
+      → step m s ≡ popOne words f
       → ((x : ℕ) (rest : List ℕ) → f x rest ≡ refuses number)
       → step m s ≡ refuses number
-  unfolding one
+  unfolding popOne
   finished-one [] f can e is = absurd (can (cannot-first m s .0 e))
   finished-one (x ∷ rest) f can e is = e ∙ is x rest
 
   stops : {op : Operation} {number : ℕ} → (CannotPerform m s → ⊥) → Fetches m s op → Prevented m s op number → step m s ≡ refuses number
-  unfolding operate room write onTag takeNumber openCall
+  unfolding operate ifRoom write onTag takeNumber openCall
   stops can f (no-tag h) = step-fetched f ∙ simp (operate, onTag, tag-is {s = m .input} {p = s .read} (past h))
   stops can f (no-such-tag there no-leaf no-node) = step-fetched f ∙ simp (operate, onTag, tag-is {s = m .input} {p = s .read} (at-other there no-leaf no-node))
-  stops can f (no-label h) = finished-test (ltb (standing s) (m .mostWords)) (takeNumber m s) can (step-fetched f) (simp (takeNumber, lt-leb _ _ h))
+  stops can f (no-label h) = passed-test (ltb (wordsStanding s) (m .mostWords)) (takeNumber m s) can (step-fetched f) (simp (takeNumber, lt-leb _ _ h))
   stops can f (no-room-for-leaf h) = step-fetched f ∙ simp (operate, write, lt-leb _ _ h)
   stops can f (no-room-for-node h) = step-fetched f ∙ simp (operate, write, lt-leb _ _ h)
   stops can f (no-room-for-number h) =
       finished-one (s .frame) _ can (step-fetched f) (λ x rest. simp (write, length-bytesOf labelBytes x, lt-leb _ _ h))
   stops can f (all-open {entry = entry} {n = n} h) =
-      finished-test (leb n (length (s .frame))) (openCall m entry n s) can (step-fetched f) (simp (openCall, le-ltb _ _ h))
+      passed-test (leb n (length (s .frame))) (openCall m entry n s) can (step-fetched f) (simp (openCall, le-ltb _ _ h))
 
   stops-so : {number : ℕ} → Refused m s number → step m s ≡ refuses number
   stops-so (cannot c) = cannot-first m s .1 c
@@ -114,7 +114,7 @@ at-the-limits :
     ∷ refused-with WriteNumber [] 3 1 0 ∷ refused-with WriteNumber [] 4 1 0
     ∷ refused-with (Call 0 0) [] 0 0 1023 ∷ refused-with (Call 0 0) [] 0 0 1022 ∷ []
     ≡ 15 ∷ 0 ∷ 15 ∷ 0 ∷ 16 ∷ 0 ∷ 17 ∷ 0 ∷ 17 ∷ 0 ∷ 17 ∷ 0 ∷ 18 ∷ 0 ∷ []
-unfolding refused-with alone-with numberIn standing-at waiting zero-words step perform operate heldBy operationOf operations instructionOf nth recordAt bytesOfRecord bytesOf numberOf numberAt standing wordsBelow opened one room write takeNumber onTag tagAt tagOf openCall
+unfolding refused-with alone-with numberIn standing-at waiting zero-words step perform operate heldBy operationOf operations instructionOf nth recordAt bytesOfRecord bytesOf numberOf numberAt wordsStanding wordsBelow callsOpen popOne ifRoom write takeNumber onTag tagAt tagOf openCall
 at-the-limits = refl
 
 -- so there are derivations by each rule
@@ -126,7 +126,7 @@ derivations :
     × Refused (alone-with NodeTag [] 0) (standing-at 0 0) outputFull
     × Refused (alone-with WriteNumber [] 3) (standing-at 1 0) outputFull
     × Refused (alone-with (Call 0 0) [] 0) (standing-at 0 1023) tooManyCalls
-unfolding alone-with standing-at waiting zero-words step perform operate heldBy operationOf operations instructionOf nth recordAt bytesOfRecord bytesOf numberOf numberAt standing wordsBelow opened one room write takeNumber onTag tagAt tagOf openCall
+unfolding alone-with standing-at waiting zero-words step perform operate heldBy operationOf operations instructionOf nth recordAt bytesOfRecord bytesOf numberOf numberAt wordsStanding wordsBelow callsOpen popOne ifRoom write takeNumber onTag tagAt tagOf openCall
 derivations = (
   refused-exactly _ _ _ .0 refl,
   refused-exactly _ _ _ .0 refl,

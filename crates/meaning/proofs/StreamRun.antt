@@ -5,7 +5,7 @@ use mathlib.Core.Option.{Option, none, some}
 use mathlib.Core.Path.{_≡_, refl, sym, ap, _∙_}
 use Rattle.formats.specs.Records.{fields, nth}
 use Rattle.formats.proofs.Records.{nth-mapped, none-past}
-use Rattle.meaning.specs.Instructions.{Instruction, Operation, Push, Get, Add, Ifnot, Jump, Slide, Drop, LeafTag, NodeTag, WriteNumber, ReadTag, ReadNumber, Call, Return, operations, operationOf, instructionOf, usedFields, used}
+use Rattle.meaning.specs.Instructions.{Instruction, Operation, Push, Get, Add, Ifnot, Jump, Slide, Drop, LeafTag, NodeTag, WriteNumber, ReadTag, ReadNumber, Call, Return, operations, operationOf, instructionOf, usedFields, unusedZeroed}
 use Rattle.meaning.specs.StreamRun.{StreamRun}
 use Rattle.meaning.proofs.CannotPerform.{past-end}
 use Rattle.meaning.proofs.Steps.{one-step}
@@ -38,26 +38,26 @@ row-by-row : (byte1 operand number : ℕ) → usedFields byte1 operand number �
 unfolding usedFields operations instructionOf
 row-by-row byte1 operand number = refl
 
-written-zero : (i : Instruction) (op : Operation) → operationOf i ≡ some op → instructionOf op ≡ used i
-unfolding operationOf used
+written-zero : (i : Instruction) (op : Operation) → operationOf i ≡ some op → instructionOf op ≡ unusedZeroed i
+unfolding operationOf unusedZeroed
 written-zero (fields opcode byte1 operand number) op e =
     let row = nth-mapped instructionOf (operations byte1 operand number) opcode op e in
-    rw (used, row-by-row byte1 operand number, row)
+    rw (unusedZeroed, row-by-row byte1 operand number, row)
 
 -- an opcode that names no operation names none with all other fields zero
-none-named : (opcode byte1 operand number : ℕ) → operationOf (fields opcode byte1 operand number) ≡ none → operationOf (used (fields opcode byte1 operand number)) ≡ none
-unfolding operationOf operations used usedFields
+none-named : (opcode byte1 operand number : ℕ) → operationOf (fields opcode byte1 operand number) ≡ none → operationOf (unusedZeroed (fields opcode byte1 operand number)) ≡ none
+unfolding operationOf operations unusedZeroed usedFields
 none-named opcode byte1 operand number e =
     let long = past-end (operations byte1 operand number) opcode e in
-    rw (used, none-past (usedFields byte1 operand number) opcode long) (none-past (operations 0 0 0) opcode long)
+    rw (unusedZeroed, none-past (usedFields byte1 operand number) opcode long) (none-past (operations 0 0 0) opcode long)
 
-not-looked-at : (i : Instruction) → operationOf i ≡ operationOf (used i)
+not-looked-at : (i : Instruction) → operationOf i ≡ operationOf (unusedZeroed i)
 not-looked-at (fields opcode byte1 operand number) = by-operation (operationOf (fields opcode byte1 operand number)) refl
   where
     by-operation :
         (o : Option Operation)
         → operationOf (fields opcode byte1 operand number) ≡ o
-        → operationOf (fields opcode byte1 operand number) ≡ operationOf (used (fields opcode byte1 operand number))
+        → operationOf (fields opcode byte1 operand number) ≡ operationOf (unusedZeroed (fields opcode byte1 operand number))
     by-operation (some op) e = e ∙ sym (reads-back op) ∙ ap operationOf (written-zero (fields opcode byte1 operand number) op e)
     by-operation none e = e ∙ sym (none-named opcode byte1 operand number e)
 
@@ -75,7 +75,7 @@ stream-run = record {
 
 -- A push, a get, an add, a call, a return, and an opcode that names nothing, with every field set.
 used-fields :
-    map used (fields 0 7 8 9 ∷ fields 1 7 8 9 ∷ fields 2 7 8 9 ∷ fields 12 7 8 9 ∷ fields 13 7 8 9 ∷ fields 14 7 8 9 ∷ [])
+    map unusedZeroed (fields 0 7 8 9 ∷ fields 1 7 8 9 ∷ fields 2 7 8 9 ∷ fields 12 7 8 9 ∷ fields 13 7 8 9 ∷ fields 14 7 8 9 ∷ [])
     ≡ fields 0 0 0 9 ∷ fields 1 0 8 0 ∷ fields 2 0 0 0 ∷ fields 12 7 8 0 ∷ fields 13 7 0 0 ∷ fields 14 0 0 0 ∷ []
-unfolding used usedFields nth
+unfolding unusedZeroed usedFields nth
 used-fields = refl

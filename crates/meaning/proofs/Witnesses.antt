@@ -9,12 +9,12 @@ use Rattle.formats.specs.Numbers.{sum32}
 use Rattle.formats.specs.Refusals.{tooManyCalls}
 use Rattle.formats.specs.Tokens.{Tree, leaf, node}
 use Rattle.formats.specs.Records.{nth}
-use Rattle.formats.specs.Programs.{prefix, prefixes, size, arityOf, countArgs, signatureOf, total, Function, Program, mostParameters}
+use Rattle.formats.specs.Programs.{prefix, prefixes, size, arityOf, countArgs, signatureOf, sumOfCounts, Function, Program, mostParameters}
 use Rattle.formats.proofs.Results.{then-inv}
 use Rattle.formats.proofs.ProgramCases.{grow, grow-lawful}
-use Rattle.rules.specs.Types.{isInt, isTree, fits, resultType}
+use Rattle.rules.specs.Types.{isInt, isOutputTree, hasType, resultType}
 use Rattle.rules.specs.Scopes.{inside, startOf, entered, enteredArgs, enteredAll}
-use Rattle.rules.specs.PassOne.{named, typed, bareNumber, wordsTested, roomy, atEntry, passOver, passOne}
+use Rattle.rules.specs.PassOne.{nameBound, typeFits, bareNumber, wordsTested, hasRoom, atEntry, passOver, passOne}
 use Rattle.rules.specs.PassTwo.{bothPasses}
 use Rattle.rules.proofs.Cases.{numbered, treed, programOf, on, grow-passes, swap, swap-lawful, swap-verdicts}
 use Rattle.meaning.specs.Levels.{atLevel}
@@ -54,20 +54,20 @@ witness program calls begun v first passes is-first gives-it =
 
 -- Grow, which passes both passes
 grow-witness : Witness grow 2 14 (tree (node (leaf 6) (leaf 8)))
-unfolding bothPasses evaluation called evaluate evaluateArgs followedBy afterBegun resultNumber resultTree numberOr treeOr atLevel sum32 nth firstRecord total signatureOf size prefix prefixes grow two-leaves
+unfolding bothPasses evaluation called evaluate evaluateArgs followedBy afterBegun resultNumber resultTree numberOr treeOr atLevel sum32 nth firstRecord sumOfCounts signatureOf size prefix prefixes grow two-leaves
 grow-witness =
     witness grow 2 14 _ _ (record { lawful = grow-lawful; passes = then-inv (passOne grow) _ tt grow-passes .first }) refl refl
 
 -- its parts exchanged, which pass two refuses
 swap-witness : Witness swap 2 10 (tree (node (leaf 7) (leaf 5)))
-unfolding evaluation called evaluate evaluateArgs followedBy afterBegun resultNumber resultTree numberOr treeOr atLevel nth firstRecord total signatureOf size prefix prefixes swap treed programOf on two-leaves
+unfolding evaluation called evaluate evaluateArgs followedBy afterBegun resultNumber resultTree numberOr treeOr atLevel nth firstRecord sumOfCounts signatureOf size prefix prefixes swap treed programOf on two-leaves
 swap-witness = witness swap 2 10 _ _ (record { lawful = swap-lawful; passes = swap-verdicts .0 }) refl refl
 
 -- ---- one that is endless
 
 -- Call 0 on 0 is within the limits and passes
 pub again-passes : PassesOne again
-unfolding passOne passOver atEntry roomy wordsTested bareNumber typed named enteredAll entered enteredArgs inside startOf resultType isInt isTree fits size prefix prefixes nth signatureOf total arityOf countArgs mostParameters again numbered programOf on
+unfolding passOne passOver atEntry hasRoom wordsTested bareNumber typeFits nameBound enteredAll entered enteredArgs inside startOf resultType isInt isOutputTree hasType size prefix prefixes nth signatureOf sumOfCounts arityOf countArgs mostParameters again numbered programOf on
 again-passes = record {
   lawful = record {
     edition = refl;

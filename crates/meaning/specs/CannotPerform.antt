@@ -11,7 +11,7 @@ use mathlib.Core.Path.{_≡_}
 use lib.ListN.{length}
 use Rattle.formats.specs.Records.{fields}
 use Rattle.meaning.specs.Instructions.{Instruction, Operation, Push, Get, Add, Ifnot, Jump, Slide, Drop, LeafTag, NodeTag, WriteNumber, ReadTag, ReadNumber, Call, Return, operationOf}
-use Rattle.meaning.specs.Performing.{Setting, State, standing}
+use Rattle.meaning.specs.Performing.{Setting, State, wordsStanding}
 
 -- 01, Opcodes: "opcodes 0 to 13".
 abbrev pub lastOpcode : ℕ
@@ -72,4 +72,4 @@ pub data CannotPerform (m : Setting) (s : State) : Type 0 where
   missing-words : (op : Operation) → Fetches m s op → length (s .frame) < wordsNeeded op → CannotPerform m s
   -- "surplus words": "surplus above 16,384" (`mostWords`, as `ofCode` sets it), where the
   -- instruction adds some
-  surplus-words : (op : Operation) → Fetches m s op → 0 < wordsAdded op → m .mostWords < standing s + wordsAdded op → CannotPerform m s
+  surplus-words : (op : Operation) → Fetches m s op → 0 < wordsAdded op → m .mostWords < wordsStanding s + wordsAdded op → CannotPerform m s

@@ -102,5 +102,5 @@ usedFields byte1 operand number =
     ∷ []
 
 -- An instruction with its unused fields zero; with an opcode above 13, all fields are unused.
-unfoldable pub used : Instruction → Instruction
-used (fields opcode byte1 operand number) = elim (nth (usedFields byte1 operand number) opcode) [ some i ↦ i | none ↦ fields opcode 0 0 0 ]
+unfoldable pub unusedZeroed : Instruction → Instruction
+unusedZeroed (fields opcode byte1 operand number) = elim (nth (usedFields byte1 operand number) opcode) [ some i ↦ i | none ↦ fields opcode 0 0 0 ]

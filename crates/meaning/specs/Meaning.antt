@@ -125,12 +125,12 @@ pub record Cut (o : Outcome Value) (fuel : ℕ) : Type 0 where
 -- ---- the reductions
 
 -- A term reduces to some other.
-pub record Goes (program : Program) (M : Term) : Type 0 where
+pub record CanReduce (program : Program) (M : Term) : Type 0 where
   pub to : Term
   pub reduces : Reduces program M to
 
 -- From this term k reductions can be made.
-pub record Makes (program : Program) (k : ℕ) (M : Term) : Type 0 where
+pub record CanReduceTimes (program : Program) (k : ℕ) (M : Term) : Type 0 where
   pub last : Term
   pub leads : Leads program k M last
 
@@ -140,7 +140,7 @@ pub record Reaches (program : Program) (M N : Term) : Type 0 where
   pub leads : Leads program steps M N
 
 -- An evaluation that ends with this value.
-pub record Taken (program : Program) (t : Tree) (v : Value) : Type 0 where
+pub record EndsWithValue (program : Program) (t : Tree) (v : Value) : Type 0 where
   pub calls : ℕ
   pub expressions : ℕ
   pub ends : Ends program t calls expressions v
@@ -154,16 +154,16 @@ pub record ValueReached (M : Term) : Type 0 where
 pub record Agrees (program : Program) (first : Function) (t : Tree) : Type 0 where
   -- the evaluation gives the value v exactly where the reductions lead to v
   pub leads : (o n : ℕ) (v : Value) → Ends program t o n v → Reaches program (programOn first t) (valueTerm v)
-  pub taken : (v : Value) → Reaches program (programOn first t) (valueTerm v) → Taken program t v
+  pub taken : (v : Value) → Reaches program (programOn first t) (valueTerm v) → EndsWithValue program t v
   -- the reductions lead to no other values than numbers and trees
   pub values : (k : ℕ) (M : Term) → Leads program k (programOn first t) M → IsValue M → ValueReached M
   -- each term that they lead to is a value or reduces
-  pub progress : (k : ℕ) (M : Term) → Leads program k (programOn first t) M → IsValue M ⊎ Goes program M
+  pub progress : (k : ℕ) (M : Term) → Leads program k (programOn first t) M → IsValue M ⊎ CanReduce program M
   -- where the evaluation is endless, so are the reductions
-  pub endless : Endless program t → (k : ℕ) → Makes program k (programOn first t)
+  pub endless : Endless program t → (k : ℕ) → CanReduceTimes program k (programOn first t)
 
 -- What holds of a program's reductions.
-pub record Reductions (program : Program) : Type 0 where
+pub record ReductionsHold (program : Program) : Type 0 where
   -- a term reduces to at most one other
   pub one-way : (M N N′ : Term) → Reduces program M N → Reduces program M N′ → N ≡ N′
   -- a value does not reduce
@@ -227,7 +227,7 @@ pub record EndedFrom (file input output : List ℕ) (values returns fuel : ℕ) 
 
 -- With fuel for this number of expressions or more, the call is refused with 18; with less, with
 -- 14.
-pub record Refuses18 (output : List ℕ) (call : ℕ → SourceRan) : Type 0 where
+pub record SourceTooManyCalls (output : List ℕ) (call : ℕ → SourceRan) : Type 0 where
   pub expressions : ℕ
   pub enough : (fuel : ℕ) → expressions ≤ fuel → RefusedWith expressions tooManyCalls 0 output (call fuel)
   pub short : (fuel : ℕ) → fuel < expressions → RefusedWith fuel fuelUsedUp 0 output (call fuel)
@@ -283,7 +283,7 @@ pub record SourceRuns (file input output : List ℕ) (values returns : ℕ) (cal
       (program : Program) (t : Tree)
       → Passed file input values returns program t
       → ((n : ℕ) (v : Value) → Ends program t mostCalls n v → ⊥)
-      → Refuses18 output call
+      → SourceTooManyCalls output call
   -- a call ends in no other case than that of `ends`: every check before the evaluation passed, and
   -- the evaluation ended
   pub ended-from : (fuel : ℕ) → call fuel .answer .outcome ≡ done tt → EndedFrom file input output values returns fuel (call fuel)
@@ -309,7 +309,7 @@ pub record Meaning : Type 0 where
   pub evaluations : (program : Program) → Evaluations program
   pub held : (program : Program) (t : Tree) → PassesOne program → HeldTo program t
   pub cut : (o : Outcome Value) (fuel : ℕ) → Cut o fuel
-  pub reductions : (program : Program) → Reductions program
+  pub reductions : (program : Program) → ReductionsHold program
   pub source-runs :
       (file input output : List ℕ) (values returns : ℕ)
       → Bytes file

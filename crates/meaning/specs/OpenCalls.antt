@@ -9,7 +9,7 @@ use Rattle.formats.specs.Numbers.{sum32}
 use Rattle.formats.specs.Refusals.{fuelUsedUp, tooManyCalls}
 use Rattle.formats.specs.Tokens.{Tree, leaf, node}
 use Rattle.formats.specs.Records.{nth}
-use Rattle.formats.specs.Programs.{Expr, const, var, add, ifZero, letIn, leafOf, nodeOf, caseOf, call, Args, noArgs, arg, size, total, Program, signatures}
+use Rattle.formats.specs.Programs.{Expr, const, var, add, ifZero, letIn, leafOf, nodeOf, caseOf, call, Args, noArgs, arg, size, sumOfCounts, Program, signatures}
 use Rattle.meaning.specs.Evaluation.{Value, number, tree, Environment, numberNamed, treeNamed, withNumber, withTrees, inCall, resultNumber}
 
 -- What an evaluation comes to: a mark for each expression begun, then its value, or the number of a
@@ -90,7 +90,7 @@ unfoldable mutual
 
 -- The record of a function's first node.
 unfoldable pub firstRecord : Program → ℕ → ℕ
-firstRecord program b = suc (length (program .functions)) + total (take b (signatures program))
+firstRecord program b = suc (length (program .functions)) + sumOfCounts (take b (signatures program))
 
 -- A call where this many may be open, itself among them. 01, The table of refusals: "18 a call with
 -- 1,024 open (the first frame counts)".

@@ -48,30 +48,30 @@ wordsBelow [] = 0
 wordsBelow (c ∷ cs) = length (c .words) + wordsBelow cs
 
 -- All words on the value stack.
-unfoldable pub standing : State → ℕ
-standing s = length (s .frame) + wordsBelow (s .callers)
+unfoldable pub wordsStanding : State → ℕ
+wordsStanding s = length (s .frame) + wordsBelow (s .callers)
 
 -- 01, The table of refusals: "18 a call with 1,024 open (the first frame counts)". The calls open.
-unfoldable pub opened : State → ℕ
-opened s = suc (length (s .callers))
+unfoldable pub callsOpen : State → ℕ
+callsOpen s = suc (length (s .callers))
 
 -- The outcome of an instruction. 01, Fuel and units: "A refused instruction counts nothing and
 -- changes nothing." 01, The answer of a stream run: "The run ends at the return of the first frame.
 -- Its answer gives .. the number (0 for a tree ..)".
 pub data Step : Type 0 where
-  goes : (to : State) → Step
+  goes : (next : State) → Step
   ends : (number : ℕ) → Step
-  refuses : (number : ℕ) → Step
+  refuses : (why : ℕ) → Step
 
 -- ---- changes of the state
 
 -- Goes on at an address.
-abbrev pub to : ℕ → State → State
-to a s = record { address = a; frame = s .frame; callers = s .callers; read = s .read; output = s .output }
+abbrev pub goTo : ℕ → State → State
+goTo a s = record { address = a; frame = s .frame; callers = s .callers; read = s .read; output = s .output }
 
 -- Goes on at the next address.
 abbrev pub toNext : State → State
-toNext s = to (suc (s .address)) s
+toNext s = goTo (suc (s .address)) s
 
 -- With these words in the frame.
 abbrev pub holding : List ℕ → State → State
@@ -100,20 +100,20 @@ returning kept c cs s = record { address = c .back; frame = kept ++ c .words; ca
 
 -- 01, Instructions that cannot be performed: "words are missing above the frame's base". One word
 -- is taken, or two, the top one first, and handed on with those under them.
-unfoldable pub one : List ℕ → (ℕ → List ℕ → Step) → Step
-one [] f = refuses cannotPerform
-one (x ∷ rest) f = f x rest
+unfoldable pub popOne : List ℕ → (ℕ → List ℕ → Step) → Step
+popOne [] f = refuses cannotPerform
+popOne (x ∷ rest) f = f x rest
 
-unfoldable pub two : List ℕ → (ℕ → ℕ → List ℕ → Step) → Step
-two frame f = one frame (λ x under. one under (λ y rest. f x y rest))
+unfoldable pub popTwo : List ℕ → (ℕ → ℕ → List ℕ → Step) → Step
+popTwo frame f = popOne frame (λ x under. popOne under (λ y rest. f x y rest))
 
 -- 01, Instructions that cannot be performed: "surplus above 16,384".
-unfoldable pub room : Setting → State → Step → Step
-room m s then = elim (ltb (standing s) (m .mostWords)) [ true ↦ then | false ↦ refuses cannotPerform ]
+unfoldable pub ifRoom : Setting → State → Step → Step
+ifRoom m s then = elim (ltb (wordsStanding s) (m .mostWords)) [ true ↦ then | false ↦ refuses cannotPerform ]
 
 -- A word pushed.
 unfoldable pub pushWord : Setting → ℕ → State → Step
-pushWord m x s = room m s (goes (toNext (holding (x ∷ s .frame) s)))
+pushWord m x s = ifRoom m s (goes (toNext (holding (x ∷ s .frame) s)))
 
 -- 01, Opcodes: "17 output full". 01, Notation: "Four bytes are read or written together or none."
 unfoldable pub write : Setting → List ℕ → State → Step
@@ -123,7 +123,7 @@ write m bytes s = elim (leb (length (s .output) + length bytes) (m .space)) [ tr
 unfoldable pub onTag : Tag → ℕ → State → Step
 onTag noByte a s = refuses inputEnded
 onTag aLeaf a s = goes (toNext (reading 1 s))
-onTag aNode a s = goes (to a (reading 1 s))
+onTag aNode a s = goes (goTo a (reading 1 s))
 onTag other a s = refuses notATag
 
 -- The four bytes of a number, pushed.
@@ -137,7 +137,7 @@ takeNumber m s =
 -- 01, Opcodes: "call (operand: entry; byte 1: arguments, the new frame's first words)".
 unfoldable pub openCall : Setting → ℕ → ℕ → State → Step
 openCall m entry n s =
-    elim (ltb (opened s) (m .mostOpen)) [
+    elim (ltb (callsOpen s) (m .mostOpen)) [
       | true ↦ goes (calling entry (take n (s .frame)) (drop n (s .frame)) s)
       | false ↦ refuses tooManyCalls
     ]
@@ -167,16 +167,16 @@ leave (c ∷ cs) words s = goes (returning words c cs s)
 unfoldable pub operate : Setting → State → Operation → Step
 operate m s (Push x) = pushWord m x s
 operate m s (Get k) = elim (atLevel (s .frame) k) [ some x ↦ pushWord m x s | none ↦ refuses cannotPerform ]
-operate m s Add = two (s .frame) (λ q p rest. goes (toNext (holding (sum32 p q ∷ rest) s)))
-operate m s (Ifnot a) = one (s .frame) (λ x rest. goes (to (elim (eqb x 0) [ true ↦ suc (s .address) | false ↦ a ]) (holding rest s)))
-operate m s (Jump a) = goes (to a s)
-operate m s Slide = two (s .frame) (λ x under rest. goes (toNext (holding (x ∷ rest) s)))
-operate m s Drop = one (s .frame) (λ x rest. goes (toNext (holding rest s)))
+operate m s Add = popTwo (s .frame) (λ q p rest. goes (toNext (holding (sum32 p q ∷ rest) s)))
+operate m s (Ifnot a) = popOne (s .frame) (λ x rest. goes (goTo (elim (eqb x 0) [ true ↦ suc (s .address) | false ↦ a ]) (holding rest s)))
+operate m s (Jump a) = goes (goTo a s)
+operate m s Slide = popTwo (s .frame) (λ x under rest. goes (toNext (holding (x ∷ rest) s)))
+operate m s Drop = popOne (s .frame) (λ x rest. goes (toNext (holding rest s)))
 operate m s LeafTag = write m (leafTag ∷ []) s
 operate m s NodeTag = write m (nodeTag ∷ []) s
-operate m s WriteNumber = one (s .frame) (λ x rest. write m (bytesOf labelBytes x) (holding rest s))
+operate m s WriteNumber = popOne (s .frame) (λ x rest. write m (bytesOf labelBytes x) (holding rest s))
 operate m s (ReadTag a) = onTag (tagAt (m .input) (s .read)) a s
-operate m s ReadNumber = room m s (takeNumber m s)
+operate m s ReadNumber = ifRoom m s (takeNumber m s)
 operate m s (Call entry n) = elim (leb n (length (s .frame))) [ true ↦ openCall m entry n s | false ↦ refuses cannotPerform ]
 operate m s (Return k) = elim (kept k (s .frame)) [ some words ↦ leave (s .callers) words s | none ↦ refuses cannotPerform ]
 

@@ -13,7 +13,7 @@ use Rattle.meaning.specs.Performing.{Setting, State, start, goes, ends, 
 -- Why a run stops: at the return of the first frame, with its number, or refused.
 pub data Stop : Type 0 where
   ended : (number : ℕ) → Stop
-  refused : (number : ℕ) → Stop
+  refused : (why : ℕ) → Stop
 
 -- A run: the addresses of the instructions performed, in order; the state in which it stops; why it
 -- stops.

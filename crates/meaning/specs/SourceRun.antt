@@ -5,7 +5,7 @@ use mathlib.Core.List.{List}
 use lib.ListN.{length}
 use lib.Dec.{leb}
 use Rattle.formats.specs.Refusals.{spaceTooShort, outputFull}
-use Rattle.formats.specs.Results.{Result, done, refusal, andThen, check}
+use Rattle.formats.specs.Results.{Result, done, refusal, andThen, valueIf}
 use Rattle.formats.specs.Tokens.{Tree, firstTree}
 use Rattle.formats.specs.Programs.{Program}
 use Rattle.formats.specs.Blocks.{programIn}
@@ -75,7 +75,7 @@ checkSource file input values returns =
     (λ program. andThen
     (passOne program)
     (λ u. andThen
-    (check (leb valueWords values && leb returnWords returns) spaceTooShort 0 (tt {0}))
+    (valueIf (leb valueWords values && leb returnWords returns) spaceTooShort 0 (tt {0}))
     (λ w. andThen (firstTree input) (λ t. done (record { program = program; tree = t })))))
 
 -- The source run, with so many value words and return words lent. 01, What the lent buffers hold:

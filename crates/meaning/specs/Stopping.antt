@@ -11,7 +11,7 @@ use lib.ListN.{length, getD}
 use Rattle.formats.specs.Refusals.{inputEnded, notATag, outputFull, tooManyCalls, cannotPerform}
 use Rattle.formats.specs.Tokens.{leafTag, nodeTag, labelBytes}
 use Rattle.meaning.specs.Instructions.{Operation, LeafTag, NodeTag, WriteNumber, ReadTag, ReadNumber, Call, Return}
-use Rattle.meaning.specs.Performing.{Setting, State, opened}
+use Rattle.meaning.specs.Performing.{Setting, State, callsOpen}
 use Rattle.meaning.specs.CannotPerform.{Fetches, CannotPerform}
 
 -- The input, the output or the open calls prevent an operation. "Four bytes are read or written
@@ -33,7 +33,7 @@ pub data Prevented (m : Setting) (s : State) : Operation → ℕ → Type 0 wher
   no-room-for-node : m .space < length (s .output) + 1 → Prevented m s NodeTag outputFull
   no-room-for-number : m .space < length (s .output) + labelBytes → Prevented m s WriteNumber outputFull
   -- "18 a call with 1,024 open (the first frame counts)" (`mostOpen`, as `ofCode` sets it)
-  all-open : {entry n : ℕ} → m .mostOpen ≤ opened s → Prevented m s (Call entry n) tooManyCalls
+  all-open : {entry n : ℕ} → m .mostOpen ≤ callsOpen s → Prevented m s (Call entry n) tooManyCalls
 
 -- The instruction at the state's address is refused with this number. 01, Instructions that cannot
 -- be performed: "At one instruction 19 comes before 15 to 18".

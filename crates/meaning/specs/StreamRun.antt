@@ -12,8 +12,8 @@ use Rattle.formats.specs.Buffers.{Opens}
 use Rattle.formats.specs.Refusals.{fuelUsedUp, inputEnded, notATag, outputFull, tooManyCalls, cannotPerform}
 use Rattle.formats.specs.Results.{Result, done, refusal}
 use Rattle.formats.specs.Tokens.{labelBytes}
-use Rattle.meaning.specs.Instructions.{Instruction, Operation, operationOf, instructionOf, used}
-use Rattle.meaning.specs.Performing.{Setting, State, standing, opened, goes, ends, refuses, step}
+use Rattle.meaning.specs.Instructions.{Instruction, Operation, operationOf, instructionOf, unusedZeroed}
+use Rattle.meaning.specs.Performing.{Setting, State, wordsStanding, callsOpen, goes, ends, refuses, step}
 use Rattle.meaning.specs.CannotPerform.{CannotPerform}
 use Rattle.meaning.specs.Stopping.{Refused, ReturnsFirst}
 use Rattle.meaning.specs.Running.{Run, ended, refused, run, unitsOf, Answer, Ran, streamRun}
@@ -24,15 +24,15 @@ use Rattle.meaning.specs.Running.{writtenBy, untouchedBy}
 -- What an instruction may be refused with. (14 is a refusal of the run.)
 pub data StepRefusal : ℕ → Type 0 where
   ended-there : StepRefusal inputEnded
-  no-tag : StepRefusal notATag
+  not-a-tag : StepRefusal notATag
   full : StepRefusal outputFull
   too-many : StepRefusal tooManyCalls
   cannot : StepRefusal cannotPerform
 
 -- A state within the limits, the input and the output.
 pub record Within (m : Setting) (s : State) : Type 0 where
-  pub words : standing s ≤ m .mostWords
-  pub calls : opened s ≤ m .mostOpen
+  pub words : wordsStanding s ≤ m .mostWords
+  pub calls : callsOpen s ≤ m .mostOpen
   pub read : s .read ≤ length (m .input)
   pub written : length (s .output) ≤ m .space
 
@@ -116,7 +116,7 @@ restsOn a = a .bytesRead + lookedAt (a .outcome)
 
 -- What holds of calls of the stream run that differ in input and fuel alone: code, work space and
 -- output are the same.
-pub record Calls (output : List ℕ) (call : List ℕ → ℕ → Ran) : Type 0 where
+pub record StreamCalls (output : List ℕ) (call : List ℕ → ℕ → Ran) : Type 0 where
   -- units never exceed the fuel, and equal it at 14
   pub within-fuel : (input : List ℕ) (fuel : ℕ) → call input fuel .answer .units ≤ fuel
   pub fuel-used : (input : List ℕ) (fuel position : ℕ) → call input fuel .answer .outcome ≡ refusal fuelUsedUp position → call input fuel .answer .units ≡ fuel
@@ -153,9 +153,9 @@ pub record StreamRun : Type 0 where
   pub reads-back : (op : Operation) → operationOf (instructionOf op) ≡ some op
   -- its unused fields are written zero: what is written for an operation is any instruction that
   -- has it, with the unused fields zero ..
-  pub written-zero : (i : Instruction) (op : Operation) → operationOf i ≡ some op → instructionOf op ≡ used i
+  pub written-zero : (i : Instruction) (op : Operation) → operationOf i ≡ some op → instructionOf op ≡ unusedZeroed i
   -- .. and not looked at: whatever they hold, the operation is the same
-  pub not-looked-at : (i : Instruction) → operationOf i ≡ operationOf (used i)
+  pub not-looked-at : (i : Instruction) → operationOf i ≡ operationOf (unusedZeroed i)
   pub steps : (m : Setting) (s : State) → OneStep m s
   pub runs : (m : Setting) (s : State) → Runs m s
-  pub calls : (code output : List ℕ) (values returns : ℕ) → Calls output (λ input fuel. streamRun code input output fuel values returns)
+  pub calls : (code output : List ℕ) (values returns : ℕ) → StreamCalls output (λ input fuel. streamRun code input output fuel values returns)

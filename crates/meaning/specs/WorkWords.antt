@@ -21,10 +21,10 @@ beforeSource number = leb number spaceTooShort || (eqb number inputEnded || (eqb
 
 -- The work words of a call with this outcome: unprimed at entry, primed at exit. `before` says
 -- which refusals come before the run.
-pub record WorkWords (before : ℕ → Bool) (outcome : Result (Unit {0})) (values values′ returns returns′ : List ℕ) : Type 0 where
+pub record WorkWords (early : ℕ → Bool) (outcome : Result (Unit {0})) (values values′ returns returns′ : List ℕ) : Type 0 where
   -- as many as were lent
   pub values-length : length values′ ≡ length values
   pub returns-length : length returns′ ≡ length returns
   -- refused before the run: untouched
-  pub values-kept : (number position : ℕ) → outcome ≡ refusal number position → before number ≡ true → values′ ≡ values
-  pub returns-kept : (number position : ℕ) → outcome ≡ refusal number position → before number ≡ true → returns′ ≡ returns
+  pub values-kept : (number position : ℕ) → outcome ≡ refusal number position → early number ≡ true → values′ ≡ values
+  pub returns-kept : (number position : ℕ) → outcome ≡ refusal number position → early number ≡ true → returns′ ≡ returns

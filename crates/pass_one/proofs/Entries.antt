@@ -10,7 +10,7 @@ use types.Run.{OneOf, miss}
 use denote.Enum.Declared.{tagOf}
 use Rattle.formats.specs.Refusals.{wrongType, notBound, tooManyWords}
 use Rattle.formats.specs.Results.{Result, andThen}
-use Rattle.formats.specs.Records.{below}
+use Rattle.formats.specs.Records.{functionBelow}
 use Rattle.formats.specs.Programs.{Sort, numberValued, treeValued, sortNumber, Signature}
 use Rattle.formats.specs.Inner.Fields.{headerIn, sortIn, arityIn}
 use Rattle.formats.proofs.Rows.{function-read}
@@ -24,9 +24,9 @@ use Rattle.records.specs.declared.Constant.{Constant}
 use Rattle.records.specs.declared.NumberName.{NumberName}
 use Rattle.records.specs.declared.TreeName.{TreeName}
 use Rattle.records.specs.declared.Called.{Called}
-use Rattle.rules.specs.Types.{isInt, isTree, fits}
+use Rattle.rules.specs.Types.{isInt, isOutputTree, hasType}
 use Rattle.rules.specs.Scopes.{entry}
-use Rattle.rules.specs.PassOne.{named, typed, bareNumber, wordsTested, roomy, holdsAt, atEntry}
+use Rattle.rules.specs.PassOne.{nameBound, typeFits, bareNumber, wordsTested, hasRoom, holdsAt, atEntry}
 use Rattle.rules.specs.Limits.{mostFrameWords}
 use Rattle.walks.specs.Inner.Standing.{Known}
 use Rattle.walks.proofs.Walks.{Signed, signature-of}
@@ -36,23 +36,23 @@ use Rattle.pass_one.specs.declared.Scope.{Scope}
 -- ---- `is_named`
 
 module _ (c : Scope) (node : Record) where
-  pub named-var : (v : NumberName) → node ≡ Var v → ltb (v .a) (c .numbers) ≡ named (scopeOf c) (meant node)
-  unfolding named
-  named-var v case = sym (ap (λ n. named (scopeOf c) (meant n)) case)
+  pub named-var : (v : NumberName) → node ≡ Var v → ltb (v .a) (c .numbers) ≡ nameBound (scopeOf c) (meant node)
+  unfolding nameBound
+  named-var v case = sym (ap (λ n. nameBound (scopeOf c) (meant n)) case)
 
-  pub named-case : (v : TreeName) → node ≡ Case v → ltb (v .a) (c .trees) ≡ named (scopeOf c) (meant node)
-  unfolding named
-  named-case v case = sym (ap (λ n. named (scopeOf c) (meant n)) case)
+  pub named-case : (v : TreeName) → node ≡ Case v → ltb (v .a) (c .trees) ≡ nameBound (scopeOf c) (meant node)
+  unfolding nameBound
+  named-case v case = sym (ap (λ n. nameBound (scopeOf c) (meant n)) case)
 
-  pub named-call : (v : Called) → node ≡ Call v → ltb (v .a) (c .trees) ≡ named (scopeOf c) (meant node)
-  unfolding named
-  named-call v case = sym (ap (λ n. named (scopeOf c) (meant n)) case)
+  pub named-call : (v : Called) → node ≡ Call v → ltb (v .a) (c .trees) ≡ nameBound (scopeOf c) (meant node)
+  unfolding nameBound
+  named-call v case = sym (ap (λ n. nameBound (scopeOf c) (meant n)) case)
 
 abbrev nameless : List ℕ
 nameless = 0 ∷ 2 ∷ 3 ∷ 4 ∷ 5 ∷ 6 ∷ []
 
-pub named-other : (c : Scope) (node : Record) → OneOf nameless (tagOf the-type node) → true ≡ named (scopeOf c) (meant node)
-unfolding named
+pub named-other : (c : Scope) (node : Record) → OneOf nameless (tagOf the-type node) → true ≡ nameBound (scopeOf c) (meant node)
+unfolding nameBound
 named-other c (Const i) h = refl
 named-other c (Var v) h = absurd (miss nameless 1 tt h)
 named-other c Add h = refl
@@ -72,63 +72,63 @@ unfolding isInt
 number-expected true = refl
 number-expected false = refl
 
-tree-expected : (tree : Bool) → tree ≡ isTree (expected tree)
-unfolding isTree
+tree-expected : (tree : Bool) → tree ≡ isOutputTree (expected tree)
+unfolding isOutputTree
 tree-expected true = refl
 tree-expected false = refl
 
 -- the sort's number decides which type the function's value has
-tree-fits : (sort : Sort) (n : ℕ) (tree : Bool) → sortNumber sort ≡ n → n ≡ 1 → tree ≡ fits sort (expected tree)
-unfolding sortNumber fits
+tree-fits : (sort : Sort) (n : ℕ) (tree : Bool) → sortNumber sort ≡ n → n ≡ 1 → tree ≡ hasType sort (expected tree)
+unfolding sortNumber hasType
 tree-fits numberValued n tree e one = absurd (omega arith)
 tree-fits treeValued n tree e one = tree-expected tree
 
-number-fits : (sort : Sort) (n : ℕ) (tree : Bool) → sortNumber sort ≡ n → (n ≡ 1 → ⊥) → not tree ≡ fits sort (expected tree)
-unfolding sortNumber fits
+number-fits : (sort : Sort) (n : ℕ) (tree : Bool) → sortNumber sort ≡ n → (n ≡ 1 → ⊥) → not tree ≡ hasType sort (expected tree)
+unfolding sortNumber hasType
 number-fits numberValued n tree e other = number-expected tree
 number-fits treeValued n tree e other = absurd (other (sym e))
 
 module _ (s : List ℕ) (c : Scope) (node : Record) where
   -- a Call's function is one of those with these signatures
-  called : (gs : List Signature) (v : Called) → node ≡ Call v → Known s gs → below (headerIn s .functions) (meant node) ≡ true → Signed s gs (v .b)
-  unfolding below
+  called : (gs : List Signature) (v : Called) → node ≡ Call v → Known s gs → functionBelow (headerIn s .functions) (meant node) ≡ true → Signed s gs (v .b)
+  unfolding functionBelow
   called gs v case known low =
-      signature-of s gs (v .b) known (ltb-true (v .b) (headerIn s .functions) (sym (ap (λ n. below (headerIn s .functions) (meant n)) case) ∙ low))
+      signature-of s gs (v .b) known (ltb-true (v .b) (headerIn s .functions) (sym (ap (λ n. functionBelow (headerIn s .functions) (meant n)) case) ∙ low))
 
-  typed-number : ((gs : List Signature) → typed gs (scopeOf c) (meant node) ≡ isInt (expected (c .tree))) → Typed s c node (not (c .tree))
+  typed-number : ((gs : List Signature) → typeFits gs (scopeOf c) (meant node) ≡ isInt (expected (c .tree))) → Typed s c node (not (c .tree))
   typed-number e = record { is = λ gs known low. number-expected (c .tree) ∙ sym (e gs) }
 
-  typed-tree : ((gs : List Signature) → typed gs (scopeOf c) (meant node) ≡ isTree (expected (c .tree))) → Typed s c node (c .tree)
+  typed-tree : ((gs : List Signature) → typeFits gs (scopeOf c) (meant node) ≡ isOutputTree (expected (c .tree))) → Typed s c node (c .tree)
   typed-tree e = record { is = λ gs known low. tree-expected (c .tree) ∙ sym (e gs) }
 
   pub typed-const : (i : Constant) → node ≡ Const i → Typed s c node (not (c .tree))
-  unfolding typed
-  typed-const i case = typed-number (λ gs. ap (λ n. typed gs (scopeOf c) (meant n)) case)
+  unfolding typeFits
+  typed-const i case = typed-number (λ gs. ap (λ n. typeFits gs (scopeOf c) (meant n)) case)
 
   pub typed-var : (v : NumberName) → node ≡ Var v → Typed s c node (not (c .tree))
-  unfolding typed
-  typed-var v case = typed-number (λ gs. ap (λ n. typed gs (scopeOf c) (meant n)) case)
+  unfolding typeFits
+  typed-var v case = typed-number (λ gs. ap (λ n. typeFits gs (scopeOf c) (meant n)) case)
 
   pub typed-add : node ≡ Add → Typed s c node (not (c .tree))
-  unfolding typed
-  typed-add case = typed-number (λ gs. ap (λ n. typed gs (scopeOf c) (meant n)) case)
+  unfolding typeFits
+  typed-add case = typed-number (λ gs. ap (λ n. typeFits gs (scopeOf c) (meant n)) case)
 
   pub typed-leaf : node ≡ Leaf → Typed s c node (c .tree)
-  unfolding typed
-  typed-leaf case = typed-tree (λ gs. ap (λ n. typed gs (scopeOf c) (meant n)) case)
+  unfolding typeFits
+  typed-leaf case = typed-tree (λ gs. ap (λ n. typeFits gs (scopeOf c) (meant n)) case)
 
   pub typed-node : node ≡ Node → Typed s c node (c .tree)
-  unfolding typed
-  typed-node case = typed-tree (λ gs. ap (λ n. typed gs (scopeOf c) (meant n)) case)
+  unfolding typeFits
+  typed-node case = typed-tree (λ gs. ap (λ n. typeFits gs (scopeOf c) (meant n)) case)
 
   module _ (v : Called) (n : ℕ) (case : node ≡ Call v) (is : n ≡ sortIn s (v .b)) where
     -- the type of a Call is that of its function
-    call-fits : (r : Bool) → ((sort : Sort) → sortNumber sort ≡ n → r ≡ fits sort (expected (c .tree))) → Typed s c node r
-    unfolding typed
+    call-fits : (r : Bool) → ((sort : Sort) → sortNumber sort ≡ n → r ≡ hasType sort (expected (c .tree))) → Typed s c node r
+    unfolding typeFits
     call-fits r fit = record {
       is = λ gs known low.
           let g = called gs v case known low in
-          fit (g .signature .sort) (g .its-fields .sort ∙ sym is) ∙ sym (ap (λ n. typed gs (scopeOf c) (meant n)) case ∙ rw (g .there, typed));
+          fit (g .signature .sort) (g .its-fields .sort ∙ sym is) ∙ sym (ap (λ n. typeFits gs (scopeOf c) (meant n)) case ∙ rw (g .there, typeFits));
     }
 
     pub typed-tree-call : n ≡ 1 → Typed s c node (c .tree)
@@ -141,7 +141,7 @@ abbrev as-parts : List ℕ
 as-parts = 3 ∷ 4 ∷ 7 ∷ []
 
 pub typed-other : (s : List ℕ) (c : Scope) (node : Record) → OneOf as-parts (tagOf the-type node) → Typed s c node true
-unfolding typed
+unfolding typeFits
 typed-other s c (Const i) h = absurd (miss as-parts 0 tt h)
 typed-other s c (Var v) h = absurd (miss as-parts 1 tt h)
 typed-other s c Add h = absurd (miss as-parts 2 tt h)
@@ -184,15 +184,15 @@ pub ruleset bare = (bare-tree, bare-number)
 
 module _ (s : List ℕ) (c : Scope) (node : Record) where
   -- where words are tested, the answer is whether one more word fits; elsewhere it is yes
-  tested : ((gs : List Signature) → Known s gs → below (headerIn s .functions) (meant node) ≡ true → wordsTested gs (meant node) ≡ true)
+  tested : ((gs : List Signature) → Known s gs → functionBelow (headerIn s .functions) (meant node) ≡ true → wordsTested gs (meant node) ≡ true)
       → Roomy s c node (ltb (c .words) mostFrameWords)
-  unfolding roomy
-  tested e = record { is = λ gs known low. sym (rw (e gs known low, roomy)) }
+  unfolding hasRoom
+  tested e = record { is = λ gs known low. sym (rw (e gs known low, hasRoom)) }
 
-  untested : ((gs : List Signature) → Known s gs → below (headerIn s .functions) (meant node) ≡ true → wordsTested gs (meant node) ≡ false)
+  untested : ((gs : List Signature) → Known s gs → functionBelow (headerIn s .functions) (meant node) ≡ true → wordsTested gs (meant node) ≡ false)
       → Roomy s c node true
-  unfolding roomy
-  untested e = record { is = λ gs known low. sym (rw (e gs known low, roomy)) }
+  unfolding hasRoom
+  untested e = record { is = λ gs known low. sym (rw (e gs known low, hasRoom)) }
 
   pub roomy-const : (i : Constant) → node ≡ Const i → Roomy s c node (ltb (c .words) mostFrameWords)
   unfolding wordsTested
@@ -208,7 +208,7 @@ module _ (s : List ℕ) (c : Scope) (node : Record) where
 
   module _ (v : Called) (r : Bool) (case : node ≡ Call v) (reported : Bare s (v .b) r) where
     -- a Call's words are tested where its function gives a number and has no number parameters
-    call-tested : (gs : List Signature) → Known s gs → below (headerIn s .functions) (meant node) ≡ true → wordsTested gs (meant node) ≡ r
+    call-tested : (gs : List Signature) → Known s gs → functionBelow (headerIn s .functions) (meant node) ≡ true → wordsTested gs (meant node) ≡ r
     unfolding wordsTested
     call-tested gs known low =
         let g = called s c node gs v case known low in
@@ -243,8 +243,8 @@ pub ruleset words = (roomy-const, roomy-var, roomy-case, roomy-bare-call, roomy-
 abbrev inOrder : ℕ → Bool → Bool → Bool → Result (Unit {0})
 inOrder k n t w = andThen (holdsAt n notBound k) (λ u. andThen (holdsAt t wrongType k) (λ v. holdsAt w tooManyWords k))
 
-module _ (s : List ℕ) (c : Scope) (k : ℕ) (node : Record) (n : Bool) (en : n ≡ named (scopeOf c) (meant node)) where
-  in-order : (gs : List Signature) (t w : Bool) → t ≡ typed gs (scopeOf c) (meant node) → w ≡ roomy gs (scopeOf c) (meant node)
+module _ (s : List ℕ) (c : Scope) (k : ℕ) (node : Record) (n : Bool) (en : n ≡ nameBound (scopeOf c) (meant node)) where
+  in-order : (gs : List Signature) (t w : Bool) → t ≡ typeFits gs (scopeOf c) (meant node) → w ≡ hasRoom gs (scopeOf c) (meant node)
       → inOrder k n t w ≡ atEntry gs (entry (scopeOf c) k (meant node))
   unfolding atEntry
   in-order gs t w et ew = rw (en, et, ew)

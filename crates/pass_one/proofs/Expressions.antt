@@ -8,7 +8,7 @@ use native.Mathlib.Numerals.{add-one}
 use native.Mathlib.Omega.{arith}
 use lib.ListN.{length}
 use Rattle.formats.specs.Results.{Result, done, andThen, onValue}
-use Rattle.formats.specs.Records.{Kind, below, partsOf, nthPart, partCount}
+use Rattle.formats.specs.Records.{Kind, functionBelow, partsOf, nthPart, partCount}
 use Rattle.formats.specs.Programs.{Expr, size, Placed, partsAt}
 use Rattle.formats.specs.Inner.Fields.{headerIn, arityIn, nodeIn}
 use Rattle.formats.proofs.Results.{done-injective, done-not, then-done, then-refused, value-inv, value-refused}
@@ -79,7 +79,7 @@ module _ (s : List ℕ) (k end : ℕ) (c : Scope) where
         own-said : {e : Expr} (h : Here s end k e) → verdictResult own ≡ atEntry (h .signed) (entry (scopeOf c) k (headOf e))
         own-said {e} h =
             let same = own-kind h in
-            let low : below (headerIn s .functions) (meant node) ≡ true = rw same (node-below s k (headOf e) (own-node h)) in
+            let low : functionBelow (headerIn s .functions) (meant node) ≡ true = rw same (node-below s k (headOf e) (own-node h)) in
             tested .is (h .signed) (h .known) low ∙ ap (λ kind. atEntry (h .signed) (entry (scopeOf c) k kind)) same
 
         pub enter-refused : (why : Refusal) (position : ℕ) → own ≡ Refuses why position → Entered s k end c (Refused why position)

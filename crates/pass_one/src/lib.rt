@@ -12,7 +12,7 @@ ghost use Rattle.formats.specs.Rows.{readProgram};
 ghost use Rattle.records.specs.Inner.Read.{meant, partOf};
 ghost use Rattle.refusal.specs.Inner.Verdicts.{verdictResult};
 ghost use Rattle.rules.specs.Scopes.{partScope};
-ghost use Rattle.rules.specs.PassOne.{named};
+ghost use Rattle.rules.specs.PassOne.{nameBound};
 ghost use Rattle.rules.specs.Inner.Checks.{checkOne};
 ghost use Rattle.pass_one.specs.Inner.Walk.{scopeOf, RoomFor, Fits, FitsParts, Typed, Bare, Roomy, Tested, Entered, EnteredParts, Starts, PassSays};
 
@@ -39,7 +39,7 @@ enum Walked {
 
 // Whether the record's name is bound.
 fn is_named(node: Record, scope: Scope) -> bool
-    ensures { λ r. ⌜ r ≡ named (scopeOf scope) (meant node) ⌝ }
+    ensures { λ r. ⌜ r ≡ nameBound (scopeOf scope) (meant node) ⌝ }
 {
     match node {
         Record::Var(v) => (v.a as usize) < scope.numbers,

@@ -81,8 +81,8 @@ fn order_call(
     ensures { λ r. ⌜ OrderedCall (now (flat .entry)) a count k end trees pending r ⌝ }
 {
     let after = order_list(flat, 0, count, k + 1, end, trees, pending);
-    let verdictResult = after.verdict;
-    if let Verdict::Refused(why, position) = verdictResult {
+    let said = after.verdict;
+    if let Verdict::Refused(why, position) = said {
         return after;
     }
     let taken = pending::take_head(after.pending, a);
@@ -123,8 +123,8 @@ fn order_list(
         };
     }
     let first = order_at(flat, k, end, trees, pending);
-    let verdictResult = first.verdict;
-    if let Verdict::Refused(why, position) = verdictResult {
+    let said = first.verdict;
+    if let Verdict::Refused(why, position) = said {
         return first;
     }
     order_list(flat, i + 1, count, first.next, end, trees, first.pending)
@@ -195,8 +195,8 @@ fn order_function(flat: &[u8], k: usize, end: usize) -> Checked
     ensures { λ r. ⌜ OrderedFunction (now (flat .entry)) k end r ⌝ }
 {
     let body = order_at(flat, k, end, 1, pending::parameter_alone());
-    let verdictResult = body.verdict;
-    if let Verdict::Refused(why, position) = verdictResult {
+    let said = body.verdict;
+    if let Verdict::Refused(why, position) = said {
         return body;
     }
     let left = body.pending;
@@ -222,8 +222,8 @@ fn pass(flat: &[u8]) -> Verdict
     let mut j = 0;
     while j < functions {
         let checked = order_function(flat, k, end);
-        let verdictResult = checked.verdict;
-        if let Verdict::Refused(why, position) = verdictResult {
+        let said = checked.verdict;
+        if let Verdict::Refused(why, position) = said {
             return Verdict::Refused(why, position);
         }
         k = checked.next;

@@ -11,7 +11,7 @@ use lib.Dec.{leb, eqb}
 use lib.ListN.{length, getD, replicate, set, length-set}
 use Rattle.formats.specs.Inner.Buffers.{fromLast}
 use Rattle.formats.specs.Refusals.{outOfOrder}
-use Rattle.formats.specs.Results.{done, refusal, check}
+use Rattle.formats.specs.Results.{done, refusal, valueIf}
 use Rattle.formats.proofs.Buffers.{length-from, from-top}
 use Rattle.formats.proofs.Results.{done-injective, done-not}
 use Rattle.rules.specs.Limits.{mostPending}
@@ -63,7 +63,7 @@ module _ (p : Pending) (a l : ℕ) (counted : l ≡ lengthOf p) where
     head-test = ap (isHead a) (by-head p l counted some)
 
     -- taking is a test of the head
-    tested : (k : ℕ) → takeHead a k (listOf p) ≡ check (eqb (getD (p .names) (l - 1) 0) a) outOfOrder k (fromLast (p .names) (l - 1))
+    tested : (k : ℕ) → takeHead a k (listOf p) ≡ valueIf (eqb (getD (p .names) (l - 1) 0) a) outOfOrder k (fromLast (p .names) (l - 1))
     unfolding takeHead
     tested k = ap (takeHead a k) (by-head p l counted some)
 
@@ -176,7 +176,7 @@ unfolding takeHead
 head-less a k [] rest e = done-not e refl
 head-less a k (x ∷ xs) rest e = by (eqb x a) e
   where
-    by : (t : Bool) → check t outOfOrder k xs ≡ done rest → suc (length xs) ≡ suc (length rest)
+    by : (t : Bool) → valueIf t outOfOrder k xs ≡ done rest → suc (length xs) ≡ suc (length rest)
     by true e = ap (λ l. suc (length l)) (done-injective e)
     by false e = done-not e refl
 

@@ -9,7 +9,7 @@ use Rattle.formats.specs.Refusals.{spaceTooShort}
 use Rattle.meaning.specs.Running.{Ran}
 use Rattle.machine.specs.Inner.Answers.{runAnswer, Performed}
 use Rattle.machine.specs.declared.Answer.{Answer}
-use Rattle.run_answers.specs.RunAnswer.{runSlots}
+use Rattle.run_answers.specs.RunSlots.{runSlots}
 use Rattle.run_answers.specs.Inner.Stores.{AnswersRun}
 use Rattle.run_answers.specs.RunCall.{StreamCall}
 use Rattle.run_answers.proofs.RunCall.{too-few, enough, not-called, called}

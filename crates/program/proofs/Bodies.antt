@@ -10,9 +10,9 @@ use native.Mathlib.Omega.{arith}
 use borrow.Author.Tests.{not-true, not-false}
 use lib.ListN.{take, drop}
 use Rattle.formats.specs.Refusals.{prefixForm}
-use Rattle.formats.specs.Results.{Result, done, refusal, andThen, check, verdict, each}
+use Rattle.formats.specs.Results.{Result, done, refusal, andThen, valueIf, verdict, each}
 use Rattle.formats.specs.Records.{Kind, recordAt}
-use Rattle.formats.specs.Programs.{Expr, Signature, arityOf, total, Function}
+use Rattle.formats.specs.Programs.{Expr, Signature, arityOf, sumOfCounts, Function}
 use Rattle.formats.specs.Rows.{functionRow, nodeRow, exprsOf, exactlyOne, bodies, prefixRow}
 use Rattle.formats.specs.Inner.Fields.{headerIn, functionIn, countIn, nodeIn}
 use Rattle.formats.proofs.Results.{then-done, then-refused, each-inv, each-none, each-front, test-holds, test-fails, passed-is, refused-is, each-after}
@@ -47,7 +47,7 @@ module _ (s : List ℕ) (functions : ℕ) where
     pub signed : List Signature
     pub kinds : List Kind
     pub signed-read : each (functionIn s) (functions - j) j ≡ done signed
-    pub kinds-read : each (nodeIn s) (total signed) first ≡ done kinds
+    pub kinds-read : each (nodeIn s) (sumOfCounts signed) first ≡ done kinds
     pub left : verdict (prefixRow (headerIn s) gs ks) ≡ verdict (bodies (arityOf gs) signed kinds first)
 
   -- so it is whenever the rows before have passed; and the first record is not too far off
@@ -80,23 +80,23 @@ module _ (s : List ℕ) (functions : ℕ) where
         → verdict (prefixRow (headerIn s) gs ks) ≡ refusal number position
 
   turn : (gs : List Signature) (ks : List Kind) (first j count : ℕ) → j < functions → count ≡ countIn s j → Left gs ks first j → Turn gs ks first j count
-  unfolding total
+  unfolding sumOfCounts
   turn gs ks first j count more is l =
       let next : functions - j ≡ suc (functions - (j + 1)) = omega arith in
       let i = each-inv (functionIn s) (functions - (j + 1)) j (l .signed) (rw next at (l .signed-read)) in
       let own : i .head .count ≡ count = function-read s j (i .head) (i .here) .count ∙ sym is in
-      let sum : total (l .signed) ≡ count + total (i .tail) = ap total (i .both) ∙ ap (λ n. n + total (i .tail)) own in
-      let after : total (l .signed) - count ≡ total (i .tail) = omega arith in
+      let sum : sumOfCounts (l .signed) ≡ count + sumOfCounts (i .tail) = ap sumOfCounts (i .both) ∙ ap (λ n. n + sumOfCounts (i .tail)) own in
+      let after : sumOfCounts (l .signed) - count ≡ sumOfCounts (i .tail) = omega arith in
       let left : verdict (prefixRow (headerIn s) gs ks) ≡ verdict (bodies (arityOf gs) (i .head ∷ i .tail) (l .kinds) first) =
       l .left ∙ ap (λ fs. verdict (bodies (arityOf gs) fs (l .kinds) first)) (i .both) in
       record {
         here = take count (l .kinds);
-        here-read = each-front (nodeIn s) (total (l .signed)) count first (l .kinds) (l .kinds-read) (omega arith);
+        here-read = each-front (nodeIn s) (sumOfCounts (l .signed)) count first (l .kinds) (l .kinds-read) (omega arith);
         passed = λ e. record {
           signed = i .tail;
           kinds = drop count (l .kinds);
           signed-read = ap (each (functionIn s) (functions - (j + 1))) (add-one j) ∙ i .later;
-          kinds-read = rw after at (each-after (nodeIn s) (total (l .signed)) count first (l .kinds) (l .kinds-read) (omega arith));
+          kinds-read = rw after at (each-after (nodeIn s) (sumOfCounts (l .signed)) count first (l .kinds) (l .kinds-read) (omega arith));
           left = left ∙ (rw own at (body-passed (arityOf gs) (i .head) (i .tail) (l .kinds) first (rw own e)));
         };
         refused = λ number position e. left ∙ body-refused (arityOf gs) (i .head) (i .tail) (l .kinds) first number position (rw own e);
@@ -107,7 +107,7 @@ module _ (s : List ℕ) (functions : ℕ) where
     where
       -- what the answer says of the function's records
       one-said : (gs : List Signature) (here : List Kind) → functionRow (headerIn s) s ≡ done gs → each (nodeIn s) count first ≡ done here
-          → check one prefixForm first tt ≡ verdict (exactlyOne first (exprsOf (arityOf gs) here))
+          → valueIf one prefixForm first tt ≡ verdict (exactlyOne first (exprsOf (arityOf gs) here))
       one-said gs here eg e =
           let long : first + count - first ≡ count = omega arith in
           reported .is (arityOf gs) here (arity-read s gs eg) (rw long e)

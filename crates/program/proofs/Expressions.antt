@@ -12,8 +12,8 @@ use borrow.Author.Tests.{ltb-true, eqb-true, eqb-false}
 use lib.Dec.{eqb}
 use lib.ListN.{take, drop, take-append-drop}
 use Rattle.formats.specs.Refusals.{prefixForm}
-use Rattle.formats.specs.Results.{Result, done, check, verdict, each}
-use Rattle.formats.specs.Records.{Kind, Const, Var, Add, IfZero, Let, Leaf, Node, Case, Call, below, partsOf, partCount}
+use Rattle.formats.specs.Results.{Result, done, valueIf, verdict, each}
+use Rattle.formats.specs.Records.{Kind, Const, Var, Add, IfZero, Let, Leaf, Node, Case, Call, functionBelow, partsOf, partCount}
 use Rattle.formats.specs.Rows.{exprsOf, exactlyOne}
 use Rattle.formats.specs.Inner.Fields.{headerIn, arityIn, nodeIn}
 use Rattle.formats.proofs.Results.{each-inv, each-none, each-after}
@@ -23,9 +23,9 @@ use Rattle.nodes.specs.Inner.Parts.{partsIn}
 use Rattle.program.specs.Inner.Prefix.{Arities, IsOne}
 
 -- a node that was read has as many parts as the code counts: it calls one of the functions
-parts-agree : (s : List ℕ) (arity : ℕ → ℕ) (kind : Kind) → Arities s arity → below (headerIn s .functions) kind ≡ true
+parts-agree : (s : List ℕ) (arity : ℕ → ℕ) (kind : Kind) → Arities s arity → functionBelow (headerIn s .functions) kind ≡ true
     → partCount arity (partsOf kind) ≡ partCount (arityIn s) (partsOf kind)
-unfolding below partsOf partCount
+unfolding functionBelow partsOf partCount
 parts-agree s arity (Const i) a e = refl
 parts-agree s arity (Var v) a e = refl
 parts-agree s arity Add a e = refl
@@ -132,7 +132,7 @@ module _ (s : List ℕ) (first end : ℕ) where
       record { is = λ arity ks a e. decides arity ks (w .stands arity ks a (rw whole e)) (eqb standing 1) refl }
     where
       decides : (arity : ℕ → ℕ) (ks : List Kind) → Height arity ks standing → (b : Bool) → eqb standing 1 ≡ b
-          → check b prefixForm first tt ≡ verdict (exactlyOne first (exprsOf arity ks))
+          → valueIf b prefixForm first tt ≡ verdict (exactlyOne first (exprsOf arity ks))
       decides arity ks h true t = sym (one-of arity ks (h .exprs) first (h .found) (h .height ∙ eqb-true standing 1 t))
       decides arity ks h false t = sym (not-one-of arity ks (h .exprs) first (h .found) (λ z. eqb-false standing 1 t (sym (h .height) ∙ z)))
 

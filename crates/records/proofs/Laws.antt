@@ -14,8 +14,8 @@ use lib.Dec.{eqb, ltb}
 use lib.ListN.{length, getD, List·getD-eq-default}
 use Rattle.formats.specs.Numbers.{numberAt}
 use Rattle.formats.specs.Refusals.{nodeField}
-use Rattle.formats.specs.Results.{done, refusal, check, onValue}
-use Rattle.formats.specs.Records.{Kind, Parts, fields, recordBytes, recordAt, kinds, kindOf, nth, same, below, fieldsOf, nodeRecord, partsOf}
+use Rattle.formats.specs.Results.{done, refusal, valueIf, onValue}
+use Rattle.formats.specs.Records.{Kind, Parts, fields, recordBytes, recordAt, kinds, kindOf, nth, sameFields, functionBelow, fieldsOf, nodeRecord, partsOf}
 use Rattle.formats.specs.Records.{aNumber, aTree, asWhole, underNumber, underTrees, these, argumentsOf, Const, Var, Add, IfZero, Let, Leaf, Node, Case, Call}
 use Rattle.formats.specs.Inner.CodeColumn.{templateOf}
 use Rattle.formats.specs.Rows.{nodeAt}
@@ -57,8 +57,8 @@ sum-test :
     (x y a c b d i j u : ℕ)
     → (u ≡ 0 → (x ≡ y) × (a ≡ c) × (b ≡ d) × (i ≡ j))
     → (x ≡ y → a ≡ c → b ≡ d → i ≡ j → u ≡ 0)
-    → same (fields x a b i) (fields y c d j) ≡ eqb u 0
-unfolding same
+    → sameFields (fields x a b i) (fields y c d j) ≡ eqb u 0
+unfolding sameFields
 sum-test x y a c b d i j u all back = same-test _ _
     (λ h.
     let p = both-held (eqb x y) (eqb a c && (eqb b d && eqb i j)) h in
@@ -73,13 +73,13 @@ sum-test x y a c b d i j u all back = same-test _ _
 
 -- the three sums of unused fields: of a kind with no operand, with a tree's or a number's name, and
 -- with a number
-no-operand : (x a b i u : ℕ) → u ≡ a + b + i → same (fields x 0 0 0) (fields x a b i) ≡ eqb u 0
+no-operand : (x a b i u : ℕ) → u ≡ a + b + i → sameFields (fields x 0 0 0) (fields x a b i) ≡ eqb u 0
 no-operand x a b i u e = sum-test _ _ _ _ _ _ _ _ u (λ z. (refl, omega arith, omega arith, omega arith)) (λ p q s t. omega arith)
 
-named : (x a b i u : ℕ) → u ≡ 0 + b + i → same (fields x a 0 0) (fields x a b i) ≡ eqb u 0
+named : (x a b i u : ℕ) → u ≡ 0 + b + i → sameFields (fields x a 0 0) (fields x a b i) ≡ eqb u 0
 named x a b i u e = sum-test _ _ _ _ _ _ _ _ u (λ z. (refl, refl, omega arith, omega arith)) (λ p q s t. omega arith)
 
-numbered : (x a b i u : ℕ) → u ≡ a + b + 0 → same (fields x 0 0 i) (fields x a b i) ≡ eqb u 0
+numbered : (x a b i u : ℕ) → u ≡ a + b + 0 → sameFields (fields x 0 0 i) (fields x a b i) ≡ eqb u 0
 numbered x a b i u e = sum-test _ _ _ _ _ _ _ _ u (λ z. (refl, omega arith, omega arith, refl)) (λ p q s t. omega arith)
 
 -- The arms: for each kind number the kind with its operands, its parts, its template, and what is
@@ -99,12 +99,12 @@ pub data Arm (functions a b i u : ℕ) : ℕ → Kind → Parts → Template →
 -- template.
 record Says (functions a b i u x : ℕ) (k : Kind) (parts : Parts) (t : Template) : Type 0 where
   kind : (edition : ℕ) → kindOf edition (fields x a b i) ≡ some k
-  unused : (same (fieldsOf k) (fields x a b i) && below functions k) ≡ eqb u 0
+  unused : (sameFields (fieldsOf k) (fields x a b i) && functionBelow functions k) ≡ eqb u 0
   its-parts : parts ≡ partsOf k
   column : columnOf t ≡ templateOf k
 
 says : {functions a b i u x : ℕ} {k : Kind} {parts : Parts} {t : Template} → Arm functions a b i u x k parts t → Says functions a b i u x k parts t
-unfolding kindOf kinds nth fieldsOf below partsOf templateOf
+unfolding kindOf kinds nth fieldsOf functionBelow partsOf templateOf
 says (const-arm e) = record { kind = λ edition. refl; unused = and-true _ ∙ numbered _ _ _ _ _ e; its-parts = refl; column = refl }
 says (var-arm e) = record { kind = λ edition. refl; unused = and-true _ ∙ named _ _ _ _ _ e; its-parts = refl; column = refl }
 says (add-arm e) = record { kind = λ edition. refl; unused = and-true _ ∙ no-operand _ _ _ _ _ e; its-parts = refl; column = refl }
@@ -126,7 +126,7 @@ pub of-arm :
     → x ≡ n
     → t ≡ own
     → Arm functions a b i u n k parts own
-    → described r ≡ check (eqb u 0) nodeField position (record { kind = k; parts = parts; template = columnOf t })
+    → described r ≡ valueIf (eqb u 0) nodeField position (record { kind = k; parts = parts; template = columnOf t })
     → OfKind functions position x a b i r
 unfolding nodeRecord
 of-arm functions position x n a b i u k parts t own r number is arm reported =
@@ -134,15 +134,15 @@ of-arm functions position x n a b i u k parts t own r number is arm reported =
     record {
       is = λ edition.
           reported
-          ∙ ap₂ (λ p c. check (eqb u 0) nodeField position (record { kind = k; parts = p; template = c })) (s .its-parts) (ap columnOf is ∙ s .column)
+          ∙ ap₂ (λ p c. valueIf (eqb u 0) nodeField position (record { kind = k; parts = p; template = c })) (s .its-parts) (ap columnOf is ∙ s .column)
           ∙ checked (eqb u 0)
           ∙ ap (onValue shapeOf) (sym (ap (λ m. nodeRecord edition functions position (fields m a b i)) number ∙ reads s edition));
     }
   where
-    reads : Says functions a b i u n k parts own → (edition : ℕ) → nodeRecord edition functions position (fields n a b i) ≡ check (eqb u 0) nodeField position k
+    reads : Says functions a b i u n k parts own → (edition : ℕ) → nodeRecord edition functions position (fields n a b i) ≡ valueIf (eqb u 0) nodeField position k
     reads s edition = rw (nodeRecord, s .kind edition, s .unused)
 
-    checked : (t : Bool) → check t nodeField position (shapeOf k) ≡ onValue shapeOf (check t nodeField position k)
+    checked : (t : Bool) → valueIf t nodeField position (shapeOf k) ≡ onValue shapeOf (valueIf t nodeField position k)
     checked true = refl
     checked false = refl
 
@@ -169,10 +169,10 @@ pub ruleset arms =
 
 -- ---- the other functions
 
-pub row-zero : (sum position : ℕ) (x : Shape) → sum ≡ 0 → done x ≡ check (eqb sum 0) nodeField position x
+pub row-zero : (sum position : ℕ) (x : Shape) → sum ≡ 0 → done x ≡ valueIf (eqb sum 0) nodeField position x
 row-zero sum position x h = rw (eq-eqb _ _ h)
 
-pub row-other : (sum position : ℕ) (x : Shape) → sum ≢ 0 → refusal nodeField position ≡ check (eqb sum 0) nodeField position x
+pub row-other : (sum position : ℕ) (x : Shape) → sum ≢ 0 → refusal nodeField position ≡ valueIf (eqb sum 0) nodeField position x
 row-other sum position x h = rw (ne-eqb _ _ h)
 
 pub call-below : (b i functions : ℕ) → b < functions → eqb i 0 ≡ (ltb b functions && eqb i 0)

@@ -6,7 +6,7 @@ ghost use mathlib.Core.Path.{_≡_};
 ghost use mathlib.Core.Bool.{_&&_};
 ghost use lib.Dec.{eqb, ltb};
 ghost use Rattle.formats.specs.Refusals.{nodeField};
-ghost use Rattle.formats.specs.Results.{check, onValue};
+ghost use Rattle.formats.specs.Results.{valueIf, onValue};
 ghost use Rattle.formats.specs.Inner.Fields.{nodeIn};
 ghost use Rattle.records.specs.Inner.Read.{OfKind, StandsAt, described, shaped, shapeOf};
 ghost use Rattle.records.specs.declared.Items.the-variants.{None, One};
@@ -164,7 +164,7 @@ fn around(first: Item, last: Item) -> Template
 // The record with its parts and its template where the fields that it does not use sum to 0; else
 // refused with 6 at record `at`.
 fn row(node: Record, parts: Parts, template: Template, sum: u64, at: usize) -> RecordRead
-    ensures { λ r. ⌜ described r ≡ check (eqb sum 0) nodeField at (shaped node parts template) ⌝ }
+    ensures { λ r. ⌜ described r ≡ valueIf (eqb sum 0) nodeField at (shaped node parts template) ⌝ }
 {
     if sum == 0 {
         return RecordRead::Read(node, parts, template);
@@ -253,7 +253,7 @@ fn record_of(kind: u8, a: u8, b: u16, i: u32, functions: u8, at: usize) -> Recor
 }
 
 // The offset of record k, or the end where there is no such record.
-fn position_of(flat: &[u8], k: usize) -> usize
+fn offset_of(flat: &[u8], k: usize) -> usize
     ensures { λ r. ⌜ StandsAt (now (flat .entry)) k r ⌝ }
 {
     if flat.len() / RECORD_BYTES < k {
@@ -267,7 +267,7 @@ fn position_of(flat: &[u8], k: usize) -> usize
 pub fn record_at(flat: &[u8], k: usize) -> RecordRead
     ensures { λ r. ⌜ described r ≡ onValue shapeOf (nodeIn (now (flat .entry)) k) ⌝ }
 {
-    let p = position_of(flat, k);
+    let p = offset_of(flat, k);
     let kind = words::read8(flat, p);
     let a = words::read8(flat, p + 1);
     let b = words::read16(flat, p + 2);

@@ -8,12 +8,12 @@ use lib.Dec.{lit<, lit≤}
 use Rattle.formats.specs.Results.{Result, done, refusal}
 use Rattle.formats.specs.Records.{Kind, Var, Leaf, Node, Case, Part, aNumber, aTree, asWhole, underNumber, underTrees, nth, partsOf, nthPart}
 use Rattle.formats.specs.Programs.{Expr, const, var, add, ifZero, letIn, leafOf, nodeOf, caseOf, call, noArgs, arg, prefix, prefixes, size, numberValued, treeValued, Signature, signatureOf, Function, Program, signatures}
-use Rattle.formats.specs.Programs.{Lawful, arityOf, countArgs, mostParameters, total}
+use Rattle.formats.specs.Programs.{Lawful, arityOf, countArgs, mostParameters, sumOfCounts}
 use Rattle.formats.proofs.ProgramCases.{grow, grow-lawful}
-use Rattle.rules.specs.Types.{Int, Tree⁺, resultType, arrows, functionType, isInt, isTree, fits}
+use Rattle.rules.specs.Types.{Int, Tree⁺, resultType, arrows, functionType, isInt, isOutputTree, hasType}
 use Rattle.rules.specs.Typing.{TypesName, Types, to-tree}
 use Rattle.rules.specs.Scopes.{scope, startOf, inside, partScope, entry, entered, enteredArgs, enteredAll}
-use Rattle.rules.specs.PassOne.{named, typed, bareNumber, wordsTested, roomy, atEntry, passOver, passOne, wordsWithValue, wordsOf, wordsOfArgs}
+use Rattle.rules.specs.PassOne.{nameBound, typeFits, bareNumber, wordsTested, hasRoom, atEntry, passOver, passOne, wordsWithValue, wordsOf, wordsOfArgs}
 use Rattle.rules.specs.PassTwo.{takeHead, sameNames, equalBranches, walk, walkArgs, noneLeft, walkAll, passTwo, bothPasses}
 use Rattle.rules.specs.FirstFault.{FirstFault}
 use Rattle.rules.specs.OrderChecker.{Admitted, firstNode, Untyped}
@@ -143,7 +143,7 @@ pass-one =
 -- ---- the tables are right
 
 verdicts : map (λ row. bothPasses (programOf (row .functions))) (worked ++ (pass-two ++ pass-one)) ≡ map (λ row. row .verdict) (worked ++ (pass-two ++ pass-one))
-unfolding bothPasses passOne passOver atEntry roomy wordsTested bareNumber typed named enteredAll entered enteredArgs inside startOf passTwo walkAll noneLeft walk walkArgs equalBranches sameNames takeHead resultType isInt isTree fits size prefix prefixes nth signatureOf numbered treed taking programOf on with-one lets cases left-cases says worked pass-two pass-one
+unfolding bothPasses passOne passOver atEntry hasRoom wordsTested bareNumber typeFits nameBound enteredAll entered enteredArgs inside startOf passTwo walkAll noneLeft walk walkArgs equalBranches sameNames takeHead resultType isInt isOutputTree hasType size prefix prefixes nth signatureOf numbered treed taking programOf on with-one lets cases left-cases says worked pass-two pass-one
 verdicts = refl
 
 -- ---- what a part is decides what is said of it
@@ -159,7 +159,7 @@ pub by-part : (as-part Leaf (nthPart (partsOf Node) 0) ≡ done tt)
     × (map (as-part Leaf) (aNumber ∷ aTree ∷ asWhole ∷ underNumber ∷ underTrees ∷ []) ≡ refusal 8 3 ∷ done tt ∷ done tt ∷ done tt ∷ done tt ∷ [])
     × (map (as-part (Var 0)) (aNumber ∷ aTree ∷ asWhole ∷ underNumber ∷ underTrees ∷ []) ≡ refusal 9 3 ∷ refusal 9 3 ∷ refusal 9 3 ∷ refusal 8 3 ∷ refusal 9 3 ∷ [])
     × (map (as-part (Case 2)) (aNumber ∷ aTree ∷ asWhole ∷ underNumber ∷ underTrees ∷ []) ≡ refusal 9 3 ∷ refusal 9 3 ∷ refusal 9 3 ∷ refusal 9 3 ∷ done tt ∷ [])
-unfolding as-part atEntry roomy wordsTested typed named partScope nthPart partsOf nth isInt isTree
+unfolding as-part atEntry hasRoom wordsTested typeFits nameBound partScope nthPart partsOf nth isInt isOutputTree
 by-part = (refl, refl, refl, refl)
 
 -- ---- Figure 6 has neither of the two limits
@@ -190,7 +190,7 @@ lets-typed (suc k) g n a = Types.Let-01 {Δ₁ = []} Types.T-Int (lets-typed k (
 
 -- Grow is within the limits and passes: what is proved of such programs is not empty.
 pub grow-passes : bothPasses grow ≡ done tt
-unfolding bothPasses passOne passOver atEntry roomy wordsTested bareNumber typed named enteredAll entered enteredArgs inside startOf passTwo walkAll noneLeft walk walkArgs equalBranches sameNames takeHead resultType isInt isTree fits size prefix prefixes nth signatureOf grow
+unfolding bothPasses passOne passOver atEntry hasRoom wordsTested bareNumber typeFits nameBound enteredAll entered enteredArgs inside startOf passTwo walkAll noneLeft walk walkArgs equalBranches sameNames takeHead resultType isInt isOutputTree hasType size prefix prefixes nth signatureOf grow
 grow-passes = refl
 
 grow-admitted : Admitted grow
@@ -202,7 +202,7 @@ unfoldable pub swap : Program
 swap = programOf (treed (caseOf 0 (leafOf (var 0)) (nodeOf (on 0 2) (on 0 1))) ∷ [])
 
 pub swap-lawful : Lawful swap
-unfolding swap programOf treed on total signatureOf size prefix prefixes arityOf nth mostParameters countArgs
+unfolding swap programOf treed on sumOfCounts signatureOf size prefix prefixes arityOf nth mostParameters countArgs
 swap-lawful = record {
   edition = refl;
   some-function = lit≤ tt;
@@ -219,7 +219,7 @@ swap-lawful = record {
 }
 
 pub swap-verdicts : (passOne swap ≡ done tt) × (passTwo swap ≡ refusal 11 6)
-unfolding passOne passOver atEntry roomy wordsTested bareNumber typed named enteredAll entered enteredArgs inside startOf passTwo walkAll noneLeft walk walkArgs equalBranches sameNames takeHead resultType isInt isTree fits size prefix prefixes nth signatureOf swap programOf treed on
+unfolding passOne passOver atEntry hasRoom wordsTested bareNumber typeFits nameBound enteredAll entered enteredArgs inside startOf passTwo walkAll noneLeft walk walkArgs equalBranches sameNames takeHead resultType isInt isOutputTree hasType size prefix prefixes nth signatureOf swap programOf treed on
 swap-verdicts = (refl, refl)
 
 swap-fault : FirstFault (signatures swap) (firstNode swap) (swap .functions) 11 6
@@ -234,7 +234,7 @@ unfoldable pub mistyped : Program
 mistyped = programOf (treed (const 1) ∷ [])
 
 one-verdicts : (passOne unbound ≡ refusal 9 2) × (passOne mistyped ≡ refusal 8 2)
-unfolding passOne passOver atEntry typed named enteredAll entered startOf resultType isInt isTree signatureOf unbound mistyped programOf numbered treed
+unfolding passOne passOver atEntry typeFits nameBound enteredAll entered startOf resultType isInt isOutputTree signatureOf unbound mistyped programOf numbered treed
 one-verdicts = (refl, refl)
 
 unbound-untyped : Untyped (signatures unbound) 2 (firstNode unbound) (unbound .functions)

@@ -6,7 +6,7 @@ use mathlib.Core.List.{List, [], _∷_, cons≢nil}
 use mathlib.Core.Logic.{_↔_, _≢_}
 use mathlib.Core.Path.{_≡_, refl, ap, _∙_}
 use Rattle.formats.specs.Refusals.{outOfOrder}
-use Rattle.formats.specs.Results.{Result, done, refusal, check}
+use Rattle.formats.specs.Results.{Result, done, refusal, valueIf}
 use Rattle.formats.specs.Programs.{Args, size, Signature, Function, Program, signatures, LawfulFunctions, Lawful}
 use Rattle.formats.proofs.Results.{then-done, then-refused}
 use Rattle.rules.specs.Types.{resultType}
@@ -59,10 +59,10 @@ module _ {gs : List Signature} {number position : ℕ} where
   refused-from (further enters more) e = part-refused enters (refused-from more e)
 
 -- what fails is refused
-unequal-refused : (r : ℕ) (Δ₁ Δ₂ : List ℕ) → Δ₁ ≢ Δ₂ → check (sameNames Δ₁ Δ₂) outOfOrder r Δ₂ ≡ refusal outOfOrder r
+unequal-refused : (r : ℕ) (Δ₁ Δ₂ : List ℕ) → Δ₁ ≢ Δ₂ → valueIf (sameNames Δ₁ Δ₂) outOfOrder r Δ₂ ≡ refusal outOfOrder r
 unequal-refused r Δ₁ Δ₂ unequal =
     let h : sameNames Δ₁ Δ₂ ≡ false = not-eq-not .0 (λ same. unequal (same-names Δ₁ Δ₂ same)) in
-    ap (λ t. check t outOfOrder r Δ₂) h
+    ap (λ t. valueIf t outOfOrder r Δ₂) h
 
 fault-refused : {gs : List Signature} {s : Spot} {number position : ℕ} → Faults gs s number position → walkFrom s ≡ refusal number position
 unfolding walk equalBranches

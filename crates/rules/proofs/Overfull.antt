@@ -18,7 +18,7 @@ use Rattle.formats.specs.Records.{Kind, Call, nth}
 use Rattle.formats.specs.Programs.{Expr, const, var, add, ifZero, letIn, leafOf, nodeOf, caseOf, call, Args, noArgs, arg, prefix, size, Sort, numberValued, treeValued, Signature, signatureOf, Program, signatures}
 use Rattle.rules.specs.Types.{Ty, Int, Tree⁺, resultType, isInt}
 use Rattle.rules.specs.Scopes.{Scope, scope, startOf, inside, Entry, entry, entered, enteredArgs, enteredAll}
-use Rattle.rules.specs.PassOne.{named, typed, bareNumber, wordsTested, roomy, atEntry, passOver, passOne, wordsWithValue, wordsOf, wordsOfArgs}
+use Rattle.rules.specs.PassOne.{nameBound, typeFits, bareNumber, wordsTested, hasRoom, atEntry, passOver, passOne, wordsWithValue, wordsOf, wordsOfArgs}
 use Rattle.rules.specs.Limits.{mostFrameWords}
 use Rattle.rules.specs.PassOne.{Fails, too-many-words, all-three, FirstFails, here, later}
 use Rattle.rules.specs.OrderChecker.{firstNode, Overfull}
@@ -35,7 +35,7 @@ record Full (gs : List Signature) (w : ℕ) (kind : Kind) : Type 0 where
 
 module _ (gs : List Signature) where
   full-there : {g n w q r : ℕ} {τ : Ty} {kind : Kind} → Fails gs (entry (scope g n w τ) q kind) tooManyWords r → Full gs w kind
-  unfolding roomy
+  unfolding hasRoom
   full-there {w = w} {kind = kind} (too-many-words e f h) = by (wordsTested gs kind) refl h
     where
       by : (b : Bool) → wordsTested gs kind ≡ b → elim b [ true ↦ ltb w mostFrameWords | false ↦ true ] ≡ false → Full gs w kind
@@ -45,7 +45,7 @@ module _ (gs : List Signature) where
   -- at the first of these records, or at one after it, where the type of the first is right
   data Where (sc : Scope) (q : ℕ) (kind : Kind) (xs : List Entry) (r : ℕ) : Type 0 where
     at-first : Fails gs (entry sc q kind) tooManyWords r → Where sc q kind xs r
-    after-it : typed gs sc kind ≡ true → FirstFails gs xs tooManyWords r → Where sc q kind xs r
+    after-it : typeFits gs sc kind ≡ true → FirstFails gs xs tooManyWords r → Where sc q kind xs r
 
   which : {sc : Scope} {q : ℕ} {kind : Kind} {xs : List Entry} {r : ℕ} → FirstFails gs (entry sc q kind ∷ xs) tooManyWords r → Where sc q kind xs r
   which (here f) = at-first f
@@ -80,12 +80,12 @@ module _ (gs : List Signature) where
       → (FirstFails gs ys tooManyWords r → mostFrameWords < wordsOfArgs gs w xs)
       → Where (scope g n w τ) q (Call a b) ys r
       → mostFrameWords < wordsOf gs w (call a b xs)
-  unfolding typed wordsTested
+  unfolding typeFits wordsTested
   call-overfull {g} {n} {w} {q} {r} {τ} a b xs {ys} arguments there = by (nth gs b) refl there
     where
       by : (o : Option Signature) → nth gs b ≡ o → Where (scope g n w τ) q (Call a b) ys r → mostFrameWords < wordsOf gs w (call a b xs)
       by none e (at-first f) = absurd (false≢true (rw (e, wordsTested) at (full-there f .tested)))
-      by none e (after-it t f) = absurd (false≢true (rw (e, typed) at t))
+      by none e (after-it t f) = absurd (false≢true (rw (e, typeFits) at t))
       by (some s) e (at-first f) =
           let value = bare-value s w (rw (e, wordsTested) at (full-there f .tested)) in
           let full = full-there f .full in
@@ -176,7 +176,7 @@ alone body = record { edition = 1; functions = record { sort = numberValued; par
 -- 15 sums pass, with 16 words; of 16 the last number is refused, at record 34, and that function
 -- needs 17 words.
 sums-verdicts : (passOne (alone (sums 15)) ≡ done tt) × (passOne (alone (sums 16)) ≡ refusal 10 34)
-unfolding passOne passOver atEntry roomy wordsTested typed named enteredAll entered inside startOf resultType isInt size prefix signatureOf alone sums
+unfolding passOne passOver atEntry hasRoom wordsTested typeFits nameBound enteredAll entered inside startOf resultType isInt size prefix signatureOf alone sums
 sums-verdicts = (refl, refl)
 
 sums-overfull : Overfull (signatures (alone (sums 16))) 34 (firstNode (alone (sums 16))) (alone (sums 16) .functions)

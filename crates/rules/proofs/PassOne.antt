@@ -13,9 +13,9 @@ use Rattle.formats.specs.Records.{Kind, Const, Var, Add, IfZero, Let, Leaf, Nod
 use Rattle.formats.specs.Programs.{Expr, const, var, add, ifZero, letIn, leafOf, nodeOf, caseOf, call, Args, arg, size}
 use Rattle.formats.specs.Programs.{Sort, numberValued, treeValued, Signature, Program, signatures}
 use Rattle.formats.proofs.Results.{done-not, then-done, then-refused, then-inv, check-inv}
-use Rattle.rules.specs.Types.{Ty, Int, Tree⁻, Tree⁺, arrow, resultType, isInt, isTree, fits}
+use Rattle.rules.specs.Types.{Ty, Int, Tree⁻, Tree⁺, arrow, resultType, isInt, isOutputTree, hasType}
 use Rattle.rules.specs.Scopes.{Scope, scope, inside, Entry, entry, entered, enteredArgs, enteredAll}
-use Rattle.rules.specs.PassOne.{named, typed, roomy, atEntry, passOver, passOne}
+use Rattle.rules.specs.PassOne.{nameBound, typeFits, hasRoom, atEntry, passOver, passOne}
 use Rattle.rules.specs.PassOne.{Fails, name-not-bound, wrong-type, too-many-words, AllHold, all-three, FirstFails, here, later}
 use Rattle.rules.specs.OrderChecker.{firstNode}
 
@@ -39,9 +39,9 @@ module _ (gs : List Signature) where
     fault : {number r : ℕ} → Fails gs x number r → Reported x
 
   reported : (x : Entry) → Reported x
-  reported (entry sc r kind) = at-tests (named sc kind) refl (typed gs sc kind) refl (roomy gs sc kind) refl
+  reported (entry sc r kind) = at-tests (nameBound sc kind) refl (typeFits gs sc kind) refl (hasRoom gs sc kind) refl
     where
-      at-tests : (a : Bool) → named sc kind ≡ a → (b : Bool) → typed gs sc kind ≡ b → (c : Bool) → roomy gs sc kind ≡ c → Reported (entry sc r kind)
+      at-tests : (a : Bool) → nameBound sc kind ≡ a → (b : Bool) → typeFits gs sc kind ≡ b → (c : Bool) → hasRoom gs sc kind ≡ c → Reported (entry sc r kind)
       at-tests false e b f c h = fault (name-not-bound e)
       at-tests true e false f c h = fault (wrong-type e f)
       at-tests true e true f false h = fault (too-many-words e f h)
@@ -75,9 +75,9 @@ pass-one program number r = (first-fails (signatures program) _ number r, fails-
 
 -- a record that passes, with what follows it
 pub record Passed (gs : List Signature) (sc : Scope) (kind : Kind) (xs : List Entry) : Type 0 where
-  pub bound : named sc kind ≡ true
-  pub right : typed gs sc kind ≡ true
-  pub room : roomy gs sc kind ≡ true
+  pub bound : nameBound sc kind ≡ true
+  pub right : typeFits gs sc kind ≡ true
+  pub room : hasRoom gs sc kind ≡ true
   pub rest : passOver gs xs ≡ done tt
 
 pub pass-inv : (gs : List Signature) (sc : Scope) (r : ℕ) (kind : Kind) (xs : List Entry) → passOver gs (entry sc r kind ∷ xs) ≡ done tt
@@ -88,17 +88,17 @@ pass-inv gs sc r kind xs e =
     let first = then-inv _ _ tt (here .first) in
     let second = then-inv _ _ tt (first .second) in
     record {
-      bound = check-inv (named sc kind) notBound r tt tt (first .first) .held;
-      right = check-inv (typed gs sc kind) wrongType r tt tt (second .first) .held;
-      room = check-inv (roomy gs sc kind) tooManyWords r tt tt (second .second) .held;
+      bound = check-inv (nameBound sc kind) notBound r tt tt (first .first) .held;
+      right = check-inv (typeFits gs sc kind) wrongType r tt tt (second .first) .held;
+      room = check-inv (hasRoom gs sc kind) tooManyWords r tt tt (second .second) .held;
       rest = here .second;
     }
 
 -- a record whose tests hold passes with what follows it
 pub pass-more : (gs : List Signature) (sc : Scope) (r : ℕ) (kind : Kind) (xs : List Entry)
-    → named sc kind ≡ true
-    → typed gs sc kind ≡ true
-    → roomy gs sc kind ≡ true
+    → nameBound sc kind ≡ true
+    → typeFits gs sc kind ≡ true
+    → hasRoom gs sc kind ≡ true
     → passOver gs xs ≡ done tt
     → passOver gs (entry sc r kind ∷ xs) ≡ done tt
 unfolding passOver
@@ -139,15 +139,15 @@ int-is Tree⁻ e = absurd (false≢true e)
 int-is Tree⁺ e = absurd (false≢true e)
 int-is (arrow σ τ) e = absurd (false≢true e)
 
-pub tree-is : (τ : Ty) → isTree τ ≡ true → τ ≡ Tree⁺
-unfolding isTree
+pub tree-is : (τ : Ty) → isOutputTree τ ≡ true → τ ≡ Tree⁺
+unfolding isOutputTree
 tree-is Int e = absurd (false≢true e)
 tree-is Tree⁻ e = absurd (false≢true e)
 tree-is Tree⁺ e = refl
 tree-is (arrow σ τ) e = absurd (false≢true e)
 
-pub fits-is : (sort : Sort) (τ : Ty) → fits sort τ ≡ true → τ ≡ resultType sort
-unfolding fits resultType
+pub fits-is : (sort : Sort) (τ : Ty) → hasType sort τ ≡ true → τ ≡ resultType sort
+unfolding hasType resultType
 fits-is numberValued τ e = int-is τ e
 fits-is treeValued τ e = tree-is τ e
 
@@ -171,18 +171,18 @@ pub record Called (gs : List Signature) (g n w r : ℕ) (τ : Ty) (a b : ℕ) (x
 
 module _ (gs : List Signature) (g n w r : ℕ) (τ : Ty) where
   pub pass-const : (i : ℕ) → Passes gs (scope g n w τ) r (const i) → τ ≡ Int
-  unfolding entered typed
+  unfolding entered typeFits
   pass-const i e = int-is τ (pass-inv gs (scope g n w τ) r (Const i) [] e .right)
 
   pub pass-var : (a : ℕ) → Passes gs (scope g n w τ) r (var a) → (a < g) × (τ ≡ Int)
-  unfolding entered named typed
+  unfolding entered nameBound typeFits
   pass-var a e =
       let h = pass-inv gs (scope g n w τ) r (Var a) [] e in
       (ltb-true a g (h .bound), int-is τ (h .right))
 
   pub pass-add : (p q : Expr) → Passes gs (scope g n w τ) r (add p q)
       → (τ ≡ Int) × Passes gs (scope g n w Int) (suc r) p × Passes gs (scope g n (suc w) Int) (suc r + size p) q
-  unfolding entered inside typed
+  unfolding entered inside typeFits
   pass-add p q e =
       let h = pass-inv gs (scope g n w τ) r Add _ e in
       let first = entered (scope g n w Int) (suc r) p in
@@ -209,14 +209,14 @@ module _ (gs : List Signature) (g n w r : ℕ) (τ : Ty) where
       (pass-left gs first _ (h .rest), pass-right gs first _ (h .rest))
 
   pub pass-leaf : (p : Expr) → Passes gs (scope g n w τ) r (leafOf p) → (τ ≡ Tree⁺) × Passes gs (scope g n w Int) (suc r) p
-  unfolding entered inside typed
+  unfolding entered inside typeFits
   pass-leaf p e =
       let h = pass-inv gs (scope g n w τ) r Leaf _ e in
       (tree-is τ (h .right), h .rest)
 
   pub pass-node : (p q : Expr) → Passes gs (scope g n w τ) r (nodeOf p q)
       → (τ ≡ Tree⁺) × Passes gs (scope g n w Tree⁺) (suc r) p × Passes gs (scope g n w Tree⁺) (suc r + size p) q
-  unfolding entered inside typed
+  unfolding entered inside typeFits
   pass-node p q e =
       let h = pass-inv gs (scope g n w τ) r Node _ e in
       let first = entered (scope g n w Tree⁺) (suc r) p in
@@ -226,24 +226,24 @@ module _ (gs : List Signature) (g n w r : ℕ) (τ : Ty) where
       → (a < n)
       × Passes gs (scope (suc g) n (suc w) τ) (suc r) p
       × Passes gs (scope g (suc (suc n)) w τ) (suc r + size p) q
-  unfolding entered inside named
+  unfolding entered inside nameBound
   pass-case a p q e =
       let h = pass-inv gs (scope g n w τ) r (Case a) _ e in
       let first = entered (scope (suc g) n (suc w) τ) (suc r) p in
       (ltb-true a n (h .bound), pass-left gs first _ (h .rest), pass-right gs first _ (h .rest))
 
   pub pass-call : (a b : ℕ) (xs : Args) → Passes gs (scope g n w τ) r (call a b xs) → Called gs g n w r τ a b xs
-  unfolding entered named typed
+  unfolding entered nameBound typeFits
   pass-call a b xs e = known (nth gs b) refl (pass-inv gs (scope g n w τ) r (Call a b) _ e)
     where
       known : (o : Option Signature) → nth gs b ≡ o → Passed gs (scope g n w τ) (Call a b) (enteredArgs (Call a b) 0 (scope g n w τ) (suc r) xs)
           → Called gs g n w r τ a b xs
-      known none f h = absurd (false≢true (rw (f, typed) at (h .right)))
+      known none f h = absurd (false≢true (rw (f, typeFits) at (h .right)))
       known (some s) f h = record {
         bound = ltb-true a n (h .bound);
         signature = s;
         known = f;
-        same = fits-is (s .sort) τ (rw (f, typed) at (h .right));
+        same = fits-is (s .sort) τ (rw (f, typeFits) at (h .right));
         arguments = h .rest;
       }
 

@@ -12,9 +12,9 @@ use borrow.Author.Tests.{eqb-true, eq-eqb, ne-eqb, lt-ltb, le-ltb}
 use lib.Dec.{eqb}
 use lib.ListN.{length}
 use Rattle.formats.specs.Refusals.{outOfOrder, tooManyPending}
-use Rattle.formats.specs.Results.{Result, done, refusal, andThen, check}
+use Rattle.formats.specs.Results.{Result, done, refusal, andThen, valueIf}
 use Rattle.formats.specs.Records.{Call}
-use Rattle.formats.specs.Programs.{Expr, const, var, add, ifZero, letIn, leafOf, nodeOf, caseOf, call, Args, noArgs, arg, size, countArgs, Applied, AppliedArgs, Every}
+use Rattle.formats.specs.Programs.{Expr, const, var, add, ifZero, letIn, leafOf, nodeOf, caseOf, call, Args, noArgs, arg, size, countArgs, CallsComplete, ArgsComplete, Every}
 use Rattle.formats.specs.Programs.{Signature, arityOf, Function, Program, signatures}
 use Rattle.formats.proofs.Results.{done-injective, done-not, then-done, then-refused, both-held}
 use Rattle.formats.proofs.Programs.{every-append, every-left, every-right}
@@ -85,7 +85,7 @@ pub said-check :
     {A : Type 0} {G : A → Type 0} {Bad : ℕ → ℕ → Type 0} (test : Bool) (number position : ℕ) (x : A)
     → (test ≡ true → G x)
     → (test ≡ false → Bad number position)
-    → ValueOrRefusal G Bad (check test number position x)
+    → ValueOrRefusal G Bad (valueIf test number position x)
 said-check true number position x held failed = good (held refl)
 said-check false number position x held failed = bad (failed refl)
 
@@ -376,7 +376,7 @@ module _ (gs : List Signature) where
   mutual
     unfolding walk lines
 
-    pub reported : (g n w r : ℕ) (Δ : List ℕ) (τ : Ty) (e : Expr) → Applied (arityOf gs) e → Passes gs (scope g n w τ) r e → Reported gs (spot g n r Δ e τ)
+    pub reported : (g n w r : ℕ) (Δ : List ℕ) (τ : Ty) (e : Expr) → CallsComplete (arityOf gs) e → Passes gs (scope g n w τ) r e → Reported gs (spot g n r Δ e τ)
     reported g n w r Δ τ (const i) a p = rw (pass-const gs g n w r τ i p) (good (record { derivation = T-Int; few = (tt, tt) }))
     reported g n w r Δ τ (var x) a p =
         let h = pass-var gs g n w r τ x p in
@@ -439,7 +439,7 @@ module _ (gs : List Signature) where
     -- a Call's arguments from part i on, entered from spot s
     reported-args :
         (g n w r i a b : ℕ) (τ : Ty) (Δ : List ℕ) (s : Spot) (xs : Args)
-        → AppliedArgs (arityOf gs) xs
+        → ArgsComplete (arityOf gs) xs
         → PassesArgs gs (Call a b) i (scope g n w τ) r xs
         → ((s′ : Spot) → EntersArg gs g n r Δ xs s′ → Enters gs s s′)
         → ValueOrRefusal (ArgsInOrder gs g n r Δ xs) (Met gs s) (walkArgs n r Δ xs)
@@ -457,7 +457,7 @@ module _ (gs : List Signature) where
 -- what passes the walk is in order
 pub second :
     (gs : List Signature) (g n w r : ℕ) (Δ : List ℕ) (τ : Ty) (e : Expr) (Δ′ : List ℕ)
-    → Applied (arityOf gs) e
+    → CallsComplete (arityOf gs) e
     → Passes gs (scope g n w τ) r e
     → walk n r Δ e ≡ done Δ′
     → InOrder gs g n r Δ e τ Δ′

@@ -12,10 +12,10 @@ use Rattle.formats.specs.Results.{done}
 use Rattle.formats.specs.Records.{Const, Var, Add, IfZero, Let, Leaf, Node, Case, Call, nth}
 use Rattle.formats.specs.Programs.{Expr, const, var, add, ifZero, letIn, leafOf, nodeOf, caseOf, call, Args, Every, Sort, numberValued, treeValued, Signature}
 use Rattle.formats.proofs.Programs.{every-left, every-right}
-use Rattle.rules.specs.Types.{Ty, Int, Tree⁺, resultType, arrows, functionType, isInt, isTree, fits}
+use Rattle.rules.specs.Types.{Ty, Int, Tree⁺, resultType, arrows, functionType, isInt, isOutputTree, hasType}
 use Rattle.rules.specs.Typing.{TypesName, T-Var1, Types, T-Var2, T-Int, T-App, T-Plus, T-Leaf, T-Node, T-Case, Let-01, IfZero-01, Applies, to-number, to-tree}
 use Rattle.rules.specs.Scopes.{scope, inside, entered}
-use Rattle.rules.specs.PassOne.{named, typed, bareNumber, wordsTested, roomy, passOver, wordsWithValue, wordsOf, wordsOfArgs}
+use Rattle.rules.specs.PassOne.{nameBound, typeFits, bareNumber, wordsTested, hasRoom, passOver, wordsWithValue, wordsOf, wordsOfArgs}
 use Rattle.rules.specs.Limits.{mostFrameWords}
 use Rattle.rules.proofs.Words.{words-call}
 use Rattle.rules.proofs.PassOne.{Passes, PassesArgs, pass-nothing, pass-more, pass-both}
@@ -73,8 +73,8 @@ bare-value s e = of-sort (s .sort) refl
     of-sort treeValued f = absurd (false≢true (rw (f, bareNumber) at e))
 
 -- a function's value has its type
-pub value-fits : (sort : Sort) → fits sort (resultType sort) ≡ true
-unfolding fits resultType isInt isTree
+pub value-fits : (sort : Sort) → hasType sort (resultType sort) ≡ true
+unfolding hasType resultType isInt isOutputTree
 value-fits numberValued = refl
 value-fits treeValued = refl
 
@@ -85,12 +85,12 @@ call-passes : (gs : List Signature) (g n w r a b : ℕ) (xs : Args) (s : Signatu
     → wordsWithValue (s .sort) w ≤ mostFrameWords
     → PassesArgs gs (Call a b) 0 (scope g n w (resultType (s .sort))) (suc r) xs
     → Passes gs (scope g n w (resultType (s .sort))) r (call a b xs)
-unfolding entered named typed wordsTested roomy wordsWithValue
+unfolding entered nameBound typeFits wordsTested hasRoom wordsWithValue
 call-passes gs g n w r a b xs s known bound few args =
     pass-more gs (scope g n w (resultType (s .sort))) r (Call a b) _
     (lt-ltb a n bound)
-    (rw (known, typed) (value-fits (s .sort)))
-    (rw (known, wordsTested, roomy) (room (bareNumber s) refl))
+    (rw (known, typeFits) (value-fits (s .sort)))
+    (rw (known, wordsTested, hasRoom) (room (bareNumber s) refl))
     args
   where
     room : (t : Bool) → bareNumber s ≡ t → elim t [ true ↦ ltb w mostFrameWords | false ↦ true ] ≡ true
@@ -107,7 +107,7 @@ module _ (gs : List Signature) where
       (b i w r : ℕ) (τ : Ty) → Bound n Δ → wordsOfArgs gs (w + i) xs ≤ mostFrameWords → (a < n) × PassesArgs gs (Call a b) i (scope g n w τ) r xs
 
   fine : {g n : ℕ} {Δ : List ℕ} {e : Expr} {τ : Ty} → Types gs g n Δ e τ → Fine g n Δ e τ
-  unfolding entered inside named typed wordsTested roomy wordsOf isInt isTree functionType
+  unfolding entered inside nameBound typeFits wordsTested hasRoom wordsOf isInt isOutputTree functionType
   fine t = elim t as (λ g n Δ e τ t. Fine g n Δ e τ) (λ g n Δ σ xs a τ t. FineArgs g n Δ xs a) [
     | T-Var2 {g = g} {n = n} {x = x} x<g ↦ λ w r below few.
         pass-more gs (scope g n w Int) r (Var x) [] (lt-ltb x g x<g) refl (lt-ltb w mostFrameWords few) (pass-nothing gs)

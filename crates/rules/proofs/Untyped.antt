@@ -16,10 +16,10 @@ use Rattle.formats.specs.Results.{refusal}
 use Rattle.formats.specs.Records.{Kind, Call, nth}
 use Rattle.formats.specs.Programs.{Expr, Args, size, Every, Signature, Function, Program, signatures}
 use Rattle.formats.proofs.Programs.{every-append, every-left, every-right}
-use Rattle.rules.specs.Types.{Ty, resultType, functionType, isInt, isTree}
+use Rattle.rules.specs.Types.{Ty, resultType, functionType, isInt, isOutputTree}
 use Rattle.rules.specs.Typing.{Types, T-Var2, T-Int, T-App, T-Plus, T-Leaf, T-Node, T-Case, Let-01, IfZero-01, to-number, to-tree, TypedFunction}
 use Rattle.rules.specs.Scopes.{Scope, scope, startOf, inside, Entry, entry, entered, enteredArgs, enteredAll}
-use Rattle.rules.specs.PassOne.{named, typed, passOne, name-not-bound, wrong-type, too-many-words, FirstFails, here, later}
+use Rattle.rules.specs.PassOne.{nameBound, typeFits, passOne, name-not-bound, wrong-type, too-many-words, FirstFails, here, later}
 use Rattle.rules.specs.OrderChecker.{firstNode, Numbered, kindIn, InFunction, this-one, after-it, Untyped}
 use Rattle.rules.proofs.Entries.{kinds-entered, numbered}
 use Rattle.rules.proofs.PassOne.{pass-one}
@@ -30,16 +30,16 @@ use Rattle.rules.proofs.Positions.{Among, widen, own}
 
 -- at a record the name is bound and the type is the one expected
 abbrev BoundTyped : List Signature → Entry → Type 0
-BoundTyped gs (entry sc r kind) = (named sc kind ≡ true) × (typed gs sc kind ≡ true)
+BoundTyped gs (entry sc r kind) = (nameBound sc kind ≡ true) × (typeFits gs sc kind ≡ true)
 
 -- so it is at each of these records
 record AllFine (gs : List Signature) (xs : List Entry) : Type 0 where
   each : Every (BoundTyped gs) xs
 
 -- the type of a Call of a known function, where its value's is expected
-call-typed : (gs : List Signature) (g n w a b : ℕ) (s : Signature) → nth gs b ≡ some s → typed gs (scope g n w (resultType (s .sort))) (Call a b) ≡ true
-unfolding typed
-call-typed gs g n w a b s known = rw (known, typed) (value-fits (s .sort))
+call-typed : (gs : List Signature) (g n w a b : ℕ) (s : Signature) → nth gs b ≡ some s → typeFits gs (scope g n w (resultType (s .sort))) (Call a b) ≡ true
+unfolding typeFits
+call-typed gs g n w a b s known = rw (known, typeFits) (value-fits (s .sort))
 
 module _ (gs : List Signature) where
   -- what is to be shown of a derivation
@@ -51,7 +51,7 @@ module _ (gs : List Signature) where
       (b i w r : ℕ) (τ : Ty) → Bound n Δ → (a < n) × AllFine gs (enteredArgs (Call a b) i (scope g n w τ) r xs)
 
   -- a record before others, and two parts, one after the other
-  one-more : (sc : Scope) (r : ℕ) (kind : Kind) (xs : List Entry) → named sc kind ≡ true → typed gs sc kind ≡ true → AllFine gs xs
+  one-more : (sc : Scope) (r : ℕ) (kind : Kind) (xs : List Entry) → nameBound sc kind ≡ true → typeFits gs sc kind ≡ true → AllFine gs xs
       → AllFine gs (entry sc r kind ∷ xs)
   one-more sc r kind xs bound right rest = record { each = ((bound, right), rest .each) }
 
@@ -62,7 +62,7 @@ module _ (gs : List Signature) where
   none-more = record { each = tt }
 
   fine : {g n : ℕ} {Δ : List ℕ} {e : Expr} {τ : Ty} → Types gs g n Δ e τ → Fine g n Δ e τ
-  unfolding entered inside named typed isInt isTree functionType
+  unfolding entered inside nameBound typeFits isInt isOutputTree functionType
   fine t = elim t as (λ g n Δ e τ t. Fine g n Δ e τ) (λ g n Δ σ xs a τ t. FineArgs g n Δ xs a) [
     | T-Var2 {g = g} {x = x} x<g ↦ λ w r below. one-more _ r _ [] (lt-ltb x g x<g) refl none-more
     | T-Int ↦ λ w r below. one-more _ r _ [] refl refl none-more
@@ -147,9 +147,9 @@ module _ (gs : List Signature) where
   -- where every function is typed
   all-typed : {number r : ℕ} (k : ℕ) (fs : List Function) → Every (TypedFunction gs) fs → FirstFails gs (enteredAll k fs) number r → number ≡ tooManyWords
   unfolding enteredAll
-  all-typed k (f ∷ fs) typed fails = elim (fails-split (entered (startOf f) k (f .body)) _ fails) [
-    | inl first ↦ fails-words _ (fine-function f k (typed .0) .each) first
-    | inr after ↦ all-typed (k + size (f .body)) fs (typed .1) after
+  all-typed k (f ∷ fs) typeFits fails = elim (fails-split (entered (startOf f) k (f .body)) _ fails) [
+    | inl first ↦ fails-words _ (fine-function f k (typeFits .0) .each) first
+    | inr after ↦ all-typed (k + size (f .body)) fs (typeFits .1) after
   ]
 
 -- ---- programs
@@ -164,7 +164,7 @@ pub only-words :
     → Every (TypedFunction (signatures program)) (program .functions)
     → passOne program ≡ refusal number r
     → number ≡ tooManyWords
-only-words program number r typed e = all-typed (signatures program) _ (program .functions) typed (pass-one program number r .0 e)
+only-words program number r typeFits e = all-typed (signatures program) _ (program .functions) typeFits (pass-one program number r .0 e)
 
 pub pass-one-no-typing :
     (program : Program) (number r : ℕ)
@@ -172,7 +172,7 @@ pub pass-one-no-typing :
     → (number ≡ notBound) ⊎ (number ≡ wrongType)
     → Every (TypedFunction (signatures program)) (program .functions)
     → ⊥
-pass-one-no-typing program number r e which typed = other-number which (only-words program number r typed e)
+pass-one-no-typing program number r e which typeFits = other-number which (only-words program number r typeFits e)
 
 pub pass-one-untyped-there :
     (program : Program) (number r : ℕ)

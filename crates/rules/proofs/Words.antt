@@ -10,10 +10,10 @@ use borrow.Author.Tests.{ltb-true}
 use Rattle.formats.specs.Results.{done}
 use Rattle.formats.specs.Records.{Kind, Const, Var, Case, Call, nth}
 use Rattle.formats.specs.Programs.{Expr, const, var, add, ifZero, letIn, leafOf, nodeOf, caseOf, call, Args, noArgs, arg, size, countArgs}
-use Rattle.formats.specs.Programs.{Applied, AppliedArgs, Sort, numberValued, treeValued, Signature, arityOf, Function, mostParameters, LawfulFunction}
+use Rattle.formats.specs.Programs.{CallsComplete, ArgsComplete, Sort, numberValued, treeValued, Signature, arityOf, Function, mostParameters, LawfulFunction}
 use Rattle.rules.specs.Types.{Ty, Int, Tree⁺, resultType, isInt}
 use Rattle.rules.specs.Scopes.{scope, Entry, entry, entered}
-use Rattle.rules.specs.PassOne.{bareNumber, wordsTested, roomy, passOver, wordsWithValue, wordsOf, wordsOfArgs}
+use Rattle.rules.specs.PassOne.{bareNumber, wordsTested, hasRoom, passOver, wordsWithValue, wordsOf, wordsOfArgs}
 use Rattle.rules.specs.Limits.{mostFrameWords}
 use Rattle.rules.proofs.PassOne.{Passes, PassesArgs, pass-inv, pass-add, pass-ifZero, pass-let, pass-leaf, pass-node, pass-case, pass-call, pass-arg}
 
@@ -23,8 +23,8 @@ use Rattle.rules.proofs.PassOne.{Passes, PassesArgs, pass-inv, pass-add
 pub tested : (gs : List Signature) (g n w r : ℕ) (τ : Ty) (kind : Kind) (xs : List Entry) → wordsTested gs kind ≡ true
     → passOver gs (entry (scope g n w τ) r kind ∷ xs) ≡ done tt
     → w < mostFrameWords
-unfolding roomy
-tested gs g n w r τ kind xs t e = ltb-true w mostFrameWords (rw (t, roomy) at (pass-inv gs (scope g n w τ) r kind xs e .room))
+unfolding hasRoom
+tested gs g n w r τ kind xs t e = ltb-true w mostFrameWords (rw (t, hasRoom) at (pass-inv gs (scope g n w τ) r kind xs e .room))
 
 -- a function's parameters are few words
 pub few-parameters : (gs : List Signature) (j : ℕ) (f : Function) → LawfulFunction gs j f → f .parameters ≤ mostFrameWords
@@ -50,7 +50,7 @@ no-number e = absurd (false≢true (ap isInt (sym e)))
 mutual
   unfolding entered wordsTested countArgs arityOf
 
-  pub room : (gs : List Signature) (g n w r : ℕ) (e : Expr) → Applied (arityOf gs) e → Passes gs (scope g n w Int) r e → w < mostFrameWords
+  pub room : (gs : List Signature) (g n w r : ℕ) (e : Expr) → CallsComplete (arityOf gs) e → Passes gs (scope g n w Int) r e → w < mostFrameWords
   room gs g n w r (const i) a e = tested gs g n w r Int (Const i) _ refl e
   room gs g n w r (var v) a e = tested gs g n w r Int (Var v) _ refl e
   room gs g n w r (add p q) a e = room gs g n w _ p (a .0) (pass-add gs g n w r Int p q e .1)
@@ -66,7 +66,7 @@ mutual
       (λ alone. tested gs g n w r Int (Call v b) _ (rw (c .known, wordsTested) (bare (c .signature) (c .same) (sym arity ∙ alone))) e)
       (c .arguments)
 
-  room-args : (gs : List Signature) (g n w r : ℕ) (τ : Ty) (a b : ℕ) (xs : Args) → AppliedArgs (arityOf gs) xs → (countArgs xs ≡ 0 → w < mostFrameWords)
+  room-args : (gs : List Signature) (g n w r : ℕ) (τ : Ty) (a b : ℕ) (xs : Args) → ArgsComplete (arityOf gs) xs → (countArgs xs ≡ 0 → w < mostFrameWords)
       → PassesArgs gs (Call a b) 0 (scope g n w τ) r xs
       → w < mostFrameWords
   room-args gs g n w r τ a b noArgs h alone e = alone refl
@@ -109,7 +109,7 @@ mutual
 mutual
   unfolding entered wordsTested wordsOf wordsWithValue resultType
 
-  pub few-words : (gs : List Signature) (g n w r : ℕ) (τ : Ty) (e : Expr) → Applied (arityOf gs) e → w ≤ mostFrameWords → Passes gs (scope g n w τ) r e
+  pub few-words : (gs : List Signature) (g n w r : ℕ) (τ : Ty) (e : Expr) → CallsComplete (arityOf gs) e → w ≤ mostFrameWords → Passes gs (scope g n w τ) r e
       → wordsOf gs w e ≤ mostFrameWords
   few-words gs g n w r τ (const i) a h e = tested gs g n w r τ (Const i) _ refl e
   few-words gs g n w r τ (var v) a h e = tested gs g n w r τ (Var v) _ refl e
@@ -140,7 +140,7 @@ mutual
       value numberValued t = room gs g n w r (call v b xs) a (rw t at e)
       value treeValued t = h
 
-  few-args : (gs : List Signature) (g n w r : ℕ) (τ : Ty) (a b i : ℕ) (xs : Args) → AppliedArgs (arityOf gs) xs → w + i ≤ mostFrameWords
+  few-args : (gs : List Signature) (g n w r : ℕ) (τ : Ty) (a b i : ℕ) (xs : Args) → ArgsComplete (arityOf gs) xs → w + i ≤ mostFrameWords
       → PassesArgs gs (Call a b) i (scope g n w τ) r xs
       → wordsOfArgs gs (w + i) xs ≤ mostFrameWords
   few-args gs g n w r τ a b i noArgs p h e = h

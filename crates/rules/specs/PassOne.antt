@@ -8,37 +8,37 @@ use mathlib.Core.Path.{_≡_}
 use lib.Dec.{ltb}
 use lib.ListN.{length}
 use Rattle.formats.specs.Refusals.{wrongType, notBound, tooManyWords}
-use Rattle.formats.specs.Results.{Result, done, andThen, check}
+use Rattle.formats.specs.Results.{Result, done, andThen, valueIf}
 use Rattle.formats.specs.Records.{Kind, Const, Var, Add, IfZero, Let, Leaf, Node, Case, Call, nth}
 use Rattle.formats.specs.Programs.{Expr, const, var, add, ifZero, letIn, leafOf, nodeOf, caseOf, call, Args, noArgs, arg, Sort, numberValued, treeValued, Signature, Program, signatures}
-use Rattle.rules.specs.Types.{isInt, isTree, fits}
+use Rattle.rules.specs.Types.{isInt, isOutputTree, hasType}
 use Rattle.rules.specs.Scopes.{Scope, scope, Entry, entry, enteredAll}
 use Rattle.rules.specs.Limits.{mostFrameWords}
 
 -- Whether the name that the record uses is bound; most kinds use none.
-unfoldable pub named : Scope → Kind → Bool
-named (scope g n w τ) (Const i) = true
-named (scope g n w τ) (Var a) = ltb a g
-named (scope g n w τ) Add = true
-named (scope g n w τ) IfZero = true
-named (scope g n w τ) Let = true
-named (scope g n w τ) Leaf = true
-named (scope g n w τ) Node = true
-named (scope g n w τ) (Case a) = ltb a n
-named (scope g n w τ) (Call a b) = ltb a n
+unfoldable pub nameBound : Scope → Kind → Bool
+nameBound (scope g n w τ) (Const i) = true
+nameBound (scope g n w τ) (Var a) = ltb a g
+nameBound (scope g n w τ) Add = true
+nameBound (scope g n w τ) IfZero = true
+nameBound (scope g n w τ) Let = true
+nameBound (scope g n w τ) Leaf = true
+nameBound (scope g n w τ) Node = true
+nameBound (scope g n w τ) (Case a) = ltb a n
+nameBound (scope g n w τ) (Call a b) = ltb a n
 
 -- Whether the record has the type that is expected. IfZero, Let and Case have the type of their
 -- parts, so any is right.
-unfoldable pub typed : List Signature → Scope → Kind → Bool
-typed gs (scope g n w τ) (Const i) = isInt τ
-typed gs (scope g n w τ) (Var a) = isInt τ
-typed gs (scope g n w τ) Add = isInt τ
-typed gs (scope g n w τ) IfZero = true
-typed gs (scope g n w τ) Let = true
-typed gs (scope g n w τ) Leaf = isTree τ
-typed gs (scope g n w τ) Node = isTree τ
-typed gs (scope g n w τ) (Case a) = true
-typed gs (scope g n w τ) (Call a b) = elim (nth gs b) [ none ↦ false | some s ↦ fits (s .sort) τ ]
+unfoldable pub typeFits : List Signature → Scope → Kind → Bool
+typeFits gs (scope g n w τ) (Const i) = isInt τ
+typeFits gs (scope g n w τ) (Var a) = isInt τ
+typeFits gs (scope g n w τ) Add = isInt τ
+typeFits gs (scope g n w τ) IfZero = true
+typeFits gs (scope g n w τ) Let = true
+typeFits gs (scope g n w τ) Leaf = isOutputTree τ
+typeFits gs (scope g n w τ) Node = isOutputTree τ
+typeFits gs (scope g n w τ) (Case a) = true
+typeFits gs (scope g n w τ) (Call a b) = elim (nth gs b) [ none ↦ false | some s ↦ hasType (s .sort) τ ]
 
 -- Whether a function gives a number and has no number parameters.
 unfoldable pub bareNumber : Signature → Bool
@@ -58,19 +58,19 @@ wordsTested gs (Case a) = true
 wordsTested gs (Call a b) = elim (nth gs b) [ none ↦ false | some s ↦ bareNumber s ]
 
 -- Whether there is room for one word more, where the words are tested.
-unfoldable pub roomy : List Signature → Scope → Kind → Bool
-roomy gs (scope g n w τ) kind = elim (wordsTested gs kind) [ true ↦ ltb w mostFrameWords | false ↦ true ]
+unfoldable pub hasRoom : List Signature → Scope → Kind → Bool
+hasRoom gs (scope g n w τ) kind = elim (wordsTested gs kind) [ true ↦ ltb w mostFrameWords | false ↦ true ]
 
 -- Passed where the condition holds, else its refusal at record r.
 abbrev pub holdsAt : Bool → ℕ → ℕ → Result (Unit {0})
-holdsAt condition number r = check condition number r tt
+holdsAt condition number r = valueIf condition number r tt
 
 -- The tests of one record, in their order.
 unfoldable pub atEntry : List Signature → Entry → Result (Unit {0})
 atEntry gs (entry sc r kind) =
     andThen
-    (holdsAt (named sc kind) notBound r)
-    (λ u. andThen (holdsAt (typed gs sc kind) wrongType r) (λ v. holdsAt (roomy gs sc kind) tooManyWords r))
+    (holdsAt (nameBound sc kind) notBound r)
+    (λ u. andThen (holdsAt (typeFits gs sc kind) wrongType r) (λ v. holdsAt (hasRoom gs sc kind) tooManyWords r))
 
 -- The tests of one record after the other.
 unfoldable pub passOver : List Signature → List Entry → Result (Unit {0})
@@ -84,18 +84,18 @@ passOne program = passOver (signatures program) (enteredAll (suc (length (progra
 
 -- One of the three conditions fails at a record, and those before it in the row hold.
 pub data Fails (gs : List Signature) : Entry → ℕ → ℕ → Type 0 where
-  name-not-bound : {sc : Scope} {r : ℕ} {kind : Kind} → named sc kind ≡ false → Fails gs (entry sc r kind) notBound r
-  wrong-type : {sc : Scope} {r : ℕ} {kind : Kind} → named sc kind ≡ true → typed gs sc kind ≡ false → Fails gs (entry sc r kind) wrongType r
+  name-not-bound : {sc : Scope} {r : ℕ} {kind : Kind} → nameBound sc kind ≡ false → Fails gs (entry sc r kind) notBound r
+  wrong-type : {sc : Scope} {r : ℕ} {kind : Kind} → nameBound sc kind ≡ true → typeFits gs sc kind ≡ false → Fails gs (entry sc r kind) wrongType r
   too-many-words :
       {sc : Scope} {r : ℕ} {kind : Kind}
-      → named sc kind ≡ true
-      → typed gs sc kind ≡ true
-      → roomy gs sc kind ≡ false
+      → nameBound sc kind ≡ true
+      → typeFits gs sc kind ≡ true
+      → hasRoom gs sc kind ≡ false
       → Fails gs (entry sc r kind) tooManyWords r
 
 -- All three conditions hold at a record.
 pub data AllHold (gs : List Signature) : Entry → Type 0 where
-  all-three : {sc : Scope} {r : ℕ} {kind : Kind} → named sc kind ≡ true → typed gs sc kind ≡ true → roomy gs sc kind ≡ true → AllHold gs (entry sc r kind)
+  all-three : {sc : Scope} {r : ℕ} {kind : Kind} → nameBound sc kind ≡ true → typeFits gs sc kind ≡ true → hasRoom gs sc kind ≡ true → AllHold gs (entry sc r kind)
 
 -- A condition fails at a record, and all three hold at each record before it.
 pub data FirstFails (gs : List Signature) : List Entry → ℕ → ℕ → Type 0 where

@@ -6,7 +6,7 @@ use mathlib.Core.List.{List, [], _∷_}
 use lib.Dec.{ltb, eqb}
 use lib.ListN.{length}
 use Rattle.formats.specs.Refusals.{outOfOrder, tooManyPending}
-use Rattle.formats.specs.Results.{Result, done, refusal, andThen, check}
+use Rattle.formats.specs.Results.{Result, done, refusal, andThen, valueIf}
 use Rattle.formats.specs.Programs.{Expr, const, var, add, ifZero, letIn, leafOf, nodeOf, caseOf, call, Args, noArgs, arg, size, Function, Program}
 use Rattle.formats.specs.Rows.{readProgram}
 use Rattle.formats.specs.Blocks.{flatIn}
@@ -17,7 +17,7 @@ use Rattle.rules.specs.PassOne.{holdsAt, passOne}
 -- record.
 unfoldable pub takeHead : ℕ → ℕ → List ℕ → Result (List ℕ)
 takeHead a r [] = refusal outOfOrder r
-takeHead a r (x ∷ rest) = check (eqb x a) outOfOrder r rest
+takeHead a r (x ∷ rest) = valueIf (eqb x a) outOfOrder r rest
 
 -- Whether two lists are equal.
 unfoldable pub sameNames : List ℕ → List ℕ → Bool
@@ -29,7 +29,7 @@ sameNames (x ∷ xs) (y ∷ ys) = eqb x y && sameNames xs ys
 -- The list with which both branches end. 01, Pass two: "Both branches of Case or IfZero must end
 -- with equal lists, compared once both are through", else 11 at record r, the Case or IfZero.
 unfoldable pub equalBranches : ℕ → Result (List ℕ) → Result (List ℕ) → Result (List ℕ)
-equalBranches r one other = andThen one (λ Δ₁. andThen other (λ Δ₂. check (sameNames Δ₁ Δ₂) outOfOrder r Δ₂))
+equalBranches r one other = andThen one (λ Δ₁. andThen other (λ Δ₂. valueIf (sameNames Δ₁ Δ₂) outOfOrder r Δ₂))
 
 -- From the pending trees before the expression at record r to those after it; n tree names are
 -- bound.

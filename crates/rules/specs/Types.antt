@@ -31,13 +31,13 @@ isInt Tree⁺ = false
 isInt (arrow σ τ) = false
 
 -- Whether the type is that of output trees, Tree⁺. Tree⁻, that of input trees, does not count.
-unfoldable pub isTree : Ty → Bool
-isTree Int = false
-isTree Tree⁻ = false
-isTree Tree⁺ = true
-isTree (arrow σ τ) = false
+unfoldable pub isOutputTree : Ty → Bool
+isOutputTree Int = false
+isOutputTree Tree⁻ = false
+isOutputTree Tree⁺ = true
+isOutputTree (arrow σ τ) = false
 
 -- Whether a value of this sort has the type.
-unfoldable pub fits : Sort → Ty → Bool
-fits numberValued τ = isInt τ
-fits treeValued τ = isTree τ
+unfoldable pub hasType : Sort → Ty → Bool
+hasType numberValued τ = isInt τ
+hasType treeValued τ = isOutputTree τ

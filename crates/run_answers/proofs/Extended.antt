@@ -8,7 +8,7 @@ use native.Mathlib.Omega.{arith}
 use borrow.Author.Tests.{lt-ltb, le-ltb}
 use lib.IntN.{negsuc}
 use Rattle.formats.specs.Numbers.{signed32}
-use Rattle.run_answers.specs.RunAnswer.{signExtended, signed64, Extends}
+use Rattle.run_answers.specs.RunSlots.{signExtended, signed64, Extends}
 
 -- ---- `sign_extended`
 

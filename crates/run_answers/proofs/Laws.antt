@@ -9,7 +9,7 @@ use Rattle.answers.specs.Inner.Stores.{Stored}
 use Rattle.answers.proofs.Slots.{reported-ended, reported-refused}
 use Rattle.machine.specs.Inner.Answers.{runAnswer}
 use Rattle.machine.specs.declared.Answer.{Answer}
-use Rattle.run_answers.specs.RunAnswer.{runSlots, signExtended, runSlotsOf}
+use Rattle.run_answers.specs.RunSlots.{runSlots, signExtended, runSlotsOf}
 use Rattle.run_answers.specs.Inner.Stores.{StoresRun, AnswersRun}
 
 -- ---- `store`

@@ -11,7 +11,7 @@ use Rattle.formats.specs.Refusals.{spaceTooShort}
 use Rattle.formats.specs.Results.{Result}
 use Rattle.meaning.specs.WorkWords.{WorkWords}
 use Rattle.meaning.proofs.WorkWords.{untouched}
-use Rattle.answers.specs.Slots.{Reported, positionOf}
+use Rattle.answers.specs.Slots.{Answered, positionOf}
 use Rattle.answers.proofs.Slots.{reported-short}
 use Rattle.run_answers.specs.RunCall.{RunCall}
 
@@ -34,7 +34,7 @@ module _ (count : ℕ) (row : ℕ → List ℕ) (early : ℕ → Bool) (outcome 
         words = untouched early outcome values returns;
       }
 
-  pub called : (output′ values′ returns′ after : List ℕ) → count ≤ length before → Reported count row outcome before after r → output′ ≡ due
+  pub called : (output′ values′ returns′ after : List ℕ) → count ≤ length before → Answered count row outcome before after r → output′ ≡ due
       → WorkWords early outcome values values′ returns returns′
       → RunCall count row early outcome due output output′ values values′ returns returns′ before after r
   called output′ values′ returns′ after many answers out words =

@@ -1,4 +1,4 @@
 -- What a stream run called from C or Rust answers.
-pub mod RunAnswer
+pub mod RunSlots
 pub mod RunCall
 pub mod Inner

@@ -8,15 +8,15 @@ use lib.ListN.{length}
 use Rattle.formats.specs.Results.{Result}
 use Rattle.meaning.specs.Running.{Ran}
 use Rattle.meaning.specs.WorkWords.{WorkWords, beforeStream}
-use Rattle.answers.specs.Slots.{Reported}
-use Rattle.run_answers.specs.RunAnswer.{runSlots, runSlotsOf}
+use Rattle.answers.specs.Slots.{Answered}
+use Rattle.run_answers.specs.RunSlots.{runSlots, runSlotsOf}
 
 -- A run whose outcome is `outcome` and whose output is `due`. Its answer is `row`, stored in the
 -- first `count` slots of the answer array, which is `before` at entry and `after` at exit; the
 -- other buffers are unprimed at entry, primed at exit. Where the array has too few slots there is
 -- no run, and all buffers are untouched. `early` says which refusals come before the run.
 pub record RunCall (count : ℕ) (row : ℕ → List ℕ) (early : ℕ → Bool) (outcome : Result (Unit {0})) (due output output′ values values′ returns returns′ before after : List ℕ) (r : ℕ) : Type 0 where
-  pub answers : Reported count row outcome before after r
+  pub answers : Answered count row outcome before after r
   pub output-is : output′ ≡ elim (ltb (length before) count) [ true ↦ output | false ↦ due ]
   pub not-run : length before < count → (values′ ≡ values) × (returns′ ≡ returns)
   pub words : WorkWords early outcome values values′ returns returns′

@@ -6,7 +6,7 @@ ghost use mathlib.Core.Path.{_≡_};
 ghost use lib.Dec.{leb};
 ghost use lib.ListN.{length};
 ghost use Rattle.machine.specs.Inner.Answers.{runAnswer};
-ghost use Rattle.run_answers.specs.RunAnswer.{runSlots, signExtended};
+ghost use Rattle.run_answers.specs.RunSlots.{runSlots, signExtended};
 ghost use Rattle.run_answers.specs.Inner.Stores.{StoresRun, AnswersRun};
 
 // How many slots an answer takes.

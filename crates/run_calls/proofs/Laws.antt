@@ -11,7 +11,7 @@ use Rattle.formats.specs.Refusals.{spaceTooShort}
 use Rattle.machine.specs.Inner.Answers.{runAnswer}
 use Rattle.machine.specs.declared.Answer.{Answer}
 use Rattle.runner.specs.Inner.RunnerCall.{RunnerCall}
-use Rattle.run_answers.specs.RunAnswer.{runSlots}
+use Rattle.run_answers.specs.RunSlots.{runSlots}
 use Rattle.run_answers.specs.Inner.Stores.{AnswersRun}
 use Rattle.run_answers.proofs.RunCall.{too-few, enough, not-called, called}
 use Rattle.run_calls.specs.ProgramCall.{ProgramCall}

@@ -6,9 +6,9 @@ use mathlib.Core.List.{List}
 use mathlib.Core.Path.{_≡_}
 use lib.Dec.{ltb}
 use lib.ListN.{length}
-use Rattle.translation.specs.Calls.{runFile}
+use Rattle.translation.specs.TranslateAndRun.{runFile}
 use Rattle.translation.specs.ThisCall.{ranWith, ProgramRun}
-use Rattle.run_answers.specs.RunAnswer.{runSlots}
+use Rattle.run_answers.specs.RunSlots.{runSlots}
 use Rattle.run_answers.specs.RunCall.{StreamCall}
 
 -- A call of the runner. Its buffers are unprimed at entry, primed at exit; the answer array is

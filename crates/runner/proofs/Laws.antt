@@ -10,7 +10,7 @@ use lib.Dec.{leb}
 use lib.ListN.{length, take}
 use Rattle.formats.specs.Numbers.{Bytes}
 use Rattle.formats.specs.Results.{done, refusal}
-use Rattle.formats.specs.Blocks.{lent}
+use Rattle.formats.specs.Blocks.{bufferAfter}
 use Rattle.formats.proofs.Results.{byResult, value-inv, value-refused}
 use Rattle.formats.proofs.Written.{front-written, wrote}
 use Rattle.refusal.specs.Inner.Numbers.{number}
@@ -30,7 +30,7 @@ use Rattle.meaning.specs.WorkWords.{WorkWords, beforeStream}
 use Rattle.meaning.proofs.WorkWords.{untouched}
 use Rattle.machine.specs.Inner.Answers.{runAnswer, Performed}
 use Rattle.machine.specs.declared.Answer.{Answer}
-use Rattle.translation.specs.Calls.{ProgramRan, prepared, refusedBefore, runFile, translateFile}
+use Rattle.translation.specs.TranslateAndRun.{FileRan, prepared, refusedBefore, runFile, translateFile}
 use Rattle.translation.proofs.Calls.{not-translated, prepared-refused, prepared-short, prepared-code, prepared-inv, called-refused, called-runs, program-run}
 use Rattle.runner.specs.Inner.RunnerCall.{RunnerCall, TooFewWords}
 
@@ -76,16 +76,16 @@ module _ (file code : List ℕ) (values returns : ℕ) (emitted : Filled) (code�
     pub own : List ℕ
     pub is : prepared (length code) values returns file ≡ done own
     pub there : take bytes code′ ≡ own
-    pub buffer : code′ ≡ lent code (done own)
+    pub buffer : code′ ≡ bufferAfter code (done own)
     pub inside : bytes ≤ length code′
 
   pub emitted-there : (bytes : ℕ) → emitted ≡ Written bytes → Emitted bytes
-  unfolding lent
+  unfolding bufferAfter
   emitted-there bytes is =
       let v = value-inv length (prepared (length code) values returns file) bytes (sym (put .answer) ∙ ap filledWith is) in
       let p = prepared-inv (length code) values returns file (v .value) (v .first) in
       let room : 0 + length (v .value) ≤ length code = omega (arith, p .short-enough) in
-      let there : code′ ≡ lent code (done (v .value)) = put .buffer ∙ ap (lent code) (v .first) in
+      let there : code′ ≡ bufferAfter code (done (v .value)) = put .buffer ∙ ap (bufferAfter code) (v .first) in
       let front : take (0 + length (v .value)) code′ ≡ v .value = ap (take (0 + length (v .value))) there ∙ front-written code 0 (v .value) room in
       let many : 0 + length (v .value) ≡ bytes = omega (arith, v .second) in
       record {
@@ -105,10 +105,10 @@ module _ (file code : List ℕ) (values returns : ℕ) (emitted : Filled) (code�
     pub still : code′ ≡ code
 
   pub not-run : (input output : List ℕ) (fuel : ℕ) (why : Refusal) (position : ℕ) → emitted ≡ Refused why position → NotRun input output fuel (number why) position
-  unfolding lent
+  unfolding bufferAfter
   not-run input output fuel why position is =
       let stop : prepared (length code) values returns file ≡ refusal (number why) position = value-refused length _ (number why) position (sym (put .answer) ∙ ap filledWith is) in
-      record { gives = called-refused file input output code fuel values returns (number why) position stop; still = put .buffer ∙ ap (lent code) stop }
+      record { gives = called-refused file input output code fuel values returns (number why) position stop; still = put .buffer ∙ ap (bufferAfter code) stop }
 
   -- .. and where it is run
   pub is-run : (input output : List ℕ) (fuel bytes : ℕ) → emitted ≡ Written bytes
@@ -130,7 +130,7 @@ module _ (file code : List ℕ) (values returns : ℕ) (emitted : Filled) (code�
 
 module _ (file input output code values returns : List ℕ) (fuel : ℕ) (file-bytes : Bytes file) (input-bytes : Bytes input) where
   -- a call that gives what the definition gives, answer and both buffers, carries demand 3
-  runs-as : (output′ code′ values′ returns′ : List ℕ) (r : Answer) (due : ProgramRan)
+  runs-as : (output′ code′ values′ returns′ : List ℕ) (r : Answer) (due : FileRan)
       → runFile file input output code fuel (length values) (length returns) ≡ due
       → runAnswer r ≡ due .answer
       → output′ ≡ due .output
@@ -138,13 +138,13 @@ module _ (file input output code values returns : List ℕ) (fuel : ℕ) (file-b
       → WorkWords beforeStream (due .answer .outcome) values values′ returns returns′
       → RunnerCall file input output output′ code code′ values values′ returns returns′ fuel r
   runs-as output′ code′ values′ returns′ r due is answer out emitted words =
-      let answer′ = answer ∙ ap (λ (q : ProgramRan). q .answer) (sym is) in
-      let out′ = out ∙ ap (λ (q : ProgramRan). q .output) (sym is) in
+      let answer′ = answer ∙ ap (λ (q : FileRan). q .answer) (sym is) in
+      let out′ = out ∙ ap (λ (q : FileRan). q .output) (sym is) in
       record {
         answer = answer′;
         output-is = out′;
-        code-is = emitted ∙ ap (λ (q : ProgramRan). q .code) (sym is);
-        words = rw (ap (λ (q : ProgramRan). q .answer .outcome) is) words;
+        code-is = emitted ∙ ap (λ (q : FileRan). q .code) (sym is);
+        words = rw (ap (λ (q : FileRan). q .answer .outcome) is) words;
         program-run = program-run file code (length values) (length returns) file-bytes input output fuel (runAnswer r) output′ input-bytes answer′ out′;
       }
 

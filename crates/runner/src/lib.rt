@@ -9,7 +9,7 @@ ghost use lib.ListN.{length};
 ghost use Rattle.refusal.specs.Inner.Numbers.{number};
 ghost use Rattle.refusal.specs.Inner.FilledBuffer.{FilledBuffer};
 ghost use Rattle.machine.specs.Inner.Answers.{runAnswer};
-ghost use Rattle.translation.specs.Calls.{prepared, refusedBefore};
+ghost use Rattle.translation.specs.TranslateAndRun.{prepared, refusedBefore};
 ghost use Rattle.runner.specs.Inner.RunnerCall.{RunnerCall, TooFewWords};
 
 // How many work words a run needs.

@@ -10,7 +10,7 @@ use lib.Dec.{leb}
 use lib.ListN.{length, take}
 use Rattle.formats.specs.Numbers.{Bytes}
 use Rattle.formats.specs.Refusals.{spaceTooShort}
-use Rattle.formats.specs.Results.{Result, done, refusal, andThen, check}
+use Rattle.formats.specs.Results.{Result, done, refusal, andThen, valueIf}
 use Rattle.formats.specs.Records.{recordAt}
 use Rattle.formats.specs.Tokens.{Tree, firstTree, firstEnd}
 use Rattle.formats.specs.Programs.{Program}
@@ -131,7 +131,7 @@ module _ (s table after input output values returns : List ℕ) (fuel : ℕ) (si
   refuses number position e = of-rows (readProgram s) refl e
     where
       of-pass : (program : Program) → readProgram s ≡ done program → (p : Result (Unit {0})) → passOne program ≡ p
-          → andThen p (λ u. check (leb tableWords (length table)) spaceTooShort 0 (tabled table program)) ≡ refusal number position
+          → andThen p (λ u. valueIf (leb tableWords (length table)) spaceTooShort 0 (tabled table program)) ≡ refusal number position
           → Refuses number position
       of-pass program reads (refusal n q) is e = by-pass program reads (is ∙ cc)
       of-pass program reads (done u) is e =
@@ -142,7 +142,7 @@ module _ (s table after input output values returns : List ℕ) (fuel : ℕ) (si
           absurd (omega arith)
 
       of-rows : (r : Result Program) → readProgram s ≡ r
-          → andThen r (λ program. andThen (passOne program) (λ u. check (leb tableWords (length table)) spaceTooShort 0 (tabled table program))) ≡ refusal number position
+          → andThen r (λ program. andThen (passOne program) (λ u. valueIf (leb tableWords (length table)) spaceTooShort 0 (tabled table program))) ≡ refusal number position
           → Refuses number position
       of-rows (refusal n q) is e = by-rows (is ∙ cc)
       of-rows (done program) is e = of-pass program is (passOne program) refl e

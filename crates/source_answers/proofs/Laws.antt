@@ -9,7 +9,7 @@ use Rattle.answers.specs.Inner.Stores.{Stored}
 use Rattle.answers.proofs.Slots.{reported-ended, reported-refused}
 use Rattle.source.specs.Inner.SourceAnswers.{sourceAnswer}
 use Rattle.source.specs.declared.SourceAnswer.{SourceAnswer}
-use Rattle.run_answers.specs.RunAnswer.{signExtended}
+use Rattle.run_answers.specs.RunSlots.{signExtended}
 use Rattle.source_answers.specs.SourceSlots.{sourceSlots, sourceSlotsOf}
 use Rattle.source_answers.specs.Inner.Stores.{StoresSource, AnswersSource}
 

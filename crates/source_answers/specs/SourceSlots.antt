@@ -2,7 +2,7 @@
 use Prim.Native.Nat.{ℕ}
 use mathlib.Core.List.{List, [], _∷_}
 use Rattle.meaning.specs.SourceRun.{SourceAnswer}
-use Rattle.run_answers.specs.RunAnswer.{signExtended}
+use Rattle.run_answers.specs.RunSlots.{signExtended}
 
 -- How many slots the answer takes.
 abbrev pub sourceSlots : ℕ

@@ -9,7 +9,7 @@ use Rattle.formats.specs.Results.{done}
 use Rattle.formats.specs.Tokens.{tokens, tagOf, tagAt, labelAt, branchesAt, treeByTag, treeAt, firstTree}
 use Rattle.formats.specs.Records.{nth}
 use Rattle.formats.specs.Programs.{const, var, add, ifZero, letIn, call, noArgs, arg, prefix, prefixes, size}
-use Rattle.formats.specs.Programs.{numberValued, arityOf, total, signatureOf, Program, Every}
+use Rattle.formats.specs.Programs.{numberValued, arityOf, sumOfCounts, signatureOf, Program, Every}
 use Rattle.formats.specs.Inner.Limits.{mostRecords}
 use Rattle.formats.proofs.ProgramCases.{grow, grow-lawful}
 use Rattle.formats.proofs.Results.{then-inv}
@@ -42,7 +42,7 @@ grow-rows : rowsIn grow
     ∷ 5 ∷ 2 ∷ 5 ∷ 0 ∷ 6 ∷ 7 ∷ 0 ∷ 9
     ∷ 5 ∷ 2 ∷ 6 ∷ 0 ∷ 4 ∷ 7 ∷ 0 ∷ 10
     ∷ []
-unfolding grow rowsOfAll rowsOf actionOf codeOf roleOf slotOf namesIn keepsIn casesIn operandOf treeOf moreOf firstRecord arityOf nth total signatureOf size prefix
+unfolding grow rowsOfAll rowsOf actionOf codeOf roleOf slotOf namesIn keepsIn casesIn operandOf treeOf moreOf firstRecord arityOf nth sumOfCounts signatureOf size prefix
 grow-rows = refl
 
 -- A Call of two arguments, with one number kept: the first argument's word is below that of the
@@ -67,7 +67,7 @@ pair-rows : rowsIn pair
     ∷ 1 ∷ 0 ∷ 0 ∷ 0 ∷ 4 ∷ 12 ∷ 0 ∷ 15
     ∷ 1 ∷ 1 ∷ 0 ∷ 0 ∷ 4 ∷ 12 ∷ 0 ∷ 16
     ∷ []
-unfolding pair programOf numbered rowsOfAll rowsOf rowsOfArgs afterArgs actionOf codeOf roleOf slotOf namesIn keepsIn casesIn operandOf treeOf moreOf firstRecord arityOf nth total signatureOf size prefix prefixes
+unfolding pair programOf numbered rowsOfAll rowsOf rowsOfArgs afterArgs actionOf codeOf roleOf slotOf namesIn keepsIn casesIn operandOf treeOf moreOf firstRecord arityOf nth sumOfCounts signatureOf size prefix prefixes
 pair-rows = refl
 
 -- the codes of the trees named inside two Cases, at records 2 and 5: the frame's tree, the left and
@@ -103,7 +103,7 @@ grow-one = record { lawful = grow-lawful; passes = then-inv (passOne grow) _ tt 
 
 -- its evaluation begins 14 expressions, and the result is the second tree
 grow-reported : followedBy (evaluation grow mostCalls two-leaves) reportedOf ≡ afterBegun 14 (gives (reported 0 six-eight))
-unfolding evaluation called evaluate evaluateArgs followedBy afterBegun resultNumber resultTree resultBytes numberOr treeOr atLevel sum32 nth firstRecord total signatureOf size prefix prefixes grow two-leaves tokens bytesOf six-eight
+unfolding evaluation called evaluate evaluateArgs followedBy afterBegun resultNumber resultTree resultBytes numberOr treeOr atLevel sum32 nth firstRecord sumOfCounts signatureOf size prefix prefixes grow two-leaves tokens bytesOf six-eight
 grow-reported = refl
 
 -- the steps come to the same, whatever the words and return words hold

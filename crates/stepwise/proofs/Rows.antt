@@ -11,7 +11,7 @@ use lib.ListN.{length, getD, take, length-append, List·getD-append}
 use lib.Seq.{getD-append-add}
 use Rattle.formats.specs.Records.{Kind, Add, IfZero, Let, Leaf, Node, Case, Call, nth}
 use Rattle.formats.specs.Programs.{Expr, const, var, add, ifZero, letIn, leafOf, nodeOf, caseOf, call, Args, noArgs, arg, prefix, prefixes, size}
-use Rattle.formats.specs.Programs.{arityOf, total, Function, signatureOf, Program, signatures, mostFunctions, mostNodes}
+use Rattle.formats.specs.Programs.{arityOf, sumOfCounts, Function, signatureOf, Program, signatures, mostFunctions, mostNodes}
 use Rattle.formats.specs.Inner.Limits.{mostRecords}
 use Rattle.formats.proofs.Written.{wrote}
 use Rattle.meaning.specs.OpenCalls.{firstRecord}
@@ -141,8 +141,8 @@ module _ (entry arity : ℕ → ℕ) where
     rows-long-args p kind r i k noArgs = long-as (sym size-none) long-none
     rows-long-args p kind r i k (arg x xs) = long-as (sym (size-arg x xs)) (long-joined (rows-long _ _ x) (rows-long-args _ _ _ _ _ xs))
 
-  rows-long-all : (r : ℕ) (fs : List Function) → Long (rowsOfAll entry arity r fs) (total (map signatureOf fs))
-  unfolding rowsOfAll total signatureOf
+  rows-long-all : (r : ℕ) (fs : List Function) → Long (rowsOfAll entry arity r fs) (sumOfCounts (map signatureOf fs))
+  unfolding rowsOfAll sumOfCounts signatureOf
   rows-long-all r [] = long-none
   rows-long-all r (f ∷ fs) = long-joined (rows-long _ _ (f .body)) (rows-long-all _ fs)
 
@@ -153,7 +153,7 @@ module _ (entry arity : ℕ → ℕ) where
   pub length-rows-args : (p : Location) (kind : Kind) (r i k : ℕ) (xs : Args) → length (rowsOfArgs entry arity p kind r i k xs) ≡ rowWords * sizeArgs xs
   length-rows-args p kind r i k xs = rows-long-args p kind r i k xs .long
 
-  pub length-rows-all : (r : ℕ) (fs : List Function) → length (rowsOfAll entry arity r fs) ≡ rowWords * total (map signatureOf fs)
+  pub length-rows-all : (r : ℕ) (fs : List Function) → length (rowsOfAll entry arity r fs) ≡ rowWords * sumOfCounts (map signatureOf fs)
   length-rows-all r fs = rows-long-all r fs .long
 
   -- the record after arguments
@@ -298,8 +298,8 @@ module _ (entry arity : ℕ → ℕ) where
 
     -- the body of function b among functions whose rows stand
     body-stands : (r : ℕ) (fs : List Function) (b : ℕ) {f : Function} → nth fs b ≡ some f → Shows T (rowWords * r) (rowsOfAll entry arity r fs)
-        → Stands (bodyLocation entry arity f) (r + total (take b (map signatureOf fs))) (f .body)
-    unfolding nth rowsOfAll total signatureOf
+        → Stands (bodyLocation entry arity f) (r + sumOfCounts (take b (map signatureOf fs))) (f .body)
+    unfolding nth rowsOfAll sumOfCounts signatureOf
     body-stands r [] b {f} e s = absurd (Option·none-ne-some f e)
     body-stands r (g ∷ fs) zero {f} e s =
         let here = part-first (bodyLocation entry arity g) r (g .body) (rowsOfAll entry arity (r + size (g .body)) fs) s .0 in
@@ -311,24 +311,24 @@ module _ (entry arity : ℕ → ℕ) where
 -- ---- of a program
 
 -- a function's first record
-first-record : (program : Program) (b : ℕ) → firstRecord program b ≡ suc (length (program .functions)) + total (take b (signatures program))
+first-record : (program : Program) (b : ℕ) → firstRecord program b ≡ suc (length (program .functions)) + sumOfCounts (take b (signatures program))
 unfolding firstRecord
 first-record program b = refl
 
 -- the first b functions, and function b, have no more nodes than all
-body-counted : (fs : List Function) (b : ℕ) (f : Function) → nth fs b ≡ some f → total (take b (map signatureOf fs)) + size (f .body) ≤ total (map signatureOf fs)
-unfolding nth total signatureOf
+body-counted : (fs : List Function) (b : ℕ) (f : Function) → nth fs b ≡ some f → sumOfCounts (take b (map signatureOf fs)) + size (f .body) ≤ sumOfCounts (map signatureOf fs)
+unfolding nth sumOfCounts signatureOf
 body-counted [] b f e = absurd (Option·none-ne-some f e)
 body-counted (g ∷ fs) zero f e = rw (Option·some-injective g f e) (omega arith)
 body-counted (g ∷ fs) (suc b) f e = let later = body-counted fs b f e in omega arith
 
 -- so a body ends within the program's records
 pub bodies-fit : (program : Program) (b : ℕ) (f : Function) → nth (program .functions) b ≡ some f
-    → firstRecord program b + size (f .body) ≤ suc (length (program .functions)) + total (signatures program)
+    → firstRecord program b + size (f .body) ≤ suc (length (program .functions)) + sumOfCounts (signatures program)
 bodies-fit program b f e = omega (arith, first-record program b, body-counted (program .functions) b f e)
 
 -- the rows of a program stand in its table
-rows-stand : (program : Program) (table : List ℕ) → rowWords * mostRecords ≤ length table → length (program .functions) ≤ mostFunctions → total (signatures program) ≤ mostNodes
+rows-stand : (program : Program) (table : List ℕ) → rowWords * mostRecords ≤ length table → length (program .functions) ≤ mostFunctions → sumOfCounts (signatures program) ≤ mostNodes
     → Shows (tabled table program) (rowWords * suc (length (program .functions))) (rowsIn program)
 unfolding tabled
 rows-stand program table room functions nodes =
@@ -339,7 +339,7 @@ rows-stand program table room functions nodes =
 
 -- the body of each function stands in the table
 pub bodies-stand : (program : Program) (table : List ℕ)
-    → rowWords * mostRecords ≤ length table → length (program .functions) ≤ mostFunctions → total (signatures program) ≤ mostNodes
+    → rowWords * mostRecords ≤ length table → length (program .functions) ≤ mostFunctions → sumOfCounts (signatures program) ≤ mostNodes
     → (b : ℕ) (f : Function) → nth (program .functions) b ≡ some f
     → Stands (firstRecord program) (arityOf (signatures program)) (tabled table program)
     (bodyLocation (firstRecord program) (arityOf (signatures program)) f) (firstRecord program b) (f .body)

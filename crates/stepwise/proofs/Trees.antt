@@ -14,7 +14,7 @@ use lib.ListN.{length, getD, take, drop, length-append, take-append-drop, List·
 use lib.Seq.{getD-at}
 use Rattle.formats.specs.Numbers.{Bytes, bytesOf, numberOf, numberAt}
 use Rattle.formats.specs.Buffers.{one-more}
-use Rattle.formats.specs.Buffers.{Lies as BytesLie}
+use Rattle.formats.specs.Buffers.{BytesAt as BytesLie}
 use Rattle.formats.specs.Results.{done}
 use Rattle.formats.specs.Tokens.{Tree, leaf, node, Labelled, depth, leafTag, nodeTag, labelBytes, tokens, mostDepth, firstTree, firstEnd, endFrom}
 use Rattle.formats.specs.Inner.Trees.{leafBytes}

@@ -16,7 +16,7 @@ use Rattle.formats.specs.Numbers.{Bytes}
 use Rattle.formats.specs.Results.{done}
 use Rattle.formats.specs.Tokens.{Tree, firstTree}
 use Rattle.formats.specs.Records.{nth}
-use Rattle.formats.specs.Programs.{size, total, arityOf, Signature, Function, Program, signatures, LawfulFunctions}
+use Rattle.formats.specs.Programs.{size, sumOfCounts, arityOf, Signature, Function, Program, signatures, LawfulFunctions}
 use Rattle.formats.specs.Inner.Limits.{mostRecords}
 use Rattle.rules.specs.Types.{resultType}
 use Rattle.rules.specs.Scopes.{startOf, entered, enteredAll}
@@ -198,7 +198,7 @@ pub comes :
     → Comes (tabled table program) input []
     (begin (suc (length (program .functions))) (record { words = words; returns = returns; calls = 0; tree = 0; known = 0; end = 0 }))
     (followedBy (evaluation program mostCalls t) reportedOf)
-unfolding firstRecord total
+unfolding firstRecord sumOfCounts
 comes program input table words returns t passes bytes reads room values returns-lent =
     rw add-zero at
     (sim-whole program (tabled table program) input (standing program table passes room) mostWaiting t words returns refl (lies-first input t bytes reads) values

@@ -10,7 +10,7 @@ use lib.ListN.{length, length-append, length-map}
 use Rattle.formats.specs.Numbers.{Bytes}
 use Rattle.formats.specs.Results.{done}
 use Rattle.formats.specs.Records.{recordAt}
-use Rattle.formats.specs.Programs.{Expr, const, var, add, ifZero, letIn, leafOf, nodeOf, caseOf, call, Args, noArgs, arg, prefix, prefixes, size, total, countArgs, Every, InRange, Sort, numberValued, treeValued, Function, signatureOf, Program, signatures, LawfulFunctions, Signature}
+use Rattle.formats.specs.Programs.{Expr, const, var, add, ifZero, letIn, leafOf, nodeOf, caseOf, call, Args, noArgs, arg, prefix, prefixes, size, sumOfCounts, countArgs, Every, InRange, Sort, numberValued, treeValued, Function, signatureOf, Program, signatures, LawfulFunctions, Signature}
 use Rattle.formats.specs.Rows.{readProgram}
 use Rattle.formats.specs.Inner.Fields.{headerIn}
 use Rattle.formats.proofs.Programs.{every-left, every-right}
@@ -23,8 +23,8 @@ use Rattle.rules.specs.PassTwo.{bothPasses, passTwo}
 use Rattle.walks.specs.Inner.Standing.{Known, Bodies, no-more, one-more}
 use Rattle.rules.proofs.PassOne.{pass-left, pass-right}
 use Rattle.walks.proofs.Walks.{program-held}
-use Rattle.translation.specs.Calls.{checkedRecords}
-use Rattle.translation.specs.Templates.{Words, firstWords, wordsKept, codeEnd, code, codeArgs, functionCode, functionEnd, entryFrom, functionsCode, entryOf}
+use Rattle.translation.specs.TranslateAndRun.{checkedRecords}
+use Rattle.translation.specs.Templates.{WordNumbers, firstWords, wordsKept, codeEnd, code, codeArgs, functionCode, functionEnd, entryFrom, functionsCode, entryOf}
 use Rattle.translation.proofs.Operands.{length-function}
 use Rattle.translate.specs.Inner.Walk.{EnteringFunction}
 
@@ -94,7 +94,7 @@ module _ (s : List ℕ) (end : ℕ) (program : Program) where
     pub held : Bodies s (signatures program) j k others
     pub passes : passOver (signatures program) (enteredAll k others) ≡ done tt
     pub lawful : LawfulFunctions (signatures program) j others
-    pub ends : k + total (map signatureOf others) ≡ end
+    pub ends : k + sumOfCounts (map signatureOf others) ≡ end
 
   -- the next function, entered, and what is then left
   pub record Next (before : List Function) (k j : ℕ) : Type 0 where
@@ -104,7 +104,7 @@ module _ (s : List ℕ) (end : ℕ) (program : Program) where
     pub left : FunctionsLeft (before ++ (here ∷ [])) (k + size (here .body)) (j + 1)
 
   pub next-function : (before : List Function) (k j : ℕ) → FunctionsLeft before k j → j < length (program .functions) → Next before k j
-  unfolding enteredAll startOf total signatureOf
+  unfolding enteredAll startOf sumOfCounts signatureOf
   next-function before k j l more = by (l .others) (l .split) (l .held) (l .passes) (l .lawful) (l .ends)
     where
       gs : List Signature
@@ -115,7 +115,7 @@ module _ (s : List ℕ) (end : ℕ) (program : Program) where
           → Bodies s gs j k fs
           → passOver gs (enteredAll k fs) ≡ done tt
           → LawfulFunctions gs j fs
-          → k + total (map signatureOf fs) ≡ end
+          → k + sumOfCounts (map signatureOf fs) ≡ end
           → Next before k j
       by [] split no-more passes lawful ends =
           absurd (omega (arith, ap length split, length-append before [], l .many))
@@ -177,7 +177,7 @@ module _ (es fs : ℕ → ℕ) (functions : ℕ) (same : (b : ℕ) → b < funct
   mutual
     unfolding code codeArgs prefix prefixes
 
-    same-code : (s : Sort) (words : Words) (w a : ℕ) (e : Expr) → Every (InRange functions) (prefix e) → code es s words w a e ≡ code fs s words w a e
+    same-code : (s : Sort) (words : WordNumbers) (w a : ℕ) (e : Expr) → Every (InRange functions) (prefix e) → code es s words w a e ≡ code fs s words w a e
     same-code s words w a (const i) h = refl
     same-code s words w a (var k) h = refl
     same-code s words w a (add p q) h =
@@ -207,7 +207,7 @@ module _ (es fs : ℕ → ℕ) (functions : ℕ) (same : (b : ℕ) → b < funct
     same-code s words w a (call k b xs) h =
         ap₂ (λ x n. x ++ (Call n (countArgs xs) ∷ [])) (same-args words w a xs (h .1)) (same b (h .0 .1))
 
-    same-args : (words : Words) (w a : ℕ) (xs : Args) → Every (InRange functions) (prefixes xs) → codeArgs es words w a xs ≡ codeArgs fs words w a xs
+    same-args : (words : WordNumbers) (w a : ℕ) (xs : Args) → Every (InRange functions) (prefixes xs) → codeArgs es words w a xs ≡ codeArgs fs words w a xs
     same-args words w a noArgs h = refl
     same-args words w a (arg x xs) h =
         ap₂ _++_ (same-code numberValued words w a x (every-left _ (prefix x) (prefixes xs) h)) (same-args words (suc w) (codeEnd x a) xs (every-right _ (prefix x) (prefixes xs) h))

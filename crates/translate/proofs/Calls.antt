@@ -23,7 +23,7 @@ use Rattle.refusal.proofs.FilledBuffer.{put-refused, put-done}
 use Rattle.rules.specs.PassTwo.{checkRecords}
 use Rattle.block_reader.proofs.Taken.{not-taken, taken-out, taken-inside}
 use Rattle.translation.specs.Templates.{operationsOf, codeOf}
-use Rattle.translation.specs.Calls.{checkedRecords, translateRecords, translateFile}
+use Rattle.translation.specs.TranslateAndRun.{checkedRecords, translateRecords, translateFile}
 use Rattle.translation.proofs.Calls.{as-checked}
 use Rattle.translate.specs.declared.Table.{Table}
 use Rattle.translate.specs.Inner.Walk.{Tabled, Ready, EmitsAll}

@@ -12,7 +12,7 @@ use Rattle.formats.specs.Programs.{Expr, const, var, add, ifZero, letIn, leafOf
 use Rattle.walks.specs.Inner.Standing.{headOf}
 use Rattle.walks.proofs.Walks.{length-args}
 use Rattle.meaning.specs.Instructions.{Operation}
-use Rattle.translation.specs.Templates.{Words, codeEnd, argsEnd, code, codeArgs}
+use Rattle.translation.specs.Templates.{WordNumbers, codeEnd, argsEnd, code, codeArgs}
 use Rattle.translation.proofs.Addresses.{length-code}
 use Rattle.code_scope.specs.Inner.Around.{Around, around, partAround}
 use Rattle.emit_items.specs.Inner.Operations.{operationFor}
@@ -52,7 +52,7 @@ nothing-before items (suc zero) = refl
 nothing-before items (suc (suc zero)) = refl
 nothing-before items (suc (suc (suc i))) = refl
 
-module _ (entries arity : ℕ → ℕ) (s : Sort) (words : Words) (w : ℕ) where
+module _ (entries arity : ℕ → ℕ) (s : Sort) (words : WordNumbers) (w : ℕ) where
   -- a Call's arguments from number i on, and the call after them
   args-code : (a b k last whole : ℕ) (i at : ℕ) (xs : Args)
       → codeArgs entries words (w + i) at xs ++ (operationFor entries arity (around s words w) last whole (callFunction b) ∷ [])

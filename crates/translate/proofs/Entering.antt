@@ -8,7 +8,7 @@ use lib.ListN.{length}
 use Rattle.formats.specs.Inner.CodeColumn.{templateOf}
 use Rattle.formats.specs.Results.{done, onValue}
 use Rattle.formats.specs.Records.{Case, Part, aNumber, aTree, asWhole, underNumber, underTrees, nth, partsOf, nthPart, partCount}
-use Rattle.formats.specs.Programs.{Expr, const, var, add, ifZero, letIn, leafOf, nodeOf, caseOf, call, size, Placed, placedAt, partsAt, Applied, Signature, arityOf}
+use Rattle.formats.specs.Programs.{Expr, const, var, add, ifZero, letIn, leafOf, nodeOf, caseOf, call, size, Placed, placedAt, partsAt, CallsComplete, Signature, arityOf}
 use Rattle.formats.specs.Inner.Fields.{arityIn, nodeIn}
 use Rattle.formats.proofs.Results.{done-injective, then-inv}
 use Rattle.formats.proofs.Programs.{some-record}
@@ -38,7 +38,7 @@ use Rattle.translate.specs.Inner.Walk.{Entering, EnteringParts}
 -- ---- a word for a number that is named
 
 -- a number is named in part j of the expression's record
-binder-room : (gs : List Signature) (g n w r : ℕ) (τ : Ty) (e : Expr) (j : ℕ) → Applied (arityOf gs) e → Passes gs (scope g n w τ) r e
+binder-room : (gs : List Signature) (g n w r : ℕ) (τ : Ty) (e : Expr) (j : ℕ) → CallsComplete (arityOf gs) e → Passes gs (scope g n w τ) r e
     → Binds (nthPart (partsOf (headOf e)) j)
     → w < mostNames
 unfolding headOf entered wordsTested partsOf nthPart nth

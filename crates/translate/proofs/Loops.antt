@@ -23,7 +23,7 @@ use Rattle.walks.specs.Inner.Limits.{recordInstructions, mostEmitted}
 use Rattle.walks.specs.Inner.Walks.{Inside}
 use Rattle.walks.proofs.Walks.{program-held}
 use Rattle.meaning.specs.Instructions.{Operation, instructionOf}
-use Rattle.translation.specs.Calls.{checkedRecords}
+use Rattle.translation.specs.TranslateAndRun.{checkedRecords}
 use Rattle.translation.proofs.Operands.{ends, length-function}
 use Rattle.translation.specs.Templates.{functionCode, functionEnd, functionsCode, entryOf, operationsOf, codeOf}
 use Rattle.template.specs.Inner.Items.{entriesIn}

@@ -12,7 +12,7 @@ ghost use mathlib.Core.Path.{_≡_};
 ghost use lib.ListN.{length};
 ghost use Rattle.formats.specs.Results.{done, verdict};
 ghost use Rattle.refusal.specs.Inner.FilledBuffer.{FilledBuffer};
-ghost use Rattle.translation.specs.Calls.{checkedRecords, translateRecords, translateFile};
+ghost use Rattle.translation.specs.TranslateAndRun.{checkedRecords, translateRecords, translateFile};
 ghost use Rattle.translation.specs.Templates.{wordsKept};
 ghost use Rattle.code_scope.specs.Inner.Around.{sortOf};
 ghost use Rattle.translate.specs.Inner.Walk.{Small, SmallParts, Emits, EmitsParts, Starts, EmitsFunction, Tabled, Ready, EmitsAll};

@@ -1,7 +1,7 @@
 // The translator's call from C and Rust.
 use refusal::Refusal;
 ghost use lib.ListN.{length};
-ghost use Rattle.translation.specs.Calls.{translateFile};
+ghost use Rattle.translation.specs.TranslateAndRun.{translateFile};
 ghost use Rattle.answers.specs.Fills.{Fills};
 
 // The code of a program file, 8 bytes an instruction, written to the start of `code`. The refusal's

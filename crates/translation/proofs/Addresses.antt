@@ -10,7 +10,7 @@ use lib.ListN.{length, length-append}
 use Rattle.formats.specs.Records.{nth}
 use Rattle.formats.specs.Programs.{Expr, const, var, add, ifZero, letIn, leafOf, nodeOf, caseOf, call, Args, noArgs, arg, Sort}
 use Rattle.meaning.specs.Instructions.{Instruction, Operation, instructionOf}
-use Rattle.translation.specs.Templates.{codeEnd, argsEnd, Words, code, codeArgs}
+use Rattle.translation.specs.Templates.{codeEnd, argsEnd, WordNumbers, code, codeArgs}
 
 -- ---- the address after code
 
@@ -32,7 +32,7 @@ module _ (entries : ℕ → ℕ) where
   mutual
     unfolding code codeArgs codeEnd argsEnd
 
-    span : (s : Sort) (words : Words) (w a : ℕ) (e : Expr) → Spans a (codeEnd e a) (code entries s words w a e)
+    span : (s : Sort) (words : WordNumbers) (w a : ℕ) (e : Expr) → Spans a (codeEnd e a) (code entries s words w a e)
     span s words w a (const i) = one-span (no-span _)
     span s words w a (var k) = one-span (no-span _)
     span s words w a (add p q) = join-spans (span _ _ _ _ p) (join-spans (span _ _ _ _ q) (one-span (no-span _)))
@@ -45,14 +45,14 @@ module _ (entries : ℕ → ℕ) where
         one-span (one-span (join-spans (span _ _ _ _ p) (one-span (one-span (span _ _ _ _ q)))))
     span s words w a (call k b xs) = join-spans (span-args _ _ _ xs) (one-span (no-span _))
 
-    span-args : (words : Words) (w a : ℕ) (xs : Args) → Spans a (argsEnd xs a) (codeArgs entries words w a xs)
+    span-args : (words : WordNumbers) (w a : ℕ) (xs : Args) → Spans a (argsEnd xs a) (codeArgs entries words w a xs)
     span-args words w a noArgs = no-span a
     span-args words w a (arg x xs) = join-spans (span _ _ _ _ x) (span-args _ _ _ xs)
 
-  pub length-code : (s : Sort) (words : Words) (w a : ℕ) (e : Expr) → a + length (code entries s words w a e) ≡ codeEnd e a
+  pub length-code : (s : Sort) (words : WordNumbers) (w a : ℕ) (e : Expr) → a + length (code entries s words w a e) ≡ codeEnd e a
   length-code s words w a e = span s words w a e .long
 
-  length-args : (words : Words) (w a : ℕ) (xs : Args) → a + length (codeArgs entries words w a xs) ≡ argsEnd xs a
+  length-args : (words : WordNumbers) (w a : ℕ) (xs : Args) → a + length (codeArgs entries words w a xs) ≡ argsEnd xs a
   length-args words w a xs = span-args words w a xs .long
 
 -- ---- instructions from an address on
@@ -86,13 +86,13 @@ module _ (Has : ℕ → Operation → Type 0) where
 
   -- the code of an expression, or of arguments, and what follows it
   pub at-code :
-      (entries : ℕ → ℕ) (s : Sort) (words : Words) (w a : ℕ) (e : Expr) (ys : List Operation)
+      (entries : ℕ → ℕ) (s : Sort) (words : WordNumbers) (w a : ℕ) (e : Expr) (ys : List Operation)
       → At Has a (code entries s words w a e ++ ys)
       → Split a (codeEnd e a) (code entries s words w a e) ys
   at-code entries s words w a e ys = split a (codeEnd e a) (code entries s words w a e) ys (length-code entries s words w a e)
 
   pub at-args :
-      (entries : ℕ → ℕ) (words : Words) (w a : ℕ) (xs : Args) (ys : List Operation)
+      (entries : ℕ → ℕ) (words : WordNumbers) (w a : ℕ) (xs : Args) (ys : List Operation)
       → At Has a (codeArgs entries words w a xs ++ ys)
       → Split a (argsEnd xs a) (codeArgs entries words w a xs) ys
   at-args entries words w a xs ys = split a (argsEnd xs a) (codeArgs entries words w a xs) ys (length-args entries words w a xs)

@@ -14,7 +14,7 @@ use native.Mathlib.Numerals.{add-one}
 use native.Mathlib.Omega.{arith}
 use lib.ListN.{length, drop, length-append, take-append-drop}
 use Rattle.formats.specs.Numbers.{Bytes, numberAt}
-use Rattle.formats.specs.Buffers.{Opens, Lies, one-more}
+use Rattle.formats.specs.Buffers.{Opens, BytesAt, one-more}
 use Rattle.formats.specs.Tokens.{Tree, leaf, node, Labelled, depth, labelBytes, tokens, Tag, aLeaf, aNode}
 use Rattle.formats.proofs.Numbers.{length-bytesOf}
 use Rattle.formats.proofs.Buffers.{lies-append, lies-first, lies-left, lies-part, lies-right, lies-within}
@@ -22,8 +22,8 @@ use Rattle.formats.proofs.Tokens.{Look, past, at-leaf, at-node, at-other, look,
 use Rattle.translation.proofs.Carried.{Carries, carried, a-leaf, a-node, no-tag, other-tag, label-cut}
 
 -- the same offset, written differently
-carries-position : {Faulty : Type 0} {s : List ℕ} {end p q : ℕ} {ts : List Tree} → p ≡ q → Carries Faulty s end p ts → Carries Faulty s end q ts
-carries-position {Faulty} {s} {end} {ts = ts} e h = subst (λ (k : ℕ). Carries Faulty s end k ts) e h
+carries-offset : {Faulty : Type 0} {s : List ℕ} {end p q : ℕ} {ts : List Tree} → p ≡ q → Carries Faulty s end p ts → Carries Faulty s end q ts
+carries-offset {Faulty} {s} {end} {ts = ts} e h = subst (λ (k : ℕ). Carries Faulty s end k ts) e h
 
 -- a node is carried where its parts are carried after its tag
 carries-node :
@@ -31,13 +31,13 @@ carries-node :
     → Look s p aNode
     → Carries Faulty s end (suc p) (l ∷ (r ∷ ts))
     → Carries Faulty s end p (node l r ∷ ts)
-carries-node {p = p} k h = a-node (tag-is k) (carries-position (sym (add-one p)) h)
+carries-node {p = p} k h = a-node (tag-is k) (carries-offset (sym (add-one p)) h)
 
 -- a tree that stands at an offset is carried there, in front of what is carried after it
 carries-tree :
     {Faulty : Type 0} (s : List ℕ) (end p : ℕ) (t : Tree) (ts : List Tree)
     → Labelled t
-    → Lies s p (tokens t)
+    → BytesAt s p (tokens t)
     → Carries Faulty s end (p + length (tokens t)) ts
     → Carries Faulty s end p (t ∷ ts)
 unfolding tokens depth
@@ -47,17 +47,17 @@ carries-tree s end p (leaf x) ts fits (one-more there is label) h =
     let whole : suc p + labelBytes ≤ length s = omega (arith, lies-within label there) in
     let read = sym (read-leaf 0 k) ∙ reads-at (leaf x) 0 s p fits (omega arith) (one-more there is label) in
     let same : numberAt labelBytes s (p + 1) ≡ x = rw add-one (cc (label-whole s (suc p) whole)) in
-    a-leaf (tag-is k) (omega arith) same (carries-position (omega arith) h)
+    a-leaf (tag-is k) (omega arith) same (carries-offset (omega arith) h)
 carries-tree s end p (node l r) ts fits (one-more there is more) h =
     carries-node (at-node there is)
     (carries-tree s end (suc p) l (r ∷ ts) (fits .0) (lies-left (tokens l) (tokens r) more)
     (carries-tree s end (suc p + length (tokens l)) r ts (fits .1) (lies-right (tokens l) (tokens r) more)
-    (carries-position (omega (arith, length-append (tokens l) (tokens r))) h)))
+    (carries-offset (omega (arith, length-append (tokens l) (tokens r))) h)))
 
 -- an input that opens with a tree's tokens carries that tree up to their end
 pub carries-opening : {Faulty : Type 0} (t : Tree) (rest : List ℕ) → Labelled t → Carries Faulty (tokens t ++ rest) (length (tokens t)) 0 (t ∷ [])
 carries-opening t rest fits =
-    carries-tree (tokens t ++ rest) (length (tokens t)) 0 t [] fits (lies-first (tokens t) rest) (carries-position (sym (zero-add _)) carried)
+    carries-tree (tokens t ++ rest) (length (tokens t)) 0 t [] fits (lies-first (tokens t) rest) (carries-offset (sym (zero-add _)) carried)
 
 -- What an input begins with: a tree's tokens, or some tree's tokens up to a first fault.
 pub data Begins (s : List ℕ) : Type 0 where
@@ -67,7 +67,7 @@ pub data Begins (s : List ℕ) : Type 0 where
 -- What is found at an offset: a tree that stands there, or some tree's tokens up to a first fault,
 -- whatever trees come after it.
 data Found (s : List ℕ) (p : ℕ) : Type 0 where
-  a-tree : (t : Tree) → Labelled t → Lies s p (tokens t) → Found s p
+  a-tree : (t : Tree) → Labelled t → BytesAt s p (tokens t) → Found s p
   a-fault : (t : Tree) → ((ts : List Tree) → Carries (Unit {0}) s (suc (length s)) p (t ∷ ts)) → Found s p
 
 -- at a leaf's tag
@@ -88,7 +88,7 @@ found-node : (s : List ℕ) (p : ℕ) → Look s p aNode → ((q : ℕ) → p < 
 unfolding tokens
 found-node s p (at-node there is) after = by-left (after (suc p) (omega arith))
   where
-    by-right : (l : Tree) → Labelled l → Lies s (suc p) (tokens l) → Found s (suc p + length (tokens l)) → Found s p
+    by-right : (l : Tree) → Labelled l → BytesAt s (suc p) (tokens l) → Found s (suc p + length (tokens l)) → Found s p
     by-right l fits left (a-tree r fit right) = a-tree (node l r) (fits, fit) (one-more there is (lies-append left right))
     by-right l fits left (a-fault r right) =
         a-fault (node l r) (λ ts. carries-node (at-node there is) (carries-tree s (suc (length s)) (suc p) l (r ∷ ts) fits left (right ts)))
@@ -110,7 +110,7 @@ found zero s p bs h = by-tag s p bs (λ there q later. absurd (omega arith)) (lo
 found (suc room) s p bs h = by-tag s p bs (λ there q later. found room s q bs (omega arith)) (look s p)
 
 -- what lies at offset 0 opens the buffer
-lies-opens : {vs s : List ℕ} → Lies s 0 vs → Opens vs s
+lies-opens : {vs s : List ℕ} → BytesAt s 0 vs → Opens vs s
 lies-opens {vs} {s} h = record {
   rest = drop (length vs) s;
   joined = sym (take-append-drop (length vs) s) ∙ ap (λ (l : List ℕ). l ++ drop (length vs) s) (lies-part h);

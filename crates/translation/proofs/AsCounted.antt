@@ -14,8 +14,8 @@ use Rattle.formats.specs.Programs.{Program}
 use Rattle.meaning.specs.Levels.{atLevel}
 use Rattle.formats.specs.Numbers.{bytesOf, numberAt}
 use Rattle.meaning.specs.Instructions.{Operation, Push, Get, Add, Ifnot, Jump, Slide, Drop, LeafTag, NodeTag, WriteNumber, ReadTag, ReadNumber, Call, Return}
-use Rattle.meaning.specs.Performing.{Setting, Caller, State, Step, goes, ends, refuses, room, write, onTag, takeNumber, kept, leave, operate}
-use Rattle.meaning.specs.Performing.{pushWord as pushed, openCall as calls, calling, to, writing, holding, reading, opened, standing}
+use Rattle.meaning.specs.Performing.{Setting, Caller, State, Step, goes, ends, refuses, ifRoom, write, onTag, takeNumber, kept, leave, operate}
+use Rattle.meaning.specs.Performing.{pushWord as pushed, openCall as calls, calling, goTo, writing, holding, reading, callsOpen, wordsStanding}
 use Rattle.meaning.proofs.Steps.{holds-if, holds-some, holds-one, holds-two}
 use Rattle.translation.specs.CodeLimits.{MovesWords, by-push, by-get, by-add, by-ifnot-zero, by-ifnot-other, by-jump, by-slide, by-drop, by-leaf-tag, by-node-tag, by-write-number, by-read-leaf, by-read-node, by-read-number}
 
@@ -35,18 +35,18 @@ module _ (program : Program) (m : Setting) (s : State) where
 
   -- a word pushed, bytes written
   led-push : (op : Operation) (x : ℕ) → MovesWords program op (s .address) (length (s .frame)) (suc (s .address)) (suc (length (s .frame))) → Led op (pushed m x s)
-  unfolding pushed room
-  led-push op x h = led-goes op (ltb (standing s) (m .mostWords)) (to (suc (s .address)) (holding (x ∷ s .frame) s)) cannotPerform h
+  unfolding pushed ifRoom
+  led-push op x h = led-goes op (ltb (wordsStanding s) (m .mostWords)) (goTo (suc (s .address)) (holding (x ∷ s .frame) s)) cannotPerform h
 
   led-write : (op : Operation) (bytes words : List ℕ) → MovesWords program op (s .address) (length (s .frame)) (suc (s .address)) (length words)
       → Led op (write m bytes (holding words s))
   unfolding write
   led-write op bytes words h =
-      led-goes op (leb (length (s .output) + length bytes) (m .space)) (to (suc (s .address)) (writing bytes (holding words s))) outputFull h
+      led-goes op (leb (length (s .output) + length bytes) (m .space)) (goTo (suc (s .address)) (writing bytes (holding words s))) outputFull h
 
   -- one line for each opcode; a call opens a frame, and a return leaves one
   leads-so : (op : Operation) → Led op (operate m s op)
-  unfolding operate room onTag takeNumber calls leave
+  unfolding operate ifRoom onTag takeNumber calls leave
   leads-so (Push x) = led-push (Push x) x by-push
   leads-so (Get k) = holds-some (Led (Get k)) (atLevel (s .frame) k) (λ x. pushed m x s) tt (λ x. led-push (Get k) x by-get)
   leads-so Add = holds-two (Led Add) (s .frame) _ tt (λ x y rest e c. rw e by-add)
@@ -72,13 +72,13 @@ module _ (program : Program) (m : Setting) (s : State) where
       by-tag a aNode = λ e. by-read-node
       by-tag a other = tt
   leads-so ReadNumber =
-      let read = to (suc (s .address)) (reading labelBytes (holding (numberAt labelBytes (m .input) (s .read) ∷ s .frame) s)) in
-      holds-if (Led ReadNumber) (ltb (standing s) (m .mostWords)) (takeNumber m s) (refuses cannotPerform)
+      let read = goTo (suc (s .address)) (reading labelBytes (holding (numberAt labelBytes (m .input) (s .read) ∷ s .frame) s)) in
+      holds-if (Led ReadNumber) (ltb (wordsStanding s) (m .mostWords)) (takeNumber m s) (refuses cannotPerform)
       (λ passed. led-goes ReadNumber (leb (s .read + labelBytes) (length (m .input))) read inputEnded by-read-number)
       tt
   leads-so (Call b n) =
       holds-if (Led (Call b n)) (leb n (length (s .frame))) (calls m b n s) (refuses cannotPerform)
-      (λ passed. no-call b n (ltb (opened s) (m .mostOpen))) tt
+      (λ passed. no-call b n (ltb (callsOpen s) (m .mostOpen))) tt
     where
       no-call : (b n : ℕ) (test : Bool)
           → Led (Call b n) (elim test [ true ↦ goes (calling b (take n (s .frame)) (drop-words n (s .frame)) s) | false ↦ refuses tooManyCalls ])

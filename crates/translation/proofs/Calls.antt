@@ -10,11 +10,11 @@ use lib.Dec.{leb}
 use lib.ListN.{length, length-map}
 use Rattle.formats.specs.Numbers.{Bytes}
 use Rattle.formats.specs.Refusals.{spaceTooShort}
-use Rattle.formats.specs.Results.{Result, done, refusal, andThen, onValue, verdict, check}
+use Rattle.formats.specs.Results.{Result, done, refusal, andThen, onValue, verdict, valueIf}
 use Rattle.formats.specs.Tokens.{Tree, Labelled, tokens}
 use Rattle.formats.specs.Programs.{Program, Lawful}
 use Rattle.formats.specs.Rows.{readProgram}
-use Rattle.formats.specs.Blocks.{flatIn, programIn, inRoom, lent}
+use Rattle.formats.specs.Blocks.{flatIn, programIn, inRoom, bufferAfter}
 use Rattle.formats.proofs.Results.{byResult, then-done, then-refused, then-inv, value-inv, check-inv, passed-is, refused-is}
 use Rattle.formats.proofs.ProgramFiles.{program-files}
 use Rattle.formats.proofs.Records.{length-flat}
@@ -25,7 +25,7 @@ use Rattle.meaning.specs.Running.{Answer, Ran, valueWords, returnWords, streamR
 use Rattle.meaning.specs.Instructions.{instructionBytes, mostInstructions, instructionOf}
 use Rattle.translation.specs.Templates.{operationsOf, codeOf}
 use Rattle.translation.specs.Demand3.{Given, runOn}
-use Rattle.translation.specs.Calls.{checkedRecords, translateRecords, translateFile, prepared, refusedBefore, runFile, ProgramRan, Ready}
+use Rattle.translation.specs.TranslateAndRun.{checkedRecords, translateRecords, translateFile, prepared, refusedBefore, runFile, FileRan, Ready}
 use Rattle.translation.specs.Listing.{NeverShort}
 use Rattle.translation.specs.ThisCall.{ThisCall, AnyCall, ProgramRun, AllRunnable}
 use Rattle.translation.proofs.CodeLimits.{code-limits}
@@ -93,9 +93,9 @@ module _ (room values returns : ℕ) (file : List ℕ) where
       ap (λ r. andThen r then-words) (t .is) ∙ by (leb (length (t .code)) room)
     where
       then-words : List ℕ → Result (List ℕ)
-      then-words code = check (leb valueWords values && leb returnWords returns) spaceTooShort 0 code
+      then-words code = valueIf (leb valueWords values && leb returnWords returns) spaceTooShort 0 code
 
-      by : (b : Bool) → andThen (check b spaceTooShort 0 (is-translated room file e .code)) then-words ≡ refusal spaceTooShort 0
+      by : (b : Bool) → andThen (valueIf b spaceTooShort 0 (is-translated room file e .code)) then-words ≡ refusal spaceTooShort 0
       by true = rw short
       by false = refl
 
@@ -131,7 +131,7 @@ module _ (file input output code : List ℕ) (fuel values returns : ℕ) where
       ≡ record {
         answer = streamRun bytes input output fuel values returns .answer;
         output = streamRun bytes input output fuel values returns .output;
-        code = lent code (done bytes);
+        code = bufferAfter code (done bytes);
       }
   unfolding runFile
   called-runs bytes e = rw (e, runFile)
@@ -180,10 +180,10 @@ module _ (file code : List ℕ) (values returns : ℕ) (bytes : Bytes file) (pro
   -- so is what the definition of the call gives
   ready-called : (input output : List ℕ) (fuel : ℕ)
       → runFile file input output code fuel values returns
-      ≡ record { answer = ranOn input output fuel .answer; output = ranOn input output fuel .output; code = lent code (done (codeOf program)) }
+      ≡ record { answer = ranOn input output fuel .answer; output = ranOn input output fuel .output; code = bufferAfter code (done (codeOf program)) }
   ready-called input output fuel =
       called-runs file input output code fuel values returns (codeOf program) ready-prepared
-      ∙ ap (λ (r : Ran). record { answer = r .answer; output = r .output; code = lent code (done (codeOf program)) }) (as-run input output fuel)
+      ∙ ap (λ (r : Ran). record { answer = r .answer; output = r .output; code = bufferAfter code (done (codeOf program)) }) (as-run input output fuel)
 
   -- demand 3 about this call
   module _ (t : Tree) (labelled : Labelled t) (rest output : List ℕ) (fuel : ℕ) where
@@ -199,8 +199,8 @@ module _ (file code : List ℕ) (values returns : ℕ) (bytes : Bytes file) (pro
           written-opening = holds .written-opening rest output fuel;
           written-no-more = holds .written-no-more rest output fuel;
           none-other = holds .none-other rest output fuel;
-          same-answer = ap (λ (r : Ran). r .answer) alone ∙ ap (λ (r : ProgramRan). r .answer) (sym (ready-called (tokens t) output fuel));
-          same-output = ap (λ (r : Ran). r .output) alone ∙ ap (λ (r : ProgramRan). r .output) (sym (ready-called (tokens t) output fuel));
+          same-answer = ap (λ (r : Ran). r .answer) alone ∙ ap (λ (r : FileRan). r .answer) (sym (ready-called (tokens t) output fuel));
+          same-output = ap (λ (r : Ran). r .output) alone ∙ ap (λ (r : FileRan). r .output) (sym (ready-called (tokens t) output fuel));
           suffices = λ n v ends enough space. holds .suffices n v ends rest output fuel enough space;
           none-suffices = λ none. holds .none-suffices none rest output fuel;
         }
@@ -220,10 +220,10 @@ module _ (file code : List ℕ) (values returns : ℕ) (bytes : Bytes file) (pro
       (answered : answer ≡ runFile file input output code fuel values returns .answer)
       (left : after ≡ runFile file input output code fuel values returns .output) where
     its-answer : answer ≡ ranOn input output fuel .answer
-    its-answer = answered ∙ ap (λ (r : ProgramRan). r .answer) (ready-called input output fuel)
+    its-answer = answered ∙ ap (λ (r : FileRan). r .answer) (ready-called input output fuel)
 
     its-output : after ≡ ranOn input output fuel .output
-    its-output = left ∙ ap (λ (r : ProgramRan). r .output) (ready-called input output fuel)
+    its-output = left ∙ ap (λ (r : FileRan). r .output) (ready-called input output fuel)
 
     this-call : (t : Tree) (rest : List ℕ) → Labelled t → input ≡ tokens t ++ rest
         → ThisCall program t rest output fuel (runFile file (tokens t) output code fuel values returns) answer after

@@ -11,7 +11,7 @@ use Rattle.formats.specs.Numbers.{numberAt}
 use Rattle.formats.specs.Tokens.{Tree, leaf, node, labelBytes, noByte, aLeaf, aNode, other, tagAt}
 use Rattle.meaning.specs.Levels.{atLevel}
 use Rattle.meaning.proofs.Levels.{level-newest, level-kept}
-use Rattle.translation.specs.Templates.{Words, wordOf, firstWords}
+use Rattle.translation.specs.Templates.{WordNumbers, wordOf, firstWords}
 use Rattle.translation.proofs.InOrder.{Tail, all-left, one-taken}
 
 -- ---- entries by their numbers
@@ -49,7 +49,7 @@ picks-tail {ys = ys} all-left h = record { entries = ys; picks = h }
 picks-tail (one-taken t) (picked e h) = picks-tail t h
 
 -- a name's number stands on its word
-pub on-its-word : {frame : List ℕ} {words : Words} {numbers : List ℕ} (a i : ℕ) → Picks frame words numbers → atLevel numbers a ≡ some i
+pub on-its-word : {frame : List ℕ} {words : WordNumbers} {numbers : List ℕ} (a i : ℕ) → Picks frame words numbers → atLevel numbers a ≡ some i
     → atLevel frame (wordOf words a) ≡ some i
 unfolding atLevel wordOf
 on-its-word a i none-picked e = absurd (Option·none-ne-some i e)

@@ -15,15 +15,15 @@ use Rattle.formats.specs.Written.{written}
 use Rattle.formats.specs.Characters.{ascii}
 use Rattle.formats.specs.Decimal.{digits, decimal}
 use Rattle.formats.proofs.ProgramCases.{grow}
-use Rattle.rules.specs.Types.{isInt, isTree, fits, resultType}
+use Rattle.rules.specs.Types.{isInt, isOutputTree, hasType, resultType}
 use Rattle.rules.specs.Scopes.{inside, startOf, entered, enteredArgs, enteredAll}
-use Rattle.rules.specs.PassOne.{named, typed, bareNumber, wordsTested, roomy, atEntry, passOver, passOne}
+use Rattle.rules.specs.PassOne.{nameBound, typeFits, bareNumber, wordsTested, hasRoom, atEntry, passOver, passOne}
 use Rattle.rules.specs.PassTwo.{takeHead, sameNames, equalBranches, walk, walkArgs, noneLeft, walkAll, passTwo, bothPasses}
 use Rattle.rules.proofs.Cases.{numbered, treed, programOf, on, with-one}
 use Rattle.meaning.specs.Levels.{atLevel}
 use Rattle.meaning.specs.Instructions.{Operation, Push, Get, Add, Ifnot, Jump, Slide, Drop, LeafTag, NodeTag, WriteNumber, ReadTag, ReadNumber, Call, Return}
 use Rattle.meaning.specs.Instructions.{heldBy, operations, operationOf, instructionOf}
-use Rattle.meaning.specs.Performing.{wordsBelow, standing, opened, one, two, room, pushWord, write}
+use Rattle.meaning.specs.Performing.{wordsBelow, wordsStanding, callsOpen, popOne, popTwo, ifRoom, pushWord, write}
 use Rattle.meaning.specs.Performing.{onTag, takeNumber, openCall, kept, numberKept, leave, operate, perform, step}
 use Rattle.meaning.specs.Running.{Ran, run, outcomeOf, numberReported, streamRun, valueWords, returnWords}
 use Rattle.meaning.specs.Evaluation.{tree, branch, inBranch, Const as Literal, Var as Named, Add as Plus, Leaf as LeafOf, Case as CaseOn, Ends, caseUnits, counted}
@@ -150,7 +150,7 @@ as-listed = refl
 
 -- both passes accept these programs
 all-pass : map (λ l. bothPasses (l .of)) listings ≡ replicate 11 (done tt)
-unfolding bothPasses passOne passOver atEntry roomy wordsTested bareNumber typed named enteredAll entered enteredArgs inside startOf passTwo walkAll noneLeft walk walkArgs equalBranches sameNames takeHead resultType isInt isTree fits size prefix prefixes nth signatureOf grow sum again numbered treed programOf on on-two summing growing zero-counted zero-marked let-number let-tree under-temporary three-functions names-in-parts doubled as-written with-one lists listings
+unfolding bothPasses passOne passOver atEntry hasRoom wordsTested bareNumber typeFits nameBound enteredAll entered enteredArgs inside startOf passTwo walkAll noneLeft walk walkArgs equalBranches sameNames takeHead resultType isInt isOutputTree hasType size prefix prefixes nth signatureOf grow sum again numbered treed programOf on on-two summing growing zero-counted zero-marked let-number let-tree under-temporary three-functions names-in-parts doubled as-written with-one lists listings
 all-pass = refl
 
 -- Grow's code: 8 bytes for each instruction.
@@ -217,7 +217,7 @@ runs =
     ∷ []
 
 as-reported : map ranOn runs ≡ map (λ r. r .gives) runs
-unfolding streamRun run step perform operate heldBy operationOf operations instructionOf nth recordAt flat bytesOfRecord bytesOf numberOf numberAt sum32 tagAt tagOf written standing wordsBelow opened atLevel one two room pushWord write onTag takeNumber openCall kept numberKept leave outcomeOf numberReported blank ended-with refused-with tokens two-leaves codeOf operationsOf entryOf functionsCode entryFrom functionEnd functionCode wordsKept code codeArgs endOf firstWords wordOf codeEnd argsEnd countArgs grow sum again numbered treed programOf on on-two summing growing zero-counted zero-marked let-number let-tree under-temporary three-functions names-in-parts doubled as-written with-one row ranOn runs
+unfolding streamRun run step perform operate heldBy operationOf operations instructionOf nth recordAt flat bytesOfRecord bytesOf numberOf numberAt sum32 tagAt tagOf written wordsStanding wordsBelow callsOpen atLevel popOne popTwo ifRoom pushWord write onTag takeNumber openCall kept numberKept leave outcomeOf numberReported blank ended-with refused-with tokens two-leaves codeOf operationsOf entryOf functionsCode entryFrom functionEnd functionCode wordsKept code codeArgs endOf firstWords wordOf codeEnd argsEnd countArgs grow sum again numbered treed programOf on on-two summing growing zero-counted zero-marked let-number let-tree under-temporary three-functions names-in-parts doubled as-written with-one row ranOn runs
 as-reported = refl
 
 -- ---- units

@@ -15,7 +15,7 @@ use Rattle.formats.proofs.Results.{done-not}
 use Rattle.meaning.specs.Instructions.{heldBy}
 use Rattle.meaning.specs.Performing.{Setting, State, start}
 use Rattle.meaning.specs.Running.{Stop, ended, refused, Run, run, unitsOf, outcomeOf, Ran, ranTo, mostCalls, ofCode, streamRun}
-use Rattle.meaning.specs.StreamRun.{Calls}
+use Rattle.meaning.specs.StreamRun.{StreamCalls}
 use Rattle.meaning.specs.Running.{writtenBy}
 use Rattle.meaning.proofs.Calls.{written-ran}
 use Rattle.meaning.proofs.Proper.{proper}
@@ -83,7 +83,7 @@ module _ (given : Given) where
   call-writes input output fuel = ap writtenBy (call-runs input output fuel) ∙ written-ran runs code output input fuel
 
   -- what holds of every call
-  pub calls : (output : List ℕ) → Calls output (λ input fuel. runOn given input output fuel)
+  pub calls : (output : List ℕ) → StreamCalls output (λ input fuel. runOn given input output fuel)
   calls output = stream-run .calls code output values returns
 
   pub runnable : Runnable program (heldBy code)

@@ -14,14 +14,14 @@ use Rattle.formats.specs.Programs.{Expr, const, var, add, ifZero, letIn, leafOf
 use Rattle.formats.specs.Programs.{Sort, numberValued, treeValued, Function, signatureOf, Program, signatures, Every}
 use Rattle.formats.proofs.Records.{nth-map}
 use Rattle.formats.proofs.Programs.{every-left, every-right}
-use Rattle.rules.specs.Types.{Ty, resultType, fits}
+use Rattle.rules.specs.Types.{Ty, resultType, hasType}
 use Rattle.rules.specs.Scopes.{Scope, scope, inside, startOf, entered, enteredArgs, enteredAll}
-use Rattle.rules.specs.PassOne.{typed}
+use Rattle.rules.specs.PassOne.{typeFits}
 use Rattle.rules.specs.OrderChecker.{firstNode}
 use Rattle.rules.proofs.PassOne.{fits-is}
 use Rattle.meaning.specs.Instructions.{Push, Get, Add, Ifnot, Jump, LeafTag, NodeTag, WriteNumber, ReadTag, ReadNumber, Call, Return}
 use Rattle.meaning.proofs.Proper.{sort-by-type}
-use Rattle.translation.specs.Templates.{codeEnd, argsEnd, Words, endOf, code, codeArgs, wordsKept, entryOf}
+use Rattle.translation.specs.Templates.{codeEnd, argsEnd, WordNumbers, endOf, code, codeArgs, wordsKept, entryOf}
 use Rattle.translation.specs.CodeLimits.{Sound}
 use Rattle.translation.proofs.Addresses.{At, at-code, at-args}
 use Rattle.translation.proofs.CodeStands.{Holds, code-stands}
@@ -92,7 +92,7 @@ mutual
         → CodedArgs program (arg x xs) a c
 
 -- a value's sort is known by the test of its type
-fits-sort : (u s : Sort) → fits u (resultType s) ≡ true → s ≡ u
+fits-sort : (u s : Sort) → hasType u (resultType s) ≡ true → s ≡ u
 fits-sort u s e = sort-by-type s u (fits-is u (resultType s) e)
 
 -- ---- from sound records, with code by the templates
@@ -110,21 +110,21 @@ module _ (program : Program) where
   pub record Called (τ : Ty) (k : ℕ) : Type 0 where
     pub function : Function
     pub known : nth (program .functions) k ≡ some function
-    pub right : fits (function .sort) τ ≡ true
+    pub right : hasType (function .sort) τ ≡ true
 
-  pub called : (g n w v k : ℕ) (τ : Ty) → typed (signatures program) (scope g n w τ) (CallRecord v k) ≡ true → Called τ k
-  unfolding typed signatureOf
+  pub called : (g n w v k : ℕ) (τ : Ty) → typeFits (signatures program) (scope g n w τ) (CallRecord v k) ≡ true → Called τ k
+  unfolding typeFits signatureOf
   called g n w v k τ e = by-function (nth (program .functions) k) refl
     where
       by-function : (o : Option Function) → nth (program .functions) k ≡ o → Called τ k
-      by-function none h = absurd (false≢true (rw (nth-map signatureOf (program .functions) k, h, typed) at e))
-      by-function (some f) h = record { function = f; known = h; right = rw (nth-map signatureOf (program .functions) k, h, typed) at e }
+      by-function none h = absurd (false≢true (rw (nth-map signatureOf (program .functions) k, h, typeFits) at e))
+      by-function (some f) h = record { function = f; known = h; right = rw (nth-map signatureOf (program .functions) k, h, typeFits) at e }
 
   -- expression by expression: w words in pass one's scope, v in the templates'
   mutual
-    unfolding entered inside typed code codeArgs codeEnd argsEnd enteredArgs resultType fits
+    unfolding entered inside typeFits code codeArgs codeEnd argsEnd enteredArgs resultType hasType
 
-    coded : (g n w r : ℕ) (s : Sort) (words : Words) (v a : ℕ) (e : Expr)
+    coded : (g n w r : ℕ) (s : Sort) (words : WordNumbers) (v a : ℕ) (e : Expr)
         → SoundIn (scope g n w (resultType s)) r e
         → At (Holds program) a (code (entryOf program) s words v a e)
         → Coded program s e a (codeEnd e a)
@@ -184,7 +184,7 @@ module _ (program : Program) where
         (coded-call (f .known) (coded-args g n w (suc r) (resultType s) k b 0 words v a xs (h .1) (first .first)) (first .then .0))
 
     -- a Call's arguments from part i on, where τ is expected of the Call
-    coded-args : (g n w r : ℕ) (τ : Ty) (k b i : ℕ) (words : Words) (v a : ℕ) (xs : Args)
+    coded-args : (g n w r : ℕ) (τ : Ty) (k b i : ℕ) (words : WordNumbers) (v a : ℕ) (xs : Args)
         → SoundArgs (CallRecord k b) i (scope g n w τ) r xs
         → At (Holds program) a (codeArgs (entryOf program) words v a xs)
         → CodedArgs program xs a (argsEnd xs a)

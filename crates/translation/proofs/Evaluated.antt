@@ -14,7 +14,7 @@ use Rattle.formats.specs.Tokens.{Tree}
 use Rattle.formats.specs.Records.{nth}
 use Rattle.formats.specs.Programs.{Sort, numberValued, treeValued, Function, Program, signatures}
 use Rattle.meaning.specs.Instructions.{Instruction, Return}
-use Rattle.meaning.specs.Performing.{Setting, Caller, State, start, wordsBelow, opened, ends, step, kept, numberKept, leave, operate}
+use Rattle.meaning.specs.Performing.{Setting, Caller, State, start, wordsBelow, callsOpen, ends, step, kept, numberKept, leave, operate}
 use Rattle.meaning.specs.Evaluation.{inCall, resultNumber}
 use Rattle.meaning.specs.OpenCalls.{evaluate, called, evaluation}
 use Rattle.meaning.proofs.Levels.{level-newest}
@@ -100,7 +100,7 @@ module _ (Faulty : Type 0) (m : Setting) (program : Program) (end : ℕ) (wide :
 
   -- calls keep up
   keeps-calls : (k : ℕ) → SimCalls Faulty m program end wide k
-  unfolding called opened wordsBelow
+  unfolding called callsOpen wordsBelow
   keeps-calls zero b f numbers t beyond s a read known next carries under few q =
       goes-stuck Faulty m q
       (refused-at-once _

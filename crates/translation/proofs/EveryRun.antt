@@ -24,7 +24,7 @@ use Rattle.meaning.specs.Evaluation.{Value, number, tree, Ends, resultBytes}
 use Rattle.meaning.specs.Meaning.{OfSort}
 use Rattle.meaning.proofs.Meaning.{meaning}
 use Rattle.translation.specs.Demand3.{Given, runOn}
-use Rattle.translation.specs.EveryRun.{RefusedAfter, evaluationUnits, Refused18, EveryRun, EveryRunHolds}
+use Rattle.translation.specs.EveryRun.{RefusedAfterUnits, evaluationUnits, StreamTooManyCalls, EveryRun, EveryRunHolds}
 use Rattle.translation.specs.EndedRuns.{Meant, OneForOne}
 use Rattle.translation.proofs.AnyInput.{with-tree, with-fault, begins}
 use Rattle.translation.proofs.Bodies.{passes-one}
@@ -58,7 +58,7 @@ module _ (given : Given) where
       (input output : List ℕ) (fuel why units : ℕ)
       → runOf given input output fuel .stop ≡ refused why
       → unitsOfRun (runOf given input output fuel) ≡ units
-      → RefusedAfter units why (runOn given input output fuel)
+      → RefusedAfterUnits units why (runOn given input output fuel)
   unfolding outcomeOf
   refused-after input output fuel why units stops spent =
       record { outcome = call-outcome given input output fuel stops; counted = call-units given input output fuel ∙ spent }
@@ -71,7 +71,7 @@ module _ (given : Given) where
       → Labelled t
       → length (resultBytes v) ≤ length output
       → fuel < evaluationUnits evaluated
-      → RefusedAfter fuel fuelUsedUp (runOn given (tokens t ++ rest) output fuel)
+      → RefusedAfterUnits fuel fuelUsedUp (runOn given (tokens t ++ rest) output fuel)
   fuel-short t n v evaluated rest output fuel labelled fits short =
       let e = ending given t labelled n v evaluated rest output fuel in
       let same = ap length (e .bytes) in
@@ -102,7 +102,7 @@ module _ (given : Given) where
   -- ---- a call too many
 
   -- with enough fuel and space the run comes to it
-  stuck-at-call : (t : Tree) → Labelled t → Course (on given (tokens t ++ [])) start (refused tooManyCalls) → Refused18 t (runOn given)
+  stuck-at-call : (t : Tree) → Labelled t → Course (on given (tokens t ++ [])) start (refused tooManyCalls) → StreamTooManyCalls t (runOn given)
   stuck-at-call t labelled c = record {
     units = c .units + c .counts;
     space = length (c .last .output);
@@ -118,7 +118,7 @@ module _ (given : Given) where
         ]);
   }
 
-  too-many : (t : Tree) → Labelled t → ((n : ℕ) (v : Value) → Ends program t mostCalls n v → ⊥) → Refused18 t (runOn given)
+  too-many : (t : Tree) → Labelled t → ((n : ℕ) (v : Value) → Ends program t mostCalls n v → ⊥) → StreamTooManyCalls t (runOn given)
   too-many t labelled never = elim (course given t labelled []) [
     | ends-so n v evaluated c units counts bytes read ↦ absurd (never n v evaluated)
     | sticks-so never′ c ↦ stuck-at-call t labelled c

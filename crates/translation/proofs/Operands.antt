@@ -15,13 +15,13 @@ use native.Mathlib.Omega.{arith}
 use lib.ListN.{length, length-append}
 use Rattle.formats.specs.Records.{Ranged, nth}
 use Rattle.formats.specs.Programs.{Expr, const, var, add, ifZero, letIn, leafOf, nodeOf, caseOf, call, Args, noArgs, arg, prefix, prefixes, size}
-use Rattle.formats.specs.Programs.{Applied, AppliedArgs, Sort, numberValued, treeValued, Signature, arityOf, total, Function, signatureOf}
+use Rattle.formats.specs.Programs.{CallsComplete, ArgsComplete, Sort, numberValued, treeValued, Signature, arityOf, sumOfCounts, Function, signatureOf}
 use Rattle.formats.specs.Programs.{Program, signatures, mostParameters, InRange, Every, LawfulFunctions, Lawful}
 use Rattle.formats.proofs.Programs.{every-append, every-left, every-right}
 use Rattle.meaning.specs.Levels.{atLevel}
 use Rattle.meaning.specs.Instructions.{Operation, Return, instructionOf, mostInstructions}
 use Rattle.meaning.proofs.Levels.{level-every}
-use Rattle.translation.specs.Templates.{codeEnd, argsEnd, Words, wordOf, firstWords, endOf, code, codeArgs, wordsKept}
+use Rattle.translation.specs.Templates.{codeEnd, argsEnd, WordNumbers, wordOf, firstWords, endOf, code, codeArgs, wordsKept}
 use Rattle.translation.specs.Templates.{functionCode, functionEnd, entryFrom, functionsCode, entryOf, operationsOf}
 use Rattle.translation.proofs.Addresses.{length-code}
 
@@ -70,8 +70,8 @@ module _ (entries : ℕ → ℕ) where
       omega (arith, length-append (functionCode entries a f) (functionsCode entries (functionEnd f a) fs), length-function a f)
 
   -- functions have at most four instructions for each record, and one more each
-  few-in-functions : (a : ℕ) (fs : List Function) → length (functionsCode entries a fs) ≤ 4 * total (map signatureOf fs) + length fs
-  unfolding functionsCode functionEnd total signatureOf size
+  few-in-functions : (a : ℕ) (fs : List Function) → length (functionsCode entries a fs) ≤ 4 * sumOfCounts (map signatureOf fs) + length fs
+  unfolding functionsCode functionEnd sumOfCounts signatureOf size
   few-in-functions a [] = le-refl _
   few-in-functions a (f ∷ fs) = omega (arith, length-functions a f fs, ends (f .body) a, few-in-functions (functionEnd f a) fs)
 
@@ -94,7 +94,7 @@ abbrev Small : ℕ → Type 0
 Small k = k < 2 ^ 16
 
 -- the word of a name is small where those of all names are
-word-small : (words : Words) (k : ℕ) → Every Small words → Small (wordOf words k)
+word-small : (words : WordNumbers) (k : ℕ) → Every Small words → Small (wordOf words k)
 unfolding wordOf
 word-small words k h = by-name (atLevel words k) refl
   where
@@ -168,12 +168,12 @@ module _
       unfolding code codeArgs codeEnd argsEnd prefix prefixes instructionOf
 
       fits :
-          (s : Sort) (words : Words) (w a : ℕ) (e : Expr)
+          (s : Sort) (words : WordNumbers) (w a : ℕ) (e : Expr)
           → Every Small words
           → w ≤ a + mostArguments
           → codeEnd e a ≤ mostInstructions
           → Every (InRange (length gs)) (prefix e)
-          → Applied (arityOf gs) e
+          → CallsComplete (arityOf gs) e
           → Fit (code entries s words w a e)
       fits s words w a (const i) small above below ranged applied = one-fit (omega (arith, ranged .0)) no-fit
       fits s words w a (var k) small above below ranged applied = one-fit (omega (arith, word-small words k small)) no-fit
@@ -228,12 +228,12 @@ module _
           (one-fit (omega (arith, applied .0, few b, within b)) no-fit)
 
       fits-args :
-          (words : Words) (w a : ℕ) (xs : Args)
+          (words : WordNumbers) (w a : ℕ) (xs : Args)
           → Every Small words
           → w ≤ a + mostArguments
           → argsEnd xs a ≤ mostInstructions
           → Every (InRange (length gs)) (prefixes xs)
-          → AppliedArgs (arityOf gs) xs
+          → ArgsComplete (arityOf gs) xs
           → Fit (codeArgs entries words w a xs)
       fits-args words w a noArgs small above below ranged applied = no-fit
       fits-args words w a (arg x xs) small above below ranged applied =

@@ -14,8 +14,8 @@ use Rattle.formats.specs.Refusals.{inputEnded, notATag, tooManyCalls}
 use Rattle.formats.specs.Tokens.{leafTag, nodeTag, labelBytes, noByte, aLeaf, aNode, other, tagAt}
 use Rattle.meaning.specs.Levels.{atLevel}
 use Rattle.meaning.specs.Instructions.{Operation, Push, Get, Add, Ifnot, Jump, Slide, Drop, LeafTag, NodeTag, WriteNumber, ReadTag, ReadNumber, Call}
-use Rattle.meaning.specs.Performing.{Setting, Caller, State, standing, opened, goes, refuses}
-use Rattle.meaning.specs.Performing.{one, two, room, pushWord, write, onTag, takeNumber, openCall, operate, perform, step}
+use Rattle.meaning.specs.Performing.{Setting, Caller, State, wordsStanding, callsOpen, goes, refuses}
+use Rattle.meaning.specs.Performing.{popOne, popTwo, ifRoom, pushWord, write, onTag, takeNumber, openCall, operate, perform, step}
 use Rattle.meaning.proofs.StreamRun.{stream-run}
 use Rattle.translation.proofs.Addresses.{Held}
 use Rattle.translation.proofs.Paths.{withSpace, Path, one-step}
@@ -53,11 +53,11 @@ moved a words s = record { address = a; frame = words; callers = s .callers; rea
 module _ (m : Setting) (s : State) where
   -- There is room for one word more.
   abbrev Roomy : Type 0
-  Roomy = standing s < m .mostWords
+  Roomy = wordsStanding s < m .mostWords
 
   push-goes : (space x : ℕ) → Roomy → pushWord (withSpace space m) x s ≡ goes (moved (suc (s .address)) (x ∷ s .frame) s)
-  unfolding pushWord room
-  push-goes space x fits = simp (pushWord, room, lt-ltb _ _ fits)
+  unfolding pushWord ifRoom
+  push-goes space x fits = simp (pushWord, ifRoom, lt-ltb _ _ fits)
 
   pub does-push : (i : ℕ) → Next m s (Push i) → Roomy → Path m s (moved (suc (s .address)) (i ∷ s .frame) s) 1
   unfolding operate
@@ -73,25 +73,25 @@ module _ (m : Setting) (s : State) where
 
   pub does-add : (i j : ℕ) (rest : List ℕ) → Next m s Add → s .frame ≡ j ∷ (i ∷ rest)
       → Path m s (moved (suc (s .address)) (sum32 i j ∷ rest) s) 1
-  unfolding operate two one
+  unfolding operate popTwo popOne
   does-add i j rest h e = performs-dry m s _ _ h refl (λ space. rw (e, operate) refl)
 
   pub does-slide : (i j : ℕ) (rest : List ℕ) → Next m s Slide → s .frame ≡ j ∷ (i ∷ rest) → Path m s (moved (suc (s .address)) (j ∷ rest) s) 1
-  unfolding operate two one
+  unfolding operate popTwo popOne
   does-slide i j rest h e = performs-dry m s _ _ h refl (λ space. rw (e, operate) refl)
 
   pub does-drop : (i : ℕ) (rest : List ℕ) → Next m s Drop → s .frame ≡ i ∷ rest → Path m s (moved (suc (s .address)) rest s) 1
-  unfolding operate one
+  unfolding operate popOne
   does-drop i rest h e = performs-dry m s _ _ h refl (λ space. rw (e, operate) refl)
 
   -- 01, Opcodes: "ifnot (pop; nonzero goes to operand)"
   pub does-ifnot-zero : (a : ℕ) (rest : List ℕ) → Next m s (Ifnot a) → s .frame ≡ zero ∷ rest → Path m s (moved (suc (s .address)) rest s) 1
-  unfolding operate one
+  unfolding operate popOne
   does-ifnot-zero a rest h e = performs-dry m s _ _ h refl (λ space. rw (e, operate) refl)
 
   pub does-ifnot-other : (a i : ℕ) (rest : List ℕ) → Next m s (Ifnot a) → s .frame ≡ suc i ∷ rest → Path m s (moved a rest s) 1
-  unfolding operate one
-  does-ifnot-other a i rest h e = performs-dry m s _ _ h refl (λ space. simp (operate, one, e, ne-eqb (suc i) 0 (λ z. absurd (omega arith))))
+  unfolding operate popOne
+  does-ifnot-other a i rest h e = performs-dry m s _ _ h refl (λ space. simp (operate, popOne, e, ne-eqb (suc i) 0 (λ z. absurd (omega arith))))
 
   -- ---- the output
 
@@ -118,7 +118,7 @@ module _ (m : Setting) (s : State) where
   does-node-tag h = writes NodeTag (s .frame) (nodeTag ∷ []) h (λ space. refl)
 
   pub does-write-number : (i : ℕ) (rest : List ℕ) → Next m s WriteNumber → s .frame ≡ i ∷ rest → Path m s (written rest (bytesOf labelBytes i)) 1
-  unfolding operate one
+  unfolding operate popOne
   does-write-number i rest h e = writes WriteNumber rest (bytesOf labelBytes i) h (λ space. rw (e, operate) refl)
 
   -- ---- the input
@@ -138,9 +138,9 @@ module _ (m : Setting) (s : State) where
   pub does-read-number : (x : ℕ) → Next m s ReadNumber → Roomy → s .read + labelBytes ≤ length (m .input)
       → numberAt labelBytes (m .input) (s .read) ≡ x
       → Path m s (reads (suc (s .address)) (x ∷ s .frame) labelBytes) 1
-  unfolding operate room takeNumber
+  unfolding operate ifRoom takeNumber
   does-read-number x h fits there e =
-      performs-dry m s _ _ h refl (λ space. simp (operate, room, takeNumber, lt-ltb _ _ fits, le-leb _ _ there, e))
+      performs-dry m s _ _ h refl (λ space. simp (operate, ifRoom, takeNumber, lt-ltb _ _ fits, le-leb _ _ there, e))
 
   -- ---- faults of the input
 
@@ -154,9 +154,9 @@ module _ (m : Setting) (s : State) where
 
   pub label-cut-there : (space : ℕ) → Next m s ReadNumber → Roomy → length (m .input) < s .read + labelBytes
       → step (withSpace space m) s ≡ refuses inputEnded
-  unfolding operate room takeNumber
+  unfolding operate ifRoom takeNumber
   label-cut-there space h fits short =
-      step-is (withSpace space m) s _ h ∙ simp (operate, room, takeNumber, lt-ltb _ _ fits, lt-leb _ _ short)
+      step-is (withSpace space m) s _ h ∙ simp (operate, ifRoom, takeNumber, lt-ltb _ _ fits, lt-leb _ _ short)
 
   -- ---- calls
 
@@ -175,7 +175,7 @@ module _ (m : Setting) (s : State) where
       step-is (withSpace space m) s _ h ∙ simp (operate, le-leb (length arguments) (length (s .frame)) (omega arith))
 
   pub does-call : (entry : ℕ) (arguments rest : List ℕ) → Next m s (Call entry (length arguments)) → s .frame ≡ arguments ++ rest
-      → opened s < m .mostOpen
+      → callsOpen s < m .mostOpen
       → Path m s (inside entry arguments rest) 1
   unfolding openCall
   does-call entry arguments rest h e few =
@@ -183,7 +183,7 @@ module _ (m : Setting) (s : State) where
       (λ space fits. called entry space arguments rest h e ∙ simp (openCall, lt-ltb _ _ few, e, take-append-seam arguments rest, drop-append-seam arguments rest))
 
   pub one-call-more : (entry space : ℕ) (arguments rest : List ℕ) → Next m s (Call entry (length arguments)) → s .frame ≡ arguments ++ rest
-      → m .mostOpen ≤ opened s
+      → m .mostOpen ≤ callsOpen s
       → step (withSpace space m) s ≡ refuses tooManyCalls
   unfolding openCall
   one-call-more entry space arguments rest h e many = called entry space arguments rest h e ∙ simp (openCall, le-ltb _ _ many)

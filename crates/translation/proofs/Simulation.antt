@@ -27,7 +27,7 @@ use Rattle.rules.specs.Limits.{mostFrameWords}
 use Rattle.rules.specs.PassTwo.{walk, walkArgs}
 use Rattle.rules.proofs.Words.{words-call, words-least, words-least-args}
 use Rattle.meaning.specs.Instructions.{Operation, Jump, Call}
-use Rattle.meaning.specs.Performing.{Setting, Caller, State, wordsBelow, standing}
+use Rattle.meaning.specs.Performing.{Setting, Caller, State, wordsBelow, wordsStanding}
 use Rattle.meaning.specs.Evaluation.{Environment, treeNamed, withNumber, withTrees, inCall, picked, branch, inBranch, resultNumber}
 use Rattle.meaning.specs.Evaluation.{Takes, Const, Var, Add as Plus, IfZero, Let, Leaf, Node, Case, Call as Calls}
 use Rattle.meaning.specs.Evaluation.{TakesArgs, no-more, one-more, counted, unitsIn, ifZeroUnits, caseUnits}
@@ -37,7 +37,7 @@ use Rattle.meaning.proofs.Levels.{level-newest, level-found, level-kept}
 use Rattle.meaning.proofs.Proper.{Proper, proper-const, proper-var, proper-add, proper-ifZero, proper-let, proper-leaf}
 use Rattle.meaning.proofs.Proper.{proper-node, proper-case, proper-call, proper-none, proper-arg, count-proper}
 use Rattle.meaning.proofs.Sorts.{ValuesOf, valueOf, Numbers, numbersOf}
-use Rattle.translation.specs.Templates.{codeEnd, argsEnd, Words, wordOf, code, codeArgs, endOf, entryOf}
+use Rattle.translation.specs.Templates.{codeEnd, argsEnd, WordNumbers, wordOf, code, codeArgs, endOf, entryOf}
 use Rattle.translation.proofs.Addresses.{At, Held, Split, at-code, at-args}
 use Rattle.translation.proofs.InOrder.{head-taken, both-branches, case-in-order, walk-tail}
 use Rattle.translation.proofs.Paths.{Path, no-step, join}
@@ -100,7 +100,7 @@ module _ (Faulty : Type 0) (m : Setting) (program : Program) (end : ℕ) (wide :
 
   -- The state before an expression: g number names on their words, w words in the frame, n tree
   -- names, some of them pending.
-  pub record Before (g n : ℕ) (E : Environment) (words : Words) (w : ℕ) (Δ : List ℕ) (beyond : List Tree) (s : State) : Type 0 where
+  pub record Before (g n : ℕ) (E : Environment) (words : WordNumbers) (w : ℕ) (Δ : List ℕ) (beyond : List Tree) (s : State) : Type 0 where
     pub numbers : length (E .numbers) ≡ g
     pub trees : length (E .trees) ≡ n
     pub frame : length (s .frame) ≡ w
@@ -149,7 +149,7 @@ module _ (Faulty : Type 0) (m : Setting) (program : Program) (end : ℕ) (wide :
   -- arguments; and of calls. (r and q are record numbers, of pass two and of the evaluation.)
   abbrev pub Sim : (g n : ℕ) (sort : Sort) (e : Expr) → Type 0
   Sim g n sort e =
-      (E : Environment) (words : Words) (w r : ℕ) (Δ Δ′ : List ℕ) (beyond : List Tree) (s : State)
+      (E : Environment) (words : WordNumbers) (w r : ℕ) (Δ Δ′ : List ℕ) (beyond : List Tree) (s : State)
       → Before g n E words w Δ beyond s
       → walk n r Δ e ≡ done Δ′
       → wordsOf gs w e ≤ mostFrameWords
@@ -160,7 +160,7 @@ module _ (Faulty : Type 0) (m : Setting) (program : Program) (end : ℕ) (wide :
 
   abbrev pub SimArgs : (g n count : ℕ) (xs : Args) → Type 0
   SimArgs g n count xs =
-      (E : Environment) (words : Words) (w r : ℕ) (Δ Δ′ : List ℕ) (beyond : List Tree) (s : State) (before : List ℕ) (a read all : ℕ)
+      (E : Environment) (words : WordNumbers) (w r : ℕ) (Δ Δ′ : List ℕ) (beyond : List Tree) (s : State) (before : List ℕ) (a read all : ℕ)
       → Before g n E words w Δ beyond (argued s before a read)
       → walkArgs n r Δ xs ≡ done Δ′
       → wordsOfArgs gs w xs ≤ mostFrameWords
@@ -187,11 +187,11 @@ module _ (Faulty : Type 0) (m : Setting) (program : Program) (end : ℕ) (wide :
   -- ---- states before parts
 
   -- there is room for a word where fewer than 16 stand above the base
-  room : (s : State) → Under (s .callers) → length (s .frame) < mostFrameWords → standing s < m .mostWords
-  unfolding standing
+  room : (s : State) → Under (s .callers) → length (s .frame) < mostFrameWords → wordsStanding s < m .mostWords
+  unfolding wordsStanding
   room s under few = omega (arith, under .few, under .allowed, wide)
 
-  module _ {g n : ℕ} {E : Environment} {words : Words} {w : ℕ} {Δ : List ℕ} {beyond : List Tree} {s : State} (b : Before g n E words w Δ beyond s) where
+  module _ {g n : ℕ} {E : Environment} {words : WordNumbers} {w : ℕ} {Δ : List ℕ} {beyond : List Tree} {s : State} (b : Before g n E words w Δ beyond s) where
     -- with the same frame, elsewhere
     before-at : (a read : ℕ) (output : List ℕ) {Δ′ : List ℕ} → Left (E .trees) Δ′ beyond read
         → Before g n E words w Δ′ beyond (record { address = a; frame = s .frame; callers = s .callers; read = read; output = output })
@@ -423,7 +423,7 @@ module _ (Faulty : Type 0) (m : Setting) (program : Program) (end : ℕ) (wide :
       leaf-read : State
       leaf-read = record { address = suc (s .address); frame = s .frame; callers = s .callers; read = s .read + 1; output = s .output }
 
-      roomy : standing leaf-read < m .mostWords
+      roomy : wordsStanding leaf-read < m .mostWords
       roomy = room leaf-read (b .under) (omega (arith, b .frame, words-least gs (suc w) p))
 
       on-head :

@@ -18,8 +18,8 @@ use Rattle.formats.specs.Tokens.{labelBytes, Tag, noByte, aLeaf, aNode, other, 
 use Rattle.meaning.specs.Levels.{atLevel}
 use Rattle.meaning.specs.Instructions.{Instruction, Operation, Push, Get, Add, Ifnot, Jump, Slide, Drop, LeafTag, NodeTag}
 use Rattle.meaning.specs.Instructions.{WriteNumber, ReadTag, ReadNumber, Call, Return, operationOf}
-use Rattle.meaning.specs.Performing.{Setting, Caller, State, standing, opened, Step, goes, ends, refuses, holding}
-use Rattle.meaning.specs.Performing.{one, two, room, pushWord, write, onTag, takeNumber, openCall, kept, leave, operate, perform, step}
+use Rattle.meaning.specs.Performing.{Setting, Caller, State, wordsStanding, callsOpen, Step, goes, ends, refuses, holding}
+use Rattle.meaning.specs.Performing.{popOne, popTwo, ifRoom, pushWord, write, onTag, takeNumber, openCall, kept, leave, operate, perform, step}
 use Rattle.meaning.specs.StreamRun.{Steps, here, on}
 use Rattle.meaning.proofs.Inputs.{given}
 use Rattle.translation.proofs.Paths.{withSpace}
@@ -75,16 +75,16 @@ module _ {m M : Setting} (w : Wider m M) (s : State) where
   wide-one :
       (words : List ℕ) (f g : ℕ → List ℕ → Step)
       → ((x : ℕ) (rest : List ℕ) → Widened m M s (f x rest) (g x rest))
-      → Widened m M s (one words f) (one words g)
-  unfolding one
+      → Widened m M s (popOne words f) (popOne words g)
+  unfolding popOne
   wide-one [] f g h = same tt
   wide-one (x ∷ rest) f g h = h x rest
 
   wide-two :
       (words : List ℕ) (f : ℕ → ℕ → List ℕ → Step)
       → ((x y : ℕ) (rest : List ℕ) → Fits m s (f x y rest))
-      → Widened m M s (two words f) (two words f)
-  unfolding two
+      → Widened m M s (popTwo words f) (popTwo words f)
+  unfolding popTwo
   wide-two words f h = wide-one words _ _ (λ x under. wide-one under _ _ (λ y rest. same (h x y rest)))
 
   -- after a test against a limit: both pass it, or only M does, or neither
@@ -106,10 +106,10 @@ module _ {m M : Setting} (w : Wider m M) (s : State) where
       ]
 
   -- room for one word more, and that word pushed; bytes written; one call more
-  wide-room : (r q : Step) → Widened m M s r q → Widened m M s (room m s r) (room M s q)
-  unfolding room
+  wide-room : (r q : Step) → Widened m M s r q → Widened m M s (ifRoom m s r) (ifRoom M s q)
+  unfolding ifRoom
   wide-room r q h =
-      wide-limit (suc (standing s)) (m .mostWords) (M .mostWords) cannotPerform r q (w .words) (λ _. h) (λ less k. few-words (le-trans less k))
+      wide-limit (suc (wordsStanding s)) (m .mostWords) (M .mostWords) cannotPerform r q (w .words) (λ _. h) (λ less k. few-words (le-trans less k))
 
   wide-push : (x : ℕ) → Widened m M s (pushWord m x s) (pushWord M x s)
   unfolding pushWord
@@ -126,7 +126,7 @@ module _ {m M : Setting} (w : Wider m M) (s : State) where
   wide-call : (entry n : ℕ) → Widened m M s (openCall m entry n s) (openCall M entry n s)
   unfolding openCall
   wide-call entry n =
-      wide-limit (suc (opened s)) (m .mostOpen) (M .mostOpen) tooManyCalls _ _ (w .calls)
+      wide-limit (suc (callsOpen s)) (m .mostOpen) (M .mostOpen) tooManyCalls _ _ (w .calls)
       (λ _. silent _ refl)
       (λ less k. few-calls (le-trans less k))
 

@@ -11,13 +11,13 @@ use Rattle.formats.specs.Numbers.{sum32}
 use Rattle.formats.specs.Refusals.{tooManyCalls}
 use Rattle.formats.specs.Tokens.{Tree, leaf, node, Labelled}
 use Rattle.formats.specs.Records.{nth}
-use Rattle.formats.specs.Programs.{const, var, add, ifZero, caseOf, prefix, size, countArgs, Applied, Signature, arityOf, signatureOf, total}
+use Rattle.formats.specs.Programs.{const, var, add, ifZero, caseOf, prefix, size, countArgs, CallsComplete, Signature, arityOf, signatureOf, sumOfCounts}
 use Rattle.formats.specs.Programs.{Program, signatures, mostParameters, InRange, Every, Lawful}
 use Rattle.formats.proofs.Programs.{every-append}
 use Rattle.formats.proofs.ProgramCases.{grow, grow-lawful}
-use Rattle.rules.specs.Types.{Int, isInt, fits, resultType}
+use Rattle.rules.specs.Types.{Int, isInt, hasType, resultType}
 use Rattle.rules.specs.Scopes.{scope, inside, startOf, entered, enteredAll}
-use Rattle.rules.specs.PassOne.{named, typed, bareNumber, wordsTested, roomy, atEntry, passOver, passOne}
+use Rattle.rules.specs.PassOne.{nameBound, typeFits, bareNumber, wordsTested, hasRoom, atEntry, passOver, passOne}
 use Rattle.rules.specs.PassTwo.{takeHead, sameNames, equalBranches, walk, noneLeft, walkAll, passTwo, bothPasses}
 use Rattle.rules.proofs.Cases.{numbered, taking, programOf, on, with-one, lets, grow-passes}
 use Rattle.meaning.specs.Levels.{atLevel}
@@ -57,7 +57,7 @@ ends-with-tree = record {
 
 -- Sum is within the limits and passes both passes
 sum-checked : Checked sum
-unfolding bothPasses passOne passOver atEntry roomy wordsTested bareNumber typed named enteredAll entered inside startOf passTwo walkAll noneLeft walk equalBranches sameNames takeHead resultType isInt fits size prefix nth signatureOf total arityOf countArgs mostParameters sum numbered programOf on
+unfolding bothPasses passOne passOver atEntry hasRoom wordsTested bareNumber typeFits nameBound enteredAll entered inside startOf passTwo walkAll noneLeft walk equalBranches sameNames takeHead resultType isInt hasType size prefix nth signatureOf sumOfCounts arityOf countArgs mostParameters sum numbered programOf on
 sum-checked = record {
   lawful = record {
     edition = refl;
@@ -98,7 +98,7 @@ countdown =
 
 -- it is within the limits and passes both passes
 countdown-checked : Checked countdown
-unfolding bothPasses passOne passOver atEntry roomy wordsTested bareNumber typed named enteredAll entered inside startOf passTwo walkAll noneLeft walk equalBranches sameNames takeHead resultType isInt fits size prefix nth signatureOf total arityOf countArgs mostParameters countdown numbered taking programOf on with-one
+unfolding bothPasses passOne passOver atEntry hasRoom wordsTested bareNumber typeFits nameBound enteredAll entered inside startOf passTwo walkAll noneLeft walk equalBranches sameNames takeHead resultType isInt hasType size prefix nth signatureOf sumOfCounts arityOf countArgs mostParameters countdown numbered taking programOf on with-one
 countdown-checked = record {
   lawful = record {
     edition = refl;
@@ -130,7 +130,7 @@ one-less k h = omega arith
 goes-down : (calls k r : ℕ) (t : Tree)
     → k < 2 ^ 32
     → called countdown (suc calls) r 1 (suc k ∷ []) t ≡ afterBegun 6 (called countdown calls 12 1 (k ∷ []) t)
-unfolding called evaluate followedBy afterBegun resultNumber numberOr treeOr atLevel nth firstRecord total signatureOf size prefix countdown numbered taking programOf on with-one
+unfolding called evaluate followedBy afterBegun resultNumber numberOr treeOr atLevel nth firstRecord sumOfCounts signatureOf size prefix countdown numbered taking programOf on with-one
 goes-down calls k r t h = ap (λ (i : ℕ). afterBegun 6 (called countdown calls 12 1 (i ∷ []) t)) (one-less k h)
 
 -- with 0 it begins 4, and gives a leaf's label
@@ -161,14 +161,14 @@ stopped-after n s = record { begun = n + s .begun; position = s .position; stopp
 -- and stops where no more calls than its number may be open
 stops-down : (calls k r : ℕ) (t : Tree) → calls ≤ k → k < 2 ^ 32 → Stopped (called countdown calls r 1 (k ∷ []) t)
 unfolding called afterBegun
-stops-down zero k r t h fits = record { begun = 0; position = r; stopped = refl }
-stops-down (suc calls) zero r t h fits = absurd (omega arith)
-stops-down (suc calls) (suc k) r t h fits =
+stops-down zero k r t h hasType = record { begun = 0; position = r; stopped = refl }
+stops-down (suc calls) zero r t h hasType = absurd (omega arith)
+stops-down (suc calls) (suc k) r t h hasType =
     rw (goes-down calls k r t (omega arith)) (stopped-after 6 (stops-down calls k 12 t (omega arith) (omega arith)))
 
 -- function 0 begins 2 expressions, then calls function 1 with 1,100, by the Call at record 3
 from-first : (calls : ℕ) (t : Tree) → evaluation countdown (suc calls) t ≡ afterBegun 2 (called countdown calls 3 1 (1100 ∷ []) t)
-unfolding evaluation called evaluate followedBy afterBegun resultNumber treeOr atLevel nth firstRecord total countdown numbered programOf with-one
+unfolding evaluation called evaluate followedBy afterBegun resultNumber treeOr atLevel nth firstRecord sumOfCounts countdown numbered programOf with-one
 from-first calls t = refl
 
 -- its evaluation on a leaf ends within 1,102 calls open at once, and not within 1,024
@@ -192,7 +192,7 @@ ends-too-deep =
 
 -- Call 0 on 0 is within the limits and passes both passes
 again-checked : Checked again
-unfolding bothPasses passOne passOver atEntry roomy wordsTested bareNumber typed named enteredAll entered startOf passTwo walkAll noneLeft walk takeHead resultType isInt fits nth signatureOf again numbered programOf on
+unfolding bothPasses passOne passOver atEntry hasRoom wordsTested bareNumber typeFits nameBound enteredAll entered startOf passTwo walkAll noneLeft walk takeHead resultType isInt hasType nth signatureOf again numbered programOf on
 again-checked = record { lawful = again-passes .lawful; passes = refl }
 
 -- its evaluation is endless
@@ -212,19 +212,19 @@ unfolding prefix lets
 lets-in-range zero functions = (lit< tt, tt)
 lets-in-range (suc k) functions = (tt, (lit< tt, lets-in-range k functions))
 
-lets-applied : (k : ℕ) (arity : ℕ → ℕ) → Applied arity (lets k (const 1))
+lets-applied : (k : ℕ) (arity : ℕ → ℕ) → CallsComplete arity (lets k (const 1))
 unfolding lets
 lets-applied zero arity = tt
 lets-applied (suc k) arity = (tt, lets-applied k arity)
 
 -- .. and every name is bound and every type right
 lets-sound : (gs : List Signature) (k g n w r : ℕ) → Every (Sound gs) (entered (scope g n w Int) r (lets k (const 1)))
-unfolding entered inside named typed isInt lets
+unfolding entered inside nameBound typeFits isInt lets
 lets-sound gs zero g n w r = ((refl, refl), tt)
 lets-sound gs (suc k) g n w r = ((refl, refl), ((refl, refl), lets-sound gs k _ _ _ _))
 
 lets-lawful : Lawful sixteen-lets
-unfolding sixteen-lets numbered programOf lets size prefix signatureOf total mostParameters
+unfolding sixteen-lets numbered programOf lets size prefix signatureOf sumOfCounts mostParameters
 lets-lawful = record {
   edition = refl;
   some-function = lit≤ tt;
@@ -235,7 +235,7 @@ lets-lawful = record {
 
 -- pass one refuses it with 10, so a word count in its code exceeds 16
 exceeds : Exceeds sixteen-lets
-unfolding passOne passOver atEntry roomy wordsTested typed named enteredAll entered inside startOf resultType isInt size prefix signatureOf sixteen-lets numbered programOf lets
+unfolding passOne passOver atEntry hasRoom wordsTested typeFits nameBound enteredAll entered inside startOf resultType isInt size prefix signatureOf sixteen-lets numbered programOf lets
 exceeds =
     let sound = every-append (Sound (signatures sixteen-lets)) (entered (scope 0 1 0 Int) 2 (lets 16 (const 1))) [] (lets-sound (signatures sixteen-lets) 16 0 1 0 2) tt in
     code-limits sixteen-lets lets-lawful .words sound .0 (record { position = 34; refused = refl })

@@ -28,7 +28,7 @@ use Rattle.formats.proofs.Programs.{every-left, every-right}
 use Rattle.formats.proofs.Results.{done-not}
 use Rattle.rules.specs.Types.{Ty, Int, Tree⁺}
 use Rattle.rules.specs.Scopes.{scope, inside, startOf, Entry, entry, entered, enteredArgs, enteredAll}
-use Rattle.rules.specs.PassOne.{bareNumber, wordsTested, roomy, passOver, passOne, wordsWithValue, wordsOf, wordsOfArgs}
+use Rattle.rules.specs.PassOne.{bareNumber, wordsTested, hasRoom, passOver, passOne, wordsWithValue, wordsOf, wordsOfArgs}
 use Rattle.rules.specs.Limits.{mostFrameWords}
 use Rattle.rules.specs.PassOne.{FirstFails, here, later, name-not-bound, wrong-type, too-many-words}
 use Rattle.rules.specs.OrderChecker.{firstNode}
@@ -48,8 +48,8 @@ module _ (program : Program) where
   gs = signatures program
 
   -- a record's condition on words holds if, where they are tested, one more is within the limit
-  room : (g n w : ℕ) (τ : Ty) (kind : Kind) → (wordsTested gs kind ≡ true → w < mostFrameWords) → roomy gs (scope g n w τ) kind ≡ true
-  unfolding roomy
+  room : (g n w : ℕ) (τ : Ty) (kind : Kind) → (wordsTested gs kind ≡ true → w < mostFrameWords) → hasRoom gs (scope g n w τ) kind ≡ true
+  unfolding hasRoom
   room g n w τ kind h = by-test (wordsTested gs kind) h
     where
       by-test : (t : Bool) → (t ≡ true → w < mostFrameWords) → elim t [ true ↦ ltb w mostFrameWords | false ↦ true ] ≡ true

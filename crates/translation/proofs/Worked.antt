@@ -13,17 +13,17 @@ use Rattle.formats.specs.Written.{written}
 use Rattle.formats.specs.Characters.{newline, ascii}
 use Rattle.formats.specs.Decimal.{digits, decimal}
 use Rattle.formats.specs.Tokens.{tokens, tagOf, tagAt, labelAt, branchesAt, treeByTag as readTag, treeAt, firstTree}
-use Rattle.formats.specs.Records.{Record, bytesOfRecord, flat, recordAt, Kind, Const, Var, Add, Leaf, Node, Case, Call as CallOf, fieldsOf, kinds, nth, kindOf, same, below, nodeRecord}
-use Rattle.formats.specs.Programs.{prefix, prefixes, size, countArgs, Sort, numberValued, treeValued, sortNumber, signatureRecord, arityOf, total, signatureOf, headerRecord, mostParameters}
+use Rattle.formats.specs.Records.{Record, bytesOfRecord, flat, recordAt, Kind, Const, Var, Add, Leaf, Node, Case, Call as CallOf, fieldsOf, kinds, nth, kindOf, sameFields, functionBelow, nodeRecord}
+use Rattle.formats.specs.Programs.{prefix, prefixes, size, countArgs, Sort, numberValued, treeValued, sortNumber, signatureRecord, arityOf, sumOfCounts, signatureOf, headerRecord, mostParameters}
 use Rattle.formats.specs.Rows.{headerFrom, headerRow, sorts, functionFrom, functionAt, functionRow, nodeAt, nodeRow, popArgs, build, exprsOf, exactlyOne, bodies, prefixRow, readProgram}
-use Rattle.formats.specs.Blocks.{wordSum, checkWord, blockBody, blockOf, blocksFrom, blocksFor, fileOf, lengthRow, zeros, usedFits, fieldsFit, usedOf, blockAt, blockRow, concatenated, flatIn, programIn, writeFile, inRoom, lent}
-use Rattle.rules.specs.Types.{isInt, isTree, fits, resultType}
+use Rattle.formats.specs.Blocks.{wordSum, checkWord, blockBody, blockOf, blocksFrom, blocksFor, fileOf, lengthRow, zeros, usedFits, fieldsFit, usedOf, blockAt, blockRow, concatenated, flatIn, programIn, writeFile, inRoom, bufferAfter}
+use Rattle.rules.specs.Types.{isInt, isOutputTree, hasType, resultType}
 use Rattle.rules.specs.Scopes.{inside, startOf, entered, enteredArgs, enteredAll}
-use Rattle.rules.specs.PassOne.{named, typed, bareNumber, wordsTested, roomy, atEntry, passOver, passOne}
+use Rattle.rules.specs.PassOne.{nameBound, typeFits, bareNumber, wordsTested, hasRoom, atEntry, passOver, passOne}
 use Rattle.rules.specs.PassTwo.{takeHead, sameNames, equalBranches as joinedLists, walk, walkArgs, noneLeft, walkAll, passTwo, bothPasses}
 use Rattle.meaning.specs.Levels.{atLevel}
 use Rattle.meaning.specs.Instructions.{heldBy, operations, operationOf, instructionOf}
-use Rattle.meaning.specs.Performing.{wordsBelow, standing, opened, one, two, room, pushWord, write}
+use Rattle.meaning.specs.Performing.{wordsBelow, wordsStanding, callsOpen, popOne, popTwo, ifRoom, pushWord, write}
 use Rattle.meaning.specs.Performing.{onTag, takeNumber, openCall, kept, numberKept, leave, operate, perform, step}
 use Rattle.meaning.specs.Running.{run, outcomeOf, numberReported, streamRun, valueWords, returnWords}
 use Rattle.meaning.specs.Evaluation.{resultBytes, resultNumber}
@@ -31,7 +31,7 @@ use Rattle.meaning.specs.OpenCalls.{followedBy, numberOr, treeOr, resultTree, e
 use Rattle.meaning.specs.SourceRun.{SourceRan, reported, reportFrom, checkSource, sourceRun}
 use Rattle.translation.specs.Templates.{codeEnd, argsEnd, wordOf, firstWords, endOf, code, codeArgs, wordsKept}
 use Rattle.translation.specs.Templates.{functionCode, functionEnd, entryFrom, functionsCode, entryOf, operationsOf, codeOf}
-use Rattle.translation.specs.Calls.{checkedRecords, translateRecords, translateFile, prepared, ProgramRan, runFile}
+use Rattle.translation.specs.TranslateAndRun.{checkedRecords, translateRecords, translateFile, prepared, FileRan, runFile}
 use Rattle.translation.specs.Listing.{lineOf, linesFrom, instructionsIn, listingOf, listing}
 use Rattle.translation.specs.ListingText.{field, signedField, lineText, linesText, codeWord, refusedWord, text}
 
@@ -85,13 +85,13 @@ data Asked : Type 0 where
 data Gives : Type 0 where
   aListing : List ℕ → Gives
   aCode : Result (List ℕ) → List ℕ → Gives
-  aRun : ProgramRan → Gives
+  aRun : FileRan → Gives
   aSourceRun : SourceRan → Gives
 
 -- What a file gives. The source run is lent the work space of 01, Work words.
 asked-of : List ℕ → Asked → Gives
 asked-of file list = aListing (text (listing file))
-asked-of file (translate code) = aCode (translateFile (length code) file) (lent code (translateFile (length code) file))
+asked-of file (translate code) = aCode (translateFile (length code) file) (bufferAfter code (translateFile (length code) file))
 asked-of file (runOn input output code fuel values returns) = aRun (runFile file input output code fuel values returns)
 asked-of file (sourceOn input output fuel) = aSourceRun (sourceRun file input output fuel valueWords returnWords)
 
@@ -139,9 +139,9 @@ lists records ls = record { records = records; asked = list; due = aListing (pri
 
 -- A run on an input, with so much fuel, so many bytes of output and of code buffer, and the work
 -- space of 01, Work words.
-runs : List Record → (input : List ℕ) (fuel space room : ℕ) → Gives → Row
-runs records input fuel space room due =
-    record { records = records; asked = runOn input (nines space) (nines room) fuel valueWords returnWords; due = due }
+runs : List Record → (input : List ℕ) (fuel space ifRoom : ℕ) → Gives → Row
+runs records input fuel space ifRoom due =
+    record { records = records; asked = runOn input (nines space) (nines ifRoom) fuel valueWords returnWords; due = due }
 
 -- A source run on an input, with so much fuel and so many bytes of output.
 source-runs : List Record → (input : List ℕ) (fuel space : ℕ) → Gives → Row
@@ -232,7 +232,7 @@ rows =
 
 -- One computation, through writer, reader, checker, translator, stream run, source run and listing.
 worked : map given rows ≡ map (λ r. done (r .due)) rows
-unfolding text linesText lineText signedField field codeWord refusedWord decimal digits ascii printed listing listingOf instructionsIn linesFrom lineOf signed32 runFile prepared translateFile translateRecords checkedRecords inRoom lent codeOf operationsOf entryOf functionsCode entryFrom functionEnd functionCode wordsKept code codeArgs endOf firstWords wordOf codeEnd argsEnd countArgs bothPasses passTwo walkAll noneLeft walk walkArgs joinedLists sameNames takeHead passOne passOver atEntry roomy wordsTested bareNumber typed named enteredAll entered enteredArgs inside startOf resultType isInt isTree fits size prefix prefixes signatureOf streamRun run step perform operate heldBy operationOf operations instructionOf standing wordsBelow opened atLevel one two room pushWord write onTag takeNumber openCall kept numberKept leave outcomeOf numberReported sum32 tagAt tagOf written sourceRun checkSource reportFrom reported withFuel evaluation called evaluate evaluateArgs followedBy resultNumber resultBytes resultTree numberOr treeOr firstRecord tokens firstTree treeAt readTag branchesAt labelAt programIn writeFile fileOf blocksFor blocksFrom blockOf blockBody checkWord wordSum flatIn lengthRow blockRow blockAt usedOf fieldsFit usedFits zeros concatenated readProgram headerRow headerFrom functionRow functionAt functionFrom sorts mostParameters nodeRow nodeAt nodeRecord kindOf kinds nth same below fieldsOf each prefixRow bodies exactlyOne exprsOf build popArgs arityOf total recordAt flat bytesOfRecord bytesOf numberAt numberOf headerRecord signatureRecord sortNumber Call_on_ one-function grow swapped tree-left again T asked-of nines answers source-answers given lists runs source-runs grow-code again-code rows
+unfolding text linesText lineText signedField field codeWord refusedWord decimal digits ascii printed listing listingOf instructionsIn linesFrom lineOf signed32 runFile prepared translateFile translateRecords checkedRecords inRoom bufferAfter codeOf operationsOf entryOf functionsCode entryFrom functionEnd functionCode wordsKept code codeArgs endOf firstWords wordOf codeEnd argsEnd countArgs bothPasses passTwo walkAll noneLeft walk walkArgs joinedLists sameNames takeHead passOne passOver atEntry hasRoom wordsTested bareNumber typeFits nameBound enteredAll entered enteredArgs inside startOf resultType isInt isOutputTree hasType size prefix prefixes signatureOf streamRun run step perform operate heldBy operationOf operations instructionOf wordsStanding wordsBelow callsOpen atLevel popOne popTwo ifRoom pushWord write onTag takeNumber openCall kept numberKept leave outcomeOf numberReported sum32 tagAt tagOf written sourceRun checkSource reportFrom reported withFuel evaluation called evaluate evaluateArgs followedBy resultNumber resultBytes resultTree numberOr treeOr firstRecord tokens firstTree treeAt readTag branchesAt labelAt programIn writeFile fileOf blocksFor blocksFrom blockOf blockBody checkWord wordSum flatIn lengthRow blockRow blockAt usedOf fieldsFit usedFits zeros concatenated readProgram headerRow headerFrom functionRow functionAt functionFrom sorts mostParameters nodeRow nodeAt nodeRecord kindOf kinds nth sameFields functionBelow fieldsOf each prefixRow bodies exactlyOne exprsOf build popArgs arityOf sumOfCounts recordAt flat bytesOfRecord bytesOf numberAt numberOf headerRecord signatureRecord sortNumber Call_on_ one-function grow swapped tree-left again T asked-of nines answers source-answers given lists runs source-runs grow-code again-code rows
 worked = refl
 
 -- ---- other bytes, and the buffers' lengths
@@ -257,18 +257,18 @@ one-too-many = one-function treeValued (Case 0 ∷ Leaf ∷ Var 0 ∷ Node ∷ C
 
 -- A run of a file, with so much fuel, so many bytes of code buffer, value words and return words,
 -- and 12 bytes of output.
-running : (file input : List ℕ) (fuel room values returns : ℕ) → Gives → OnFile
-running file input fuel room values returns due =
-    record { file = file; asked = runOn input (nines 12) (nines room) fuel values returns; due = due }
+running : (file input : List ℕ) (fuel ifRoom values returns : ℕ) → Gives → OnFile
+running file input fuel ifRoom values returns due =
+    record { file = file; asked = runOn input (nines 12) (nines ifRoom) fuel values returns; due = due }
 
 -- Refused before the run: 0 in every count, and both buffers, the code's of so many bytes,
 -- untouched.
-untouched : (why position room : ℕ) → Gives
-untouched why position room = answers (refusal why position) 0 0 0 0 (nines 12) (nines room)
+untouched : (why position ifRoom : ℕ) → Gives
+untouched why position ifRoom = answers (refusal why position) 0 0 0 0 (nines 12) (nines ifRoom)
 
 -- The translator, and a code buffer of so many bytes.
-translating : (file : List ℕ) (room : ℕ) → Gives → OnFile
-translating file room due = record { file = file; asked = translate (nines room); due = due }
+translating : (file : List ℕ) (ifRoom : ℕ) → Gives → OnFile
+translating file ifRoom due = record { file = file; asked = translate (nines ifRoom); due = due }
 
 -- The listing, printed in these lines.
 listing-of : List ℕ → List String → OnFile
@@ -346,5 +346,5 @@ calls = in-order ++ (lengths ++ (translations ++ listings))
 
 -- Again one computation.
 orderly : map (λ c. asked-of (c .file) (c .asked)) calls ≡ map (λ c. c .due) calls
-unfolding text linesText lineText signedField field codeWord refusedWord decimal digits ascii printed listing listingOf instructionsIn linesFrom lineOf signed32 runFile prepared translateFile translateRecords checkedRecords inRoom lent codeOf operationsOf entryOf functionsCode entryFrom functionEnd functionCode wordsKept code codeArgs endOf firstWords wordOf codeEnd argsEnd countArgs bothPasses passTwo walkAll noneLeft walk walkArgs joinedLists sameNames takeHead passOne passOver atEntry roomy wordsTested bareNumber typed named enteredAll entered enteredArgs inside startOf resultType isInt isTree fits size prefix prefixes signatureOf streamRun run step perform operate heldBy operationOf operations instructionOf standing wordsBelow opened atLevel one two room pushWord write onTag takeNumber openCall kept numberKept leave outcomeOf numberReported sum32 tagAt tagOf written fileOf blocksFor blocksFrom blockOf blockBody checkWord wordSum flatIn lengthRow blockRow blockAt usedOf fieldsFit usedFits zeros concatenated readProgram headerRow headerFrom functionRow functionAt functionFrom sorts mostParameters nodeRow nodeAt nodeRecord kindOf kinds nth same below fieldsOf each prefixRow bodies exactlyOne exprsOf build popArgs arityOf total recordAt flat bytesOfRecord bytesOf numberAt numberOf headerRecord signatureRecord sortNumber Call_on_ one-function grow swapped T asked-of nines answers grow-code filed not-bound one-too-many running untouched translating listing-of in-order grown lengths translations listings calls
+unfolding text linesText lineText signedField field codeWord refusedWord decimal digits ascii printed listing listingOf instructionsIn linesFrom lineOf signed32 runFile prepared translateFile translateRecords checkedRecords inRoom bufferAfter codeOf operationsOf entryOf functionsCode entryFrom functionEnd functionCode wordsKept code codeArgs endOf firstWords wordOf codeEnd argsEnd countArgs bothPasses passTwo walkAll noneLeft walk walkArgs joinedLists sameNames takeHead passOne passOver atEntry hasRoom wordsTested bareNumber typeFits nameBound enteredAll entered enteredArgs inside startOf resultType isInt isOutputTree hasType size prefix prefixes signatureOf streamRun run step perform operate heldBy operationOf operations instructionOf wordsStanding wordsBelow callsOpen atLevel popOne popTwo ifRoom pushWord write onTag takeNumber openCall kept numberKept leave outcomeOf numberReported sum32 tagAt tagOf written fileOf blocksFor blocksFrom blockOf blockBody checkWord wordSum flatIn lengthRow blockRow blockAt usedOf fieldsFit usedFits zeros concatenated readProgram headerRow headerFrom functionRow functionAt functionFrom sorts mostParameters nodeRow nodeAt nodeRecord kindOf kinds nth sameFields functionBelow fieldsOf each prefixRow bodies exactlyOne exprsOf build popArgs arityOf sumOfCounts recordAt flat bytesOfRecord bytesOf numberAt numberOf headerRecord signatureRecord sortNumber Call_on_ one-function grow swapped T asked-of nines answers grow-code filed not-bound one-too-many running untouched translating listing-of in-order grown lengths translations listings calls
 orderly = refl

@@ -11,7 +11,7 @@ use Rattle.formats.specs.Results.{refusal}
 use Rattle.formats.specs.Records.{Ranged, nth}
 use Rattle.formats.specs.Programs.{Every, Function, Program, signatures, Signature, Lawful}
 use Rattle.rules.specs.Scopes.{Entry, entry, enteredAll}
-use Rattle.rules.specs.PassOne.{named, typed, passOne}
+use Rattle.rules.specs.PassOne.{nameBound, typeFits, passOne}
 use Rattle.rules.specs.Limits.{mostFrameWords}
 use Rattle.rules.specs.OrderChecker.{firstNode}
 use Rattle.meaning.specs.Instructions.{Operation, Push, Get, Add, Ifnot, Jump, Slide, Drop, LeafTag, NodeTag, WriteNumber, ReadTag, ReadNumber, Call, instructionOf, mostInstructions}
@@ -70,7 +70,7 @@ pub record Exceeds (program : Program) : Type 0 where
 
 -- At this record the name is bound (no 9) and the type is right (no 8).
 abbrev pub Sound : List Signature → Entry → Type 0
-Sound gs (entry sc r kind) = (named sc kind ≡ true) × (typed gs sc kind ≡ true)
+Sound gs (entry sc r kind) = (nameBound sc kind ≡ true) × (typeFits gs sc kind ≡ true)
 
 -- Pass one refuses with 10, at some record.
 pub record RefusedFor10 (program : Program) : Type 0 where

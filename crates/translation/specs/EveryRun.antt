@@ -19,7 +19,7 @@ use Rattle.translation.specs.EndedRuns.{Whole}
 use Rattle.translation.specs.EndedRuns.{Meant, OneForOne}
 
 -- A run that is refused with the number `why`, at the bytes read, after so many units.
-pub record RefusedAfter (units why : ℕ) (ran : Ran) : Type 0 where
+pub record RefusedAfterUnits (units why : ℕ) (ran : Ran) : Type 0 where
   pub outcome : ran .answer .outcome ≡ refusal why (ran .answer .bytesRead)
   pub counted : ran .answer .units ≡ units
 
@@ -35,20 +35,20 @@ evaluationUnits ends = suc (unitsIn (ends .takes))
 
 -- Runs on a tree that come to a call too many, if there is fuel for more than `units` and an output
 -- of at least `space` bytes.
-pub record Refused18 (t : Tree) (run : (input output : List ℕ) (fuel : ℕ) → Ran) : Type 0 where
+pub record StreamTooManyCalls (t : Tree) (run : (input output : List ℕ) (fuel : ℕ) → Ran) : Type 0 where
   pub units : ℕ
   pub space : ℕ
   pub enough :
       (rest output : List ℕ) (fuel : ℕ)
       → units < fuel
       → space ≤ length output
-      → RefusedAfter units tooManyCalls (run (tokens t ++ rest) output fuel)
+      → RefusedAfterUnits units tooManyCalls (run (tokens t ++ rest) output fuel)
   -- every smaller fuel is used up
   pub fewer :
       (rest output : List ℕ) (fuel : ℕ)
       → fuel ≤ units
       → space ≤ length output
-      → RefusedAfter fuel fuelUsedUp (run (tokens t ++ rest) output fuel)
+      → RefusedAfterUnits fuel fuelUsedUp (run (tokens t ++ rest) output fuel)
 
 -- What holds of the runs of a checked program's code, each with its input, output and fuel.
 pub record EveryRun (program : Program) (run : (input output : List ℕ) (fuel : ℕ) → Ran) : Type 0 where
@@ -66,7 +66,7 @@ pub record EveryRun (program : Program) (run : (input output : List ℕ) (fuel :
       → Labelled t
       → length (resultBytes v) ≤ length output
       → fuel < evaluationUnits ends
-      → RefusedAfter fuel fuelUsedUp (run (tokens t ++ rest) output fuel)
+      → RefusedAfterUnits fuel fuelUsedUp (run (tokens t ++ rest) output fuel)
   -- With less space than the result takes, given the fuel, the output is full before the run ends.
   pub less-space :
       (t : Tree) (n : ℕ) (v : Value) (ends : Ends program t mostCalls n v) (rest output : List ℕ) (fuel : ℕ)
@@ -76,7 +76,7 @@ pub record EveryRun (program : Program) (run : (input output : List ℕ) (fuel :
       → run (tokens t ++ rest) output fuel .answer .outcome ≡ refusal outputFull (run (tokens t ++ rest) output fuel .answer .bytesRead)
   -- Where more than 1,024 calls would open (the evaluation does not end within 1,024 open calls),
   -- enough fuel and space give 18.
-  pub too-many-calls : (t : Tree) → Labelled t → ((n : ℕ) (v : Value) → Ends program t mostCalls n v → ⊥) → Refused18 t run
+  pub too-many-calls : (t : Tree) → Labelled t → ((n : ℕ) (v : Value) → Ends program t mostCalls n v → ⊥) → StreamTooManyCalls t run
   -- 01, Instructions that cannot be performed: "19 never follows translated code." On any input,
   -- trees or not.
   pub never-19 : (input output : List ℕ) (fuel position : ℕ) → Bytes input → run input output fuel .answer .outcome ≢ refusal cannotPerform position

@@ -3,7 +3,7 @@ pub mod Templates
 pub mod Demand3
 pub mod EveryRun
 pub mod CodeLimits
-pub mod Calls
+pub mod TranslateAndRun
 pub mod Listing
 pub mod ListingText
 pub mod ThisCall

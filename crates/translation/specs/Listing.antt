@@ -10,7 +10,7 @@ use Rattle.formats.specs.Results.{Result, done, refusal, andThen, onValue}
 use Rattle.formats.specs.Records.{fields, recordAt}
 use Rattle.meaning.specs.Instructions.{Instruction, instructionBytes, mostInstructions}
 use Rattle.translation.specs.Templates.{codeOf}
-use Rattle.translation.specs.Calls.{checkedRecords, translateFile}
+use Rattle.translation.specs.TranslateAndRun.{checkedRecords, translateFile}
 
 -- 01, The listing: "prints, a line each, address, opcode, byte 1, operand, number".
 pub data ListingLine : Type 0 where

@@ -35,16 +35,16 @@ unfoldable mutual
 -- above the base)". A number found before and not named has a word of its own below, so a name's
 -- word may be higher than its number. (01, Traps: "Forgetting that a temporary below moves a
 -- variable's word.")
-abbrev pub Words : Type 0
-Words = List ℕ
+abbrev pub WordNumbers : Type 0
+WordNumbers = List ℕ
 
 -- The word of a name; 0 for a name that is not bound, which pass one refuses.
-unfoldable pub wordOf : Words → ℕ → ℕ
+unfoldable pub wordOf : WordNumbers → ℕ → ℕ
 wordOf words a = elim (atLevel words a) [ none ↦ 0 | some w ↦ w ]
 
 -- 01, Opcodes: "the new frame's first words". The words of so many parameters: 0 and up, the newest
 -- first.
-unfoldable pub firstWords : ℕ → Words
+unfoldable pub firstWords : ℕ → WordNumbers
 firstWords zero = []
 firstWords (suc k) = k ∷ firstWords k
 
@@ -61,7 +61,7 @@ endOf treeValued = Drop
 -- one number name": it stands on word w, where its number was pushed. L and M of the table are
 -- addresses.
 unfoldable mutual
-  pub code : (entries : ℕ → ℕ) (s : Sort) (words : Words) (w a : ℕ) → Expr → List Operation
+  pub code : (entries : ℕ → ℕ) (s : Sort) (words : WordNumbers) (w a : ℕ) → Expr → List Operation
   -- "push i"
   code entries s words w a (const i) = Push i ∷ []
   -- "get"
@@ -93,7 +93,7 @@ unfoldable mutual
   code entries s words w a (call k b xs) = codeArgs entries words w a xs ++ (Call (entries b) (countArgs xs) ∷ [])
 
   -- The arguments of a Call, one after the other.
-  pub codeArgs : (entries : ℕ → ℕ) (words : Words) (w a : ℕ) → Args → List Operation
+  pub codeArgs : (entries : ℕ → ℕ) (words : WordNumbers) (w a : ℕ) → Args → List Operation
   codeArgs entries words w a noArgs = []
   codeArgs entries words w a (arg x xs) = code entries numberValued words w a x ++ codeArgs entries words (suc w) (codeEnd x a) xs
 

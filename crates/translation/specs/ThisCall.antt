@@ -23,7 +23,7 @@ use Rattle.meaning.specs.Evaluation.{Value, Ends, resultBytes}
 use Rattle.translation.specs.Demand3.{Checked}
 use Rattle.translation.specs.EndedRuns.{Whole}
 use Rattle.translation.specs.EndedRuns.{Meant, OneForOne}
-use Rattle.translation.specs.Calls.{ProgramRan, runFile, Ready}
+use Rattle.translation.specs.TranslateAndRun.{FileRan, runFile, Ready}
 
 -- Answer and output at exit, as what a run gives.
 abbrev pub ranWith : Answer → List ℕ → Ran
@@ -32,7 +32,7 @@ ranWith answer after = record { answer = answer; output = after }
 -- "When any checked program is run over the stream on any tree's tokens, with anything after them,
 -- any fuel and any output length:" a call on the tokens of t and the rest after them. `alone` is
 -- what the definition gives on the tokens of t alone.
-pub record ThisCall (program : Program) (t : Tree) (rest before : List ℕ) (fuel : ℕ) (alone : ProgramRan) (answer : Answer) (after : List ℕ) : Type 0 where
+pub record ThisCall (program : Program) (t : Tree) (rest before : List ℕ) (fuel : ℕ) (alone : FileRan) (answer : Answer) (after : List ℕ) : Type 0 where
   -- "the bytes read are opening bytes of that tree, none or all included;"
   pub read-opening : Opens (take (answer .bytesRead) (tokens t ++ rest)) (tokens t)
   pub read-no-more : answer .bytesRead ≤ length (tokens t)

@@ -10,7 +10,7 @@ use lib.ListN.{length}
 use Rattle.formats.specs.Numbers.{Bytes}
 use Rattle.formats.specs.Results.{Result, done}
 use Rattle.formats.specs.Records.{recordAt}
-use Rattle.formats.specs.Programs.{size, total, Function, signatureOf, Program, signatures}
+use Rattle.formats.specs.Programs.{size, sumOfCounts, Function, signatureOf, Program, signatures}
 use Rattle.formats.specs.Rows.{readProgram}
 use Rattle.formats.specs.Inner.Fields.{headerIn, functionIn}
 use Rattle.rules.specs.OrderChecker.{firstNode}
@@ -25,7 +25,7 @@ module _ (s : List ℕ) (functions last : ℕ) (whole : Program → Result (Unit
     pub known : Known s (signatures program)
     pub held : Bodies s (signatures program) j k others
     pub many : j + length others ≡ functions
-    pub ends : k + total (map signatureOf others) ≡ last
+    pub ends : k + sumOfCounts (map signatureOf others) ≡ last
     pub left : whole program ≡ row program k others
 
   -- at first all of them
@@ -58,10 +58,10 @@ module _ (s : List ℕ) (functions last : ℕ) (whole : Program → Result (Unit
     pub later : whole program ≡ row program (k + size (here .body)) others → Left program (k + size (here .body)) (j + 1)
 
   pub turn : (program : Program) (k j : ℕ) → j < functions → Left program k j → Turn program k j
-  unfolding total signatureOf
+  unfolding sumOfCounts signatureOf
   turn program k j more l = by (l .others) (l .held) (l .many) (l .ends) (l .left)
     where
-      by : (fs : List Function) → Bodies s (signatures program) j k fs → j + length fs ≡ functions → k + total (map signatureOf fs) ≡ last
+      by : (fs : List Function) → Bodies s (signatures program) j k fs → j + length fs ≡ functions → k + sumOfCounts (map signatureOf fs) ≡ last
           → whole program ≡ row program k fs → Turn program k j
       by [] no-more many ends left = absurd (omega arith)
       by (f ∷ fs) (one-more signed few holds after) many ends left = record {

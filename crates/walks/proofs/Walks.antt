@@ -12,10 +12,10 @@ use Rattle.formats.specs.Numbers.{Bytes}
 use Rattle.formats.specs.Results.{Result, done, refusal, andThen, each}
 use Rattle.formats.specs.Records.{Kind, Add, IfZero, Let, Leaf, Node, Case, Call, recordAt, fieldsOf, nth, partsOf, partCount}
 use Rattle.formats.specs.Programs.{Expr, const, var, add, ifZero, letIn, leafOf, nodeOf, caseOf, call, Args, noArgs, arg, prefix, prefixes, size, Placed, placedAt, argsAt, partsAt}
-use Rattle.formats.specs.Programs.{countArgs, Applied, AppliedArgs, Signature, arityOf, total, Function, signatureOf, Program, signatures, nodes, mostNodes, mostParameters, InRange, Every, LawfulFunctions}
+use Rattle.formats.specs.Programs.{countArgs, CallsComplete, ArgsComplete, Signature, arityOf, sumOfCounts, Function, signatureOf, Program, signatures, nodes, mostNodes, mostParameters, InRange, Every, LawfulFunctions}
 use Rattle.formats.specs.Rows.{nodeAt, headerRow, functionRow, nodeRow, prefixRow, readProgram}
 use Rattle.formats.specs.Inner.Fields.{headerIn, functionIn, arityIn, nodeIn}
-use Rattle.formats.specs.ProgramFiles.{Stands, one-more}
+use Rattle.formats.specs.ProgramFiles.{RecordsAt, one-more}
 use Rattle.formats.proofs.Results.{done-injective, then-inv, each-inv, each-nth, each-length}
 use Rattle.formats.proofs.Records.{node-done}
 use Rattle.formats.proofs.Programs.{stands-left, stands-right, every-left, every-right}
@@ -47,10 +47,10 @@ fronted (caseOf a p q) = record { rest = prefix p ++ prefix q; both = refl }
 fronted (call a b xs) = record { rest = prefixes xs; both = refl }
 
 -- the first record that stands
-stands-first : {s : List ℕ} {k : ℕ} {kind : Kind} {ks : List Kind} → Stands s k (kind ∷ ks) → recordAt s k ≡ fieldsOf kind
+stands-first : {s : List ℕ} {k : ℕ} {kind : Kind} {ks : List Kind} → RecordsAt s k (kind ∷ ks) → recordAt s k ≡ fieldsOf kind
 stands-first (one-more is more) = is
 
-stands-after : {s : List ℕ} {k : ℕ} {kind : Kind} {ks : List Kind} → Stands s k (kind ∷ ks) → Stands s (suc k) ks
+stands-after : {s : List ℕ} {k : ℕ} {kind : Kind} {ks : List Kind} → RecordsAt s k (kind ∷ ks) → RecordsAt s (suc k) ks
 stands-after (one-more is more) = more
 
 -- its operands are in range ..
@@ -61,7 +61,7 @@ head-in-range s gs k e h = let all = subst (Every (InRange (headerIn s .function
 pub node-held : (s : List ℕ) (gs : List Signature) (k : ℕ) (e : Expr) → Holds s gs k e → nodeIn s k ≡ done (headOf e)
 unfolding nodeIn nodeAt
 node-held s gs k e h =
-    let own : recordAt s k ≡ fieldsOf (headOf e) = stands-first (subst (Stands s k) (fronted e .both) (h .stands)) in
+    let own : recordAt s k ≡ fieldsOf (headOf e) = stands-first (subst (RecordsAt s k) (fronted e .both) (h .stands)) in
     rw own (node-done (headerIn s .edition) (headerIn s .functions) k (headOf e) (head-in-range s gs k e h))
 
 -- ---- signatures
@@ -84,16 +84,16 @@ signature-of s gs b known h =
 module _ (s : List ℕ) (gs : List Signature) where
   -- records of these kinds stand from k on, with operands in range
   record Kinds (k : ℕ) (ks : List Kind) : Type 0 where
-    stand : Stands s k ks
+    stand : RecordsAt s k ks
     ranged : Every (InRange (headerIn s .functions)) ks
 
   -- the last of several expressions
-  alone : (k : ℕ) (e : Expr) → Kinds k (prefix e) → Applied (arityOf gs) e → Row s gs k (placedAt k e ∷ []) (k + length (prefix e))
+  alone : (k : ℕ) (e : Expr) → Kinds k (prefix e) → CallsComplete (arityOf gs) e → Row s gs k (placedAt k e ∷ []) (k + length (prefix e))
   unfolding size
   alone k e h a = next (record { stands = h .stand; in-range = h .ranged; applied = a }) end
 
   -- one in front of others
-  in-front : (k : ℕ) (e : Expr) (ks : List Kind) (ps : List Placed) → Kinds k (prefix e ++ ks) → Applied (arityOf gs) e
+  in-front : (k : ℕ) (e : Expr) (ks : List Kind) (ps : List Placed) → Kinds k (prefix e ++ ks) → CallsComplete (arityOf gs) e
       → (Kinds (k + size e) ks → Row s gs (k + size e) ps (k + size e + length ks)) → Row s gs k (placedAt k e ∷ ps) (k + length (prefix e ++ ks))
   unfolding size
   in-front k e ks ps h a others =
@@ -102,12 +102,12 @@ module _ (s : List ℕ) (gs : List Signature) where
       let there : Kinds (k + size e) ks = record { stand = stands-right (prefix e) ks (h .stand); ranged = every-right ranged (prefix e) ks (h .ranged) } in
       simp (length-append, ← add-assoc) (next here (others there))
 
-  args-row : (k : ℕ) (xs : Args) → Kinds k (prefixes xs) → AppliedArgs (arityOf gs) xs → Row s gs k (argsAt k xs) (k + length (prefixes xs))
+  args-row : (k : ℕ) (xs : Args) → Kinds k (prefixes xs) → ArgsComplete (arityOf gs) xs → Row s gs k (argsAt k xs) (k + length (prefixes xs))
   unfolding prefixes argsAt
   args-row k noArgs h a = simp add-zero end
   args-row k (arg x xs) h a = in-front k x (prefixes xs) (argsAt (k + size x) xs) h (a .0) (λ g. args-row (k + size x) xs g (a .1))
 
-  two-row : (k : ℕ) (p q : Expr) → Applied (arityOf gs) p × Applied (arityOf gs) q → Kinds k (prefix p ++ prefix q)
+  two-row : (k : ℕ) (p q : Expr) → CallsComplete (arityOf gs) p × CallsComplete (arityOf gs) q → Kinds k (prefix p ++ prefix q)
       → Row s gs k (placedAt k p ∷ placedAt (k + size p) q ∷ []) (k + length (prefix p ++ prefix q))
   two-row k p q a h = in-front k p (prefix q) _ h (a .0) (λ g. alone (k + size p) q g (a .1))
 
@@ -117,7 +117,7 @@ module _ (s : List ℕ) (gs : List Signature) where
   after-own k kind ks ps h others = rw (add-suc, ← suc-add) (others (record { stand = stands-after (h .stand); ranged = h .ranged .1 }))
 
   -- the parts stand one after the other, up to the expression's end
-  parts-row : (k : ℕ) (e : Expr) → Kinds k (prefix e) → Applied (arityOf gs) e → Row s gs (suc k) (partsAt k e) (k + length (prefix e))
+  parts-row : (k : ℕ) (e : Expr) → Kinds k (prefix e) → CallsComplete (arityOf gs) e → Row s gs (suc k) (partsAt k e) (k + length (prefix e))
   unfolding prefix partsAt
   parts-row k (const i) h a = after-own k _ _ _ h (λ g. simp add-zero end)
   parts-row k (var v) h a = after-own k _ _ _ h (λ g. simp add-zero end)
@@ -166,7 +166,7 @@ pub parts-counted : (s : List ℕ) (gs : List Signature) (k : ℕ) (e : Expr) �
 unfolding partsAt partCount partsOf headOf arityOf
 parts-counted s gs k e known h = by-kind e (head-in-range s gs k e h) (h .applied)
   where
-    by-kind : (e : Expr) → InRange (headerIn s .functions) (headOf e) → Applied (arityOf gs) e → length (partsAt k e) ≡ partCount (arityIn s) (partsOf (headOf e))
+    by-kind : (e : Expr) → InRange (headerIn s .functions) (headOf e) → CallsComplete (arityOf gs) e → length (partsAt k e) ≡ partCount (arityIn s) (partsOf (headOf e))
     by-kind (const i) r a = refl
     by-kind (var v) r a = refl
     by-kind (add p q) r a = refl
@@ -234,7 +234,7 @@ module _ (gs : List Signature) where
 -- what the rows read: all signatures, and as many nodes as they count
 record RowsRead (s : List ℕ) (gs : List Signature) : Type 0 where
   known : Known s gs
-  sum : total gs ≡ headerIn s .nodes
+  sum : sumOfCounts gs ≡ headerIn s .nodes
 
 rows-read : (s : List ℕ) (program : Program) → readProgram s ≡ done program → RowsRead s (signatures program)
 unfolding readProgram nodeRow prefixRow
@@ -258,7 +258,7 @@ few-parameters (suc j) = omega arith
 
 -- the bodies stand one after the other
 bodies-stand : (s : List ℕ) (gs : List Signature) (j k : ℕ) (fs : List Function) → length gs ≡ headerIn s .functions
-    → each (functionIn s) (length fs) j ≡ done (map signatureOf fs) → Stands s k (nodes fs) → LawfulFunctions gs j fs → Bodies s gs j k fs
+    → each (functionIn s) (length fs) j ≡ done (map signatureOf fs) → RecordsAt s k (nodes fs) → LawfulFunctions gs j fs → Bodies s gs j k fs
 unfolding nodes size
 bodies-stand s gs j k [] many e h l = no-more
 bodies-stand s gs j k (f ∷ fs) many e h l =
@@ -273,7 +273,7 @@ pub record ProgramHeld (s : List ℕ) (program : Program) : Type 0 where
   pub known : Known s (signatures program)
   pub held : Bodies s (signatures program) 0 (suc (length (program .functions))) (program .functions)
   pub functions : length (program .functions) ≡ headerIn s .functions
-  pub nodes : total (signatures program) ≡ headerIn s .nodes
+  pub nodes : sumOfCounts (signatures program) ≡ headerIn s .nodes
   pub few-nodes : headerIn s .nodes ≤ mostNodes
 
 pub program-held : (s : List ℕ) (program : Program) → Bytes s → readProgram s ≡ done program → ProgramHeld s program

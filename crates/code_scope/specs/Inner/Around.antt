@@ -8,17 +8,17 @@ use lib.ListN.{length, set}
 use Rattle.formats.specs.Inner.Buffers.{fromLast}
 use Rattle.formats.specs.Records.{Part, aNumber, aTree, asWhole, underNumber, underTrees}
 use Rattle.formats.specs.Programs.{Sort, numberValued, treeValued}
-use Rattle.translation.specs.Templates.{Words}
+use Rattle.translation.specs.Templates.{WordNumbers}
 use Rattle.code_scope.specs.declared.Scope.{Scope}
 
 -- What is known: the sort of the value expected, the word that each number name stands on, the
 -- newest first, and how many words stand above the base.
 pub record Around : Type 0 where
   pub sort : Sort
-  pub words : Words
+  pub words : WordNumbers
   pub standing : ℕ
 
-abbrev pub around : Sort → Words → ℕ → Around
+abbrev pub around : Sort → WordNumbers → ℕ → Around
 around sort words standing = record { sort = sort; words = words; standing = standing }
 
 -- What is known on entering part i of a record, by what the part is (rules, Scopes: `partScope` has
@@ -40,7 +40,7 @@ abbrev pub sortOf : Bool → Sort
 sortOf true = treeValued
 sortOf false = numberValued
 
-unfoldable pub wordsIn : Scope → Words
+unfoldable pub wordsIn : Scope → WordNumbers
 wordsIn c = fromLast (c .words) (min (c .names) mostNames)
 
 abbrev pub aroundOf : Scope → Around

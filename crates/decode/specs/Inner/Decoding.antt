@@ -5,7 +5,7 @@ use mathlib.Core.Path.{_≡_}
 use lib.Dec.{leb}
 use lib.ListN.{length}
 use Rattle.formats.specs.Refusals.{spaceTooShort}
-use Rattle.formats.specs.Results.{Result, done, refusal, andThen, verdict, check}
+use Rattle.formats.specs.Results.{Result, done, refusal, andThen, verdict, valueIf}
 use Rattle.formats.specs.Inner.Limits.{mostRecords}
 use Rattle.formats.specs.Rows.{readProgram}
 use Rattle.refusal.specs.Inner.Verdicts.{verdictResult}
@@ -26,12 +26,12 @@ decoded s table =
     (readProgram s)
     (λ program. andThen
     (passOne program)
-    (λ u. check (leb tableWords (length table)) spaceTooShort 0 (tabled table program)))
+    (λ u. valueIf (leb tableWords (length table)) spaceTooShort 0 (tabled table program)))
 
 -- The value, or else what was there before.
 unfoldable pub orElse : {A : Type 0} → Result A → A → A
 orElse (done x) before = x
-orElse (refusal number location) before = before
+orElse (refusal number position) before = before
 
 -- The verdict, and every word of the table.
 pub record Decodes (s table after : List ℕ) (r : Verdict) : Type 0 where

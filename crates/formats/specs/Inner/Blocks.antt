@@ -2,11 +2,11 @@
 use Prim.Native.Nat.{ℕ, _*_}
 use mathlib.Core.List.{List}
 use Rattle.formats.specs.Results.{Result, andThen}
-use Rattle.formats.specs.Blocks.{partBytes, programRecords, mostBlocks, inRoom}
+use Rattle.formats.specs.Blocks.{recordsBytes, programRecords, mostBlocks, inRoom}
 
 -- The most bytes of flat records: those of 17 full blocks.
 abbrev pub mostBytes : ℕ
-mostBytes = partBytes * mostBlocks
+mostBytes = recordsBytes * mostBlocks
 
 -- 01, Blocks: "510–511: check".
 abbrev pub checkOffset : ℕ

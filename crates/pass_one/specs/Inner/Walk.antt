@@ -4,7 +4,7 @@ use mathlib.Core.Bool.{Bool, true, false}
 use mathlib.Core.List.{List}
 use mathlib.Core.Path.{_≡_}
 use Rattle.formats.specs.Results.{Result, done, refusal, onValue}
-use Rattle.formats.specs.Records.{Kind, below}
+use Rattle.formats.specs.Records.{Kind, functionBelow}
 use Rattle.formats.specs.Programs.{Expr, size, Placed, Signature, Program}
 use Rattle.formats.specs.Rows.{readProgram}
 use Rattle.formats.specs.Inner.Fields.{headerIn, functionIn}
@@ -17,7 +17,7 @@ use Rattle.records.specs.declared.Record.{Record}
 use Rattle.rules.specs.Types.{Ty, Int, Tree⁺}
 use Rattle.rules.specs.Scopes.{scope, startOf, entry, entered}
 use Rattle.rules.specs.Scopes.{Scope as ScopeThere}
-use Rattle.rules.specs.PassOne.{typed, roomy, bareNumber, atEntry, passOver, passOne}
+use Rattle.rules.specs.PassOne.{typeFits, hasRoom, bareNumber, atEntry, passOver, passOne}
 use Rattle.walks.specs.Inner.Standing.{Known, passParts}
 use Rattle.walks.specs.Inner.Limits.{mostCount, mostTreeNames}
 use Rattle.walks.specs.Inner.Walks.{Inside, Went, Here, HereRow, PartsFrom, Begins}
@@ -60,7 +60,7 @@ FitsParts i k end (scope g n w τ) = Small k end (suc g) (suc (suc n)) (suc (w +
 
 -- The type test of a record that was read, by the signatures of the function records.
 pub record Typed (s : List ℕ) (c : Scope) (node : Record) (r : Bool) : Type 0 where
-  pub is : (gs : List Signature) → Known s gs → below (headerIn s .functions) (meant node) ≡ true → r ≡ typed gs (scopeOf c) (meant node)
+  pub is : (gs : List Signature) → Known s gs → functionBelow (headerIn s .functions) (meant node) ≡ true → r ≡ typeFits gs (scopeOf c) (meant node)
 
 -- Whether a function gives a number and has no number parameters.
 pub record Bare (s : List ℕ) (b : ℕ) (r : Bool) : Type 0 where
@@ -68,11 +68,11 @@ pub record Bare (s : List ℕ) (b : ℕ) (r : Bool) : Type 0 where
 
 -- The words test of a record that was read.
 pub record Roomy (s : List ℕ) (c : Scope) (node : Record) (r : Bool) : Type 0 where
-  pub is : (gs : List Signature) → Known s gs → below (headerIn s .functions) (meant node) ≡ true → r ≡ roomy gs (scopeOf c) (meant node)
+  pub is : (gs : List Signature) → Known s gs → functionBelow (headerIn s .functions) (meant node) ≡ true → r ≡ hasRoom gs (scopeOf c) (meant node)
 
 -- All tests of a record that was read.
 pub record Tested (s : List ℕ) (c : Scope) (k : ℕ) (node : Record) (r : Verdict) : Type 0 where
-  pub is : (gs : List Signature) → Known s gs → below (headerIn s .functions) (meant node) ≡ true
+  pub is : (gs : List Signature) → Known s gs → functionBelow (headerIn s .functions) (meant node) ≡ true
       → verdictResult r ≡ atEntry gs (entry (scopeOf c) k (meant node))
 
 -- Pass one over the expression at record k, entered with the scope c.

@@ -4,7 +4,7 @@ use mathlib.Core.List.{List, [], _∷_}
 use mathlib.Core.Path.{_≡_}
 use lib.ListN.{length}
 use Rattle.formats.specs.Refusals.{outOfOrder}
-use Rattle.formats.specs.Results.{Result, done, andThen, onValue, check}
+use Rattle.formats.specs.Results.{Result, done, andThen, onValue, valueIf}
 use Rattle.formats.specs.Programs.{Expr, caseOf, ifZero, size, Placed, Program}
 use Rattle.formats.specs.Rows.{readProgram}
 use Rattle.refusal.specs.Inner.Verdicts.{verdictResult}
@@ -44,7 +44,7 @@ pub record Reports (c : Checked) (m : ℕ) (w : Result (List ℕ)) : Type 0 wher
 -- through".
 pub record Joined (one : Pending) (other : Checked) (k : ℕ) (r : Checked) : Type 0 where
   pub reports : other .verdict ≡ Passed
-      → Reports r (other .next) (check (sameNames (listOf one) (listOf (other .pending))) outOfOrder k (listOf (other .pending)))
+      → Reports r (other .next) (valueIf (sameNames (listOf one) (listOf (other .pending))) outOfOrder k (listOf (other .pending)))
   pub on : r .next ≡ other .next
 
 -- How far a walk went on, where it passed.

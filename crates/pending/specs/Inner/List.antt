@@ -7,7 +7,7 @@ use lib.Dec.{leb, eqb}
 use lib.ListN.{length, replicate, set}
 use Rattle.formats.specs.Inner.Buffers.{fromLast}
 use Rattle.formats.specs.Refusals.{outOfOrder}
-use Rattle.formats.specs.Results.{check}
+use Rattle.formats.specs.Results.{valueIf}
 use Rattle.rules.specs.Limits.{mostPending}
 use Rattle.rules.specs.PassTwo.{takeHead}
 use Rattle.pending.specs.declared.Pending.{Pending}
@@ -47,7 +47,7 @@ headTaken p a =
 -- not taken.
 pub record Took (p : Pending) (a : ℕ) (r : Taken) : Type 0 where
   pub whole : r ≡ headTaken p a
-  pub reports : (k : ℕ) → takeHead a k (listOf p) ≡ check (r .head) outOfOrder k (listOf (r .pending))
+  pub reports : (k : ℕ) → takeHead a k (listOf p) ≡ valueIf (r .head) outOfOrder k (listOf (r .pending))
   pub kept : r .head ≡ false → r .pending ≡ p
 
 -- 01, Pass two: "puts its two names in front", where they fit.

@@ -4,7 +4,7 @@ use mathlib.Core.Bool.{Bool}
 use mathlib.Core.List.{List}
 use mathlib.Core.Path.{_≡_}
 use Rattle.formats.specs.Refusals.{prefixForm}
-use Rattle.formats.specs.Results.{Result, done, verdict, check, each}
+use Rattle.formats.specs.Results.{Result, done, verdict, valueIf, each}
 use Rattle.formats.specs.Records.{Kind}
 use Rattle.formats.specs.Programs.{Signature}
 use Rattle.formats.specs.Rows.{functionRow, nodeRow, exprsOf, exactlyOne, prefixRow}
@@ -17,7 +17,7 @@ Arities s arity = (b : ℕ) → b < headerIn s .functions → arity b ≡ arityI
 -- Whether the records from `first` up to `end`, where they are nodes, are exactly one expression.
 pub record IsOne (s : List ℕ) (first end : ℕ) (one : Bool) : Type 0 where
   pub is : (arity : ℕ → ℕ) (ks : List Kind) → Arities s arity → each (nodeIn s) (end - first) first ≡ done ks
-      → check one prefixForm first tt ≡ verdict (exactlyOne first (exprsOf arity ks))
+      → valueIf one prefixForm first tt ≡ verdict (exactlyOne first (exprsOf arity ks))
 
 -- What the row "prefix form" says, where the rows before it have passed.
 pub record PrefixSays (s : List ℕ) (r : Result (Unit {0})) : Type 0 where

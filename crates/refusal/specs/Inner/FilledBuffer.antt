@@ -4,7 +4,7 @@ use mathlib.Core.List.{List}
 use mathlib.Core.Path.{_≡_}
 use lib.ListN.{length}
 use Rattle.formats.specs.Results.{Result, done, refusal, onValue}
-use Rattle.formats.specs.Blocks.{lent}
+use Rattle.formats.specs.Blocks.{bufferAfter}
 use Rattle.refusal.specs.Inner.Numbers.{number}
 use Rattle.refusal.specs.declared.Filled.{Filled}
 use Rattle.refusal.specs.declared.Filled.the-variants.{Written, Refused}
@@ -18,4 +18,4 @@ filledResult (Refused why position) = refusal (number why) position
 -- byte of the buffer.
 pub record FilledBuffer (due : Result (List ℕ)) (before after : List ℕ) (r : Filled) : Type 0 where
   pub answer : filledResult r ≡ onValue length due
-  pub buffer : after ≡ lent before due
+  pub buffer : after ≡ bufferAfter before due

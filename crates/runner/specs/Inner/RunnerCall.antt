@@ -11,12 +11,12 @@ use Rattle.meaning.specs.Running.{valueWords, returnWords}
 use Rattle.meaning.specs.WorkWords.{WorkWords, beforeStream}
 use Rattle.machine.specs.Inner.Answers.{runAnswer}
 use Rattle.machine.specs.declared.Answer.{Answer}
-use Rattle.translation.specs.Calls.{prepared, runFile}
+use Rattle.translation.specs.TranslateAndRun.{prepared, runFile}
 use Rattle.translation.specs.ThisCall.{ProgramRun}
 
 -- The call's answer `r`, and its buffers: unprimed at entry, primed at exit. The first three fields
 -- say the whole answer, every byte of the output and every byte of the code buffer, by the one
--- definition `runFile` (`translation/specs/Calls`).
+-- definition `runFile` (`translation/specs/TranslateAndRun`).
 pub record RunnerCall (file input output output′ code code′ values values′ returns returns′ : List ℕ) (fuel : ℕ) (r : Answer) : Type 0 where
   pub answer : runAnswer r ≡ runFile file input output code fuel (length values) (length returns) .answer
   pub output-is : output′ ≡ runFile file input output code fuel (length values) (length returns) .output

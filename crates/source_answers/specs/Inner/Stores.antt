@@ -2,7 +2,7 @@
 use Prim.Native.Nat.{ℕ}
 use mathlib.Core.List.{List}
 use Rattle.meaning.specs.SourceRun.{SourceAnswer}
-use Rattle.answers.specs.Slots.{Reported}
+use Rattle.answers.specs.Slots.{Answered}
 use Rattle.answers.specs.Inner.Stores.{Stored}
 use Rattle.source_answers.specs.SourceSlots.{sourceSlotsOf, sourceSlots}
 
@@ -11,4 +11,4 @@ abbrev pub StoresSource : SourceAnswer → ℕ → ℕ → List ℕ → List ℕ
 StoresSource a number position before after r = Stored (sourceSlotsOf position a) number before after r
 
 abbrev pub AnswersSource : SourceAnswer → List ℕ → List ℕ → ℕ → Type 0
-AnswersSource a before after r = Reported sourceSlots (λ position. sourceSlotsOf position a) (a .outcome) before after r
+AnswersSource a before after r = Answered sourceSlots (λ position. sourceSlotsOf position a) (a .outcome) before after r

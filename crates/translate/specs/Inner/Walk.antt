@@ -18,7 +18,7 @@ use Rattle.walks.specs.Inner.Standing.{passParts}
 use Rattle.walks.specs.Inner.Limits.{parametersOfAny, mostCount, recordInstructions, mostEmitted}
 use Rattle.walks.specs.Inner.Walks.{Inside, Went, Here, HereRow, PartsFrom, Begins}
 use Rattle.formats.specs.Written.{written}
-use Rattle.translation.specs.Calls.{checkedRecords}
+use Rattle.translation.specs.TranslateAndRun.{checkedRecords}
 use Rattle.translation.specs.Templates.{code, codeEnd, firstWords, functionCode, functionEnd, entryOf, operationsOf, codeOf}
 use Rattle.code_scope.specs.Inner.Around.{Around, around, sortOf, wordsIn, aroundOf, mostNames, Named, Binds}
 use Rattle.code_scope.specs.declared.Scope.{Scope}

@@ -1,6 +1,6 @@
 -- The proof of the cycle of calls {tree_end}. The measure is the number of bytes from the offset
 -- on: the left tree begins after the node's tag, and the right one after the left one's end. Each
--- way out is a law of proofs/Told.antt.
+-- way out is a law of proofs/EndNumbers.antt.
 use borrow.Author.Needs.{needs}
 use Prim.Native.Nat.{ℕ, _<_, _+_, _-_}
 use native.Mathlib.Omega.{arith}

@@ -4,9 +4,9 @@ use mathlib.Core.List.{List, [], _∷_}
 use mathlib.Core.Path.{_≡_}
 use Rattle.formats.specs.Results.{Result, done, andThen, each}
 use Rattle.formats.specs.Records.{Kind, Const, Var, Add, IfZero, Let, Leaf, Node, Case, Call}
-use Rattle.formats.specs.Programs.{Expr, const, var, add, ifZero, letIn, leafOf, nodeOf, caseOf, call, prefix, size, Placed, placedAt, Applied, Every, InRange, Signature, signatureOf, Function, arityOf}
+use Rattle.formats.specs.Programs.{Expr, const, var, add, ifZero, letIn, leafOf, nodeOf, caseOf, call, prefix, size, Placed, placedAt, CallsComplete, Every, InRange, Signature, signatureOf, Function, arityOf}
 use Rattle.formats.specs.Inner.Fields.{headerIn, functionIn}
-use Rattle.formats.specs.ProgramFiles.{Stands}
+use Rattle.formats.specs.ProgramFiles.{RecordsAt}
 use Rattle.rules.specs.Scopes.{Scope, inside, entered}
 use Rattle.rules.specs.PassOne.{passOver}
 use Rattle.rules.specs.PassTwo.{walk}
@@ -31,9 +31,9 @@ headOf (call a b xs) = Call a b
 -- The records of e stand in s from record k on, and it is an expression of a program with these
 -- signatures.
 pub record Holds (s : List ℕ) (gs : List Signature) (k : ℕ) (e : Expr) : Type 0 where
-  pub stands : Stands s k (prefix e)
+  pub stands : RecordsAt s k (prefix e)
   pub in-range : Every (InRange (headerIn s .functions)) (prefix e)
-  pub applied : Applied (arityOf gs) e
+  pub applied : CallsComplete (arityOf gs) e
 
 -- Expressions stand one after the other, the first from record k on, and the last ends before
 -- record m.

@@ -8,10 +8,10 @@ use mathlib.Core.Path.{_≡_}
 use lib.Dec.{leb}
 use lib.ListN.{length}
 use Rattle.formats.specs.Refusals.{spaceTooShort}
-use Rattle.formats.specs.Results.{Result, done, refusal, andThen, onValue, check}
+use Rattle.formats.specs.Results.{Result, done, refusal, andThen, onValue, valueIf}
 use Rattle.formats.specs.Programs.{Program}
 use Rattle.formats.specs.Rows.{readProgram}
-use Rattle.formats.specs.Blocks.{flatIn, programIn, inRoom, lent}
+use Rattle.formats.specs.Blocks.{flatIn, programIn, inRoom, bufferAfter}
 use Rattle.rules.specs.PassTwo.{bothPasses}
 use Rattle.meaning.specs.Running.{Answer, valueWords, returnWords, streamRun}
 use Rattle.translation.specs.Templates.{codeOf}
@@ -34,7 +34,7 @@ translateFile room file = andThen (flatIn file) (translateRecords room)
 -- ---- the runner
 
 -- What a call gives: its answer, and every byte of the output and of the code buffer.
-pub record ProgramRan : Type 0 where
+pub record FileRan : Type 0 where
   pub answer : Answer
   pub output : List ℕ
   pub code : List ℕ
@@ -43,7 +43,7 @@ pub record ProgramRan : Type 0 where
 -- passes, then 13 for each lent buffer.
 unfoldable pub prepared : (room values returns : ℕ) (file : List ℕ) → Result (List ℕ)
 prepared room values returns file =
-    andThen (translateFile room file) (λ code. check (leb valueWords values && leb returnWords returns) spaceTooShort 0 code)
+    andThen (translateFile room file) (λ code. valueIf (leb valueWords values && leb returnWords returns) spaceTooShort 0 code)
 
 -- 01, What the lent buffers hold: "A run refused before its first instruction .. answers 0 in every
 -- count."
@@ -53,14 +53,14 @@ refusedBefore number position = record { outcome = refusal number position; unit
 -- The code goes to the start of the code buffer and stays, whatever the run answers; the run is
 -- that of the code alone. 01, What the lent buffers hold: "A refusal leaves every output buffer
 -- untouched, save the stream run's".
-unfoldable pub runFile : (file input output code : List ℕ) (fuel values returns : ℕ) → ProgramRan
+unfoldable pub runFile : (file input output code : List ℕ) (fuel values returns : ℕ) → FileRan
 runFile file input output code fuel values returns =
     elim (prepared (length code) values returns file) [
       | done bytes ↦
           record {
             answer = streamRun bytes input output fuel values returns .answer;
             output = streamRun bytes input output fuel values returns .output;
-            code = lent code (done bytes);
+            code = bufferAfter code (done bytes);
           }
       | refusal number position ↦ record { answer = refusedBefore number position; output = output; code = code }
     ]

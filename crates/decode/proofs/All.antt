@@ -30,7 +30,7 @@ use Rattle.part_locations.specs.declared.Location.{Location}
 use Rattle.part_locations.specs.Inner.Locations.{locationWith}
 use Rattle.record_rows.specs.Inner.Halves.{firstIn}
 use Rattle.decode.specs.Inner.Decoding.{tableWords}
-use Rattle.decode.specs.Inner.Walk.{Agrees, Small, Entering, Filled, Fills, startLocation, Starts, Ready, FillsAll}
+use Rattle.decode.specs.Inner.Walk.{Agrees, Small, Entering, Filled, FillsRows, startLocation, Starts, TableReady, FillsAll}
 
 -- ---- the first records and the arities of a program's functions
 
@@ -90,7 +90,7 @@ pub record Filling (s : List ℕ) (functions end : ℕ) (table₀ cases₀ table
   pub left : (program : Program) → readProgram s ≡ done program → Left s functions end table₀ table k j program
 
 -- at the start all functions are still to be done
-pub fill-first : (s table cases : List ℕ) (functions nodes end : ℕ) → Bytes s → Ready s table cases → functions ≡ headerIn s .functions → nodes ≡ headerIn s .nodes → end ≡ 1 + functions + nodes
+pub fill-first : (s table cases : List ℕ) (functions nodes end : ℕ) → Bytes s → TableReady s table cases → functions ≡ headerIn s .functions → nodes ≡ headerIn s .nodes → end ≡ 1 + functions + nodes
     → Filling s functions end table cases table cases (1 + functions) 0
 unfolding headerIn recordAt tabled
 fill-first s table cases functions nodes end bytes ready ef en el =
@@ -202,7 +202,7 @@ module _ (s : List ℕ) (functions end : ℕ) (table₀ cases₀ table cases : L
         → locationWith p cases ≡ bodyLocation (firstRecord program) (arityOf (signatures program)) (turn program e .here)
     body-location program e = ap (λ q. locationWith q cases) (starts-at program e)
 
-    module _ (table′ cases′ : List ℕ) (next : ℕ) (fills : Fills s table table′ cases cases′ k end p next) where
+    module _ (table′ cases′ : List ℕ) (next : ℕ) (fills : FillsRows s table table′ cases cases′ k end p next) where
       -- its rows are filled
       filled : (program : Program) (e : readProgram s ≡ done program)
           → Filled table table′ cases cases′ (firstRecord program) (arityOf (signatures program)) k p (turn program e .here .body) next

@@ -21,7 +21,7 @@ use Rattle.rules.specs.PassOne.{passOne}
 use Rattle.rules.specs.Inner.Checks.{checkOne}
 use Rattle.stepwise.specs.Inner.Rows.{tabled}
 use Rattle.decode.specs.Inner.Decoding.{tableWords, decoded, orElse, Decodes}
-use Rattle.decode.specs.Inner.Walk.{Ready, FillsAll}
+use Rattle.decode.specs.Inner.Walk.{TableReady, FillsAll}
 
 module _ (s table : List ℕ) where
   -- the refusal that is reported
@@ -54,7 +54,7 @@ module _ (s table : List ℕ) where
       pub decode-short : length table < tableWords → Decodes s table table (Refused SpaceTooShort 0)
       decode-short short = refused SpaceTooShort 0 (into ∙ simp (lt-leb _ _ short))
 
-      pub decode-ready : (cases : List ℕ) → length cases ≡ mostRecords → tableWords ≤ length table → Ready s table cases
+      pub decode-ready : (cases : List ℕ) → length cases ≡ mostRecords → tableWords ≤ length table → TableReady s table cases
       decode-ready cases long room = record { is-read = ap verdict (the-program .first); room = room; stack = omega arith }
 
       pub decode-done : (after : List ℕ) → tableWords ≤ length table → FillsAll s table after → Decodes s table after Passed

@@ -12,12 +12,12 @@ use Rattle.formats.specs.Records.{Kind, Const, Var, Add, IfZero, Let, Leaf, Nod
 use Rattle.formats.specs.Inner.Limits.{mostRecords}
 use Rattle.formats.specs.Inner.Fields.{headerIn}
 use Rattle.walks.specs.Inner.Limits.{mostCount}
-use Rattle.stepwise.specs.Inner.Rows.{actionOf, codeOf, operandOf, treeOf, moreOf}
+use Rattle.stepwise.specs.Inner.Rows.{actionOf, namingCode, operandOf, treeOf, moreOf}
 use Rattle.part_locations.specs.declared.Location.{Location}
 use Rattle.part_locations.specs.Inner.Locations.{locationWith}
 use Rattle.record_rows.specs.Inner.Halves.{firstIn, operandIn, treeIn, ownIn}
 use Rattle.record_rows.proofs.Halves.{case-above}
-use Rattle.decode.specs.Inner.Walk.{Agrees, Stacked, Reported}
+use Rattle.decode.specs.Inner.Walk.{Agrees, Stacked, FirstHalf}
 
 -- codes are small where the entries of the stack are records
 module _ {cases : List ℕ} {depth more : ℕ} (h : Stacked cases depth more) where
@@ -27,8 +27,8 @@ module _ {cases : List ℕ} {depth more : ℕ} (h : Stacked cases depth more) wh
     | no under ↦ omega (arith, getD-take depth cases n 0 (omega arith), h .low n (omega arith))
   ]
 
-  code-low : (a : ℕ) → codeOf (take depth cases) a % 65536 ≡ codeOf (take depth cases) a
-  unfolding codeOf
+  code-low : (a : ℕ) → namingCode (take depth cases) a % 65536 ≡ namingCode (take depth cases) a
+  unfolding namingCode
   code-low zero = refl
   code-low (suc j) = omega (arith, entry-low (j / 2))
 
@@ -37,7 +37,7 @@ low-word : (n most : ℕ) → n ≤ most → most < 65536 → n % 65536 ≡ n
 low-word n most h g = omega arith
 
 module _ (s cases : List ℕ) (p : Location) (entry arity : ℕ → ℕ) (more : ℕ) (agrees : Agrees s entry arity) (few : p .names ≤ mostCount) (stacked : Stacked cases (p .depth) more) where
-  pub reported : (kind : Kind) → functionBelow (headerIn s .functions) kind ≡ true → Reported entry arity (locationWith p cases) kind (ownIn s cases (p .names) (p .depth) kind)
+  pub reported : (kind : Kind) → functionBelow (headerIn s .functions) kind ≡ true → FirstHalf entry arity (locationWith p cases) kind (ownIn s cases (p .names) (p .depth) kind)
   unfolding ownIn actionOf operandIn treeIn operandOf treeOf moreOf functionBelow
   reported (Const i) low = record { action = refl; operand = refl; tree = refl; more = refl }
   reported (Var a) low = record { action = refl; operand = refl; tree = refl; more = refl }

@@ -38,7 +38,7 @@ use Rattle.part_locations.specs.declared.Location.{Location}
 use Rattle.part_locations.specs.Inner.Locations.{locationWith, partIn, noted}
 use Rattle.record_rows.specs.declared.Own.{Own}
 use Rattle.record_rows.specs.Inner.Halves.{ownIn}
-use Rattle.decode.specs.Inner.Walk.{insideLocation, Agrees, Reported, rowIn, Small, Entering, Same, Filled, Fills, rowsOfParts, SmallParts, Counted, EnteringParts, FillsParts}
+use Rattle.decode.specs.Inner.Walk.{insideLocation, Agrees, FirstHalf, rowIn, Small, Entering, Same, Filled, FillsRows, rowsOfParts, SmallParts, Counted, EnteringParts, FillsParts}
 use Rattle.decode.proofs.Leaves.{reported}
 use Rattle.decode.proofs.Locations.{inside-plain, grows, location-inside, few-part, stacked-less, stacked-same, same-more, stacked-inside, same-inside}
 use Rattle.decode.proofs.Rows.{rows-split, length-parts}
@@ -46,7 +46,7 @@ use Rattle.decode.proofs.Rows.{rows-split, length-parts}
 -- ---- `decode_at`
 
 -- the words of a row, where they are small
-row-is : (entry arity : ℕ → ℕ) (cases : List ℕ) (k end : ℕ) (p : Location) (kind : Kind) (own : Own) (next : ℕ) → Reported entry arity (locationWith p cases) kind own → Small k end p → next ≤ end
+row-is : (entry arity : ℕ → ℕ) (cases : List ℕ) (k end : ℕ) (p : Location) (kind : Kind) (own : Own) (next : ℕ) → FirstHalf entry arity (locationWith p cases) kind own → Small k end p → next ≤ end
     → rowIn own p next ≡ rowOf entry arity (locationWith p cases) next kind
 row-is entry arity cases k end p kind own next half small inside =
     let role : p .role % 65536 ≡ p .role = omega (arith, small .role) in
@@ -76,12 +76,12 @@ module _ (s table cases : List ℕ) (k end : ℕ) (p : Location) where
   stayed small = record { on = le-refl k; inside = small .inside .before-end }
 
   -- past the end no expression stands
-  pub fill-past : Small k end p → end ≤ k → Fills s table table cases cases k end p k
+  pub fill-past : Small k end p → end ≤ k → FillsRows s table table cases cases k end p k
   fill-past small over = record { went = stayed small; is = λ entry arity e h. absurd (omega (arith, some-record e, h .here .fits)) }
 
   module _ (read : RecordRead) (says : described read ≡ onValue shapeOf (nodeIn s k)) where
     -- no expression begins with a record that is refused
-    pub fill-unread : (why : Refusal) (location : ℕ) → Small k end p → read ≡ Refused why location → Fills s table table cases cases k end p k
+    pub fill-unread : (why : Refusal) (location : ℕ) → Small k end p → read ≡ Refused why location → FillsRows s table table cases cases k end p k
     fill-unread why location small is = record {
       went = stayed small;
       is = λ entry arity e h. done-not (says ∙ ap (onValue shapeOf) (node-held s (h .here .signed) k e (h .here .holds))) (ap described is);
@@ -132,7 +132,7 @@ module _ (s table cases : List ℕ) (k end : ℕ) (p : Location) where
       pub fill-read : (own : Own) (there after cases′ : List ℕ) (next : ℕ) → Small k end p → k < end → own ≡ ownIn s cases (p .names) (p .depth) (meant node)
           → FillsParts s table there cases cases′ node parts k 0 count (k + 1) end p next
           → after ≡ written there (rowWords * k) (rowIn own p next)
-          → Fills s table after cases cases′ k end p next
+          → FillsRows s table after cases cases′ k end p next
       fill-read own there after cases′ next small more owns l wrote-it = record {
         went = record { on = omega (arith, l .went .on); inside = l .went .inside };
         is = λ entry arity e h.
@@ -180,7 +180,7 @@ module _ (s table cases : List ℕ) (node : Record) (parts : Parts) (r i count k
   }
 
   module _ (part : Part) (here : partOf part ≡ nthPart (listed parts) i) (inner : Location) (noted-cases between cases₁ : List ℕ) (next : ℕ)
-      (is-part : inner ≡ partIn (partOf part) (meant node) r i count p) (is-noted : noted-cases ≡ noted (partOf part) r (p .depth) cases) (f : Fills s table between noted-cases cases₁ k end inner next) (more : i < count) where
+      (is-part : inner ≡ partIn (partOf part) (meant node) r i count p) (is-noted : noted-cases ≡ noted (partOf part) r (p .depth) cases) (f : FillsRows s table between noted-cases cases₁ k end inner next) (more : i < count) where
     -- no count is cut
     is-inner : inner ≡ insideLocation (partOf part) (meant node) r i count p
     is-inner = is-part ∙ inside-plain (partOf part) r count (meant node) i p (grows r i k end p small)

@@ -12,7 +12,7 @@ ghost use mathlib.Core.Path.{_≡_};
 ghost use Rattle.formats.specs.Written.{written};
 ghost use Rattle.stepwise.specs.Inner.Rows.{rowWords};
 ghost use Rattle.decode.specs.Inner.Decoding.{Decodes};
-ghost use Rattle.decode.specs.Inner.Walk.{rowIn, Small, SmallParts, Fills, FillsParts, Starts, Ready, FillsAll};
+ghost use Rattle.decode.specs.Inner.Walk.{rowIn, Small, SmallParts, FillsRows, FillsParts, Starts, TableReady, FillsAll};
 
 // How many words a row has.
 const ROW_WORDS: usize = 8;
@@ -56,7 +56,7 @@ fn decode_at(
     location: Location,
 ) -> usize
     requires { ⌜ Small k end location ⌝ }
-    ensures { λ r. ⌜ Fills (now (flat .entry)) (now (table .entry)) (now (table .exit))
+    ensures { λ r. ⌜ FillsRows (now (flat .entry)) (now (table .entry)) (now (table .exit))
         (now (cases .entry)) (now (cases .exit)) k end location r ⌝ }
 {
     if end <= k {
@@ -147,7 +147,7 @@ fn start(flat: &[u8], j: u16) -> Location
 
 // Fills the rows of all functions.
 fn decode_all(flat: &[u8], table: &mut [u16], cases: &mut [u16])
-    requires { ⌜ Ready (now flat) (now table) (now cases) ⌝ }
+    requires { ⌜ TableReady (now flat) (now table) (now cases) ⌝ }
     ensures { λ _. ⌜ FillsAll (now (flat .entry)) (now (table .entry)) (now (table .exit)) ⌝ }
 {
     let functions = signatures::functions_in(flat) as u16;

@@ -18,7 +18,7 @@ use Rattle.records.specs.declared.Constant.{Constant}
 use Rattle.records.specs.declared.NumberName.{NumberName}
 use Rattle.records.specs.declared.TreeName.{TreeName}
 use Rattle.records.specs.declared.Called.{Called}
-use Rattle.stepwise.specs.Inner.Rows.{givesConstant, givesNamed, entersPart, tagsNode, looksAtTree, callsFunction, actionOf, codeOf, moreOf}
+use Rattle.stepwise.specs.Inner.Rows.{givesConstant, givesNamed, entersPart, tagsNode, looksAtTree, callsFunction, actionOf, namingCode, moreOf}
 use Rattle.record_rows.specs.declared.Own.{Own}
 use Rattle.record_rows.specs.Inner.Halves.{firstIn, operandIn, treeIn, ownIn}
 
@@ -60,16 +60,16 @@ pub ruleset cases-at = (case-above, case-past, case-there)
 -- ---- `code_of`
 
 module _ (cases : List ℕ) (depth a : ℕ) where
-  pub code-own : a ≡ 0 → 0 ≡ codeOf (take depth cases) a % 65536
-  unfolding codeOf
-  code-own e = sym (ap (λ n. codeOf (take depth cases) n % 65536) e)
+  pub code-own : a ≡ 0 → 0 ≡ namingCode (take depth cases) a % 65536
+  unfolding namingCode
+  code-own e = sym (ap (λ n. namingCode (take depth cases) n % 65536) e)
 
-  pub code-case : (x : ℕ) → a ≢ 0 → x ≡ getD (take depth cases) ((a - 1) / 2) 0 → (1 + (2 * x + (a - 1) % 2)) % 65536 ≡ codeOf (take depth cases) a % 65536
-  unfolding codeOf
+  pub code-case : (x : ℕ) → a ≢ 0 → x ≡ getD (take depth cases) ((a - 1) / 2) 0 → (1 + (2 * x + (a - 1) % 2)) % 65536 ≡ namingCode (take depth cases) a % 65536
+  unfolding namingCode
   code-case x other e =
       let next : a ≡ suc (a - 1) = omega arith in
       let same : 1 + (2 * x + (a - 1) % 2) ≡ suc (2 * getD (take depth cases) ((a - 1) / 2) 0 + (a - 1) % 2) = omega arith in
-      ap (λ n. n % 65536) (same ∙ sym (ap (codeOf (take depth cases)) next))
+      ap (λ n. n % 65536) (same ∙ sym (ap (namingCode (take depth cases)) next))
 
 pub ruleset codes = (code-own, code-case)
 
@@ -108,19 +108,19 @@ module _ (s cases : List ℕ) (names depth : ℕ) (node : Record) (o : Own) wher
   unfolding ownIn actionOf operandIn treeIn moreOf
   owns-node case e = of-kind aNode (ap meant case) e
 
-  pub owns-case : (t : TreeName) (tree : ℕ) → node ≡ Case t → tree ≡ codeOf (take depth cases) (t .a) % 65536
+  pub owns-case : (t : TreeName) (tree : ℕ) → node ≡ Case t → tree ≡ namingCode (take depth cases) (t .a) % 65536
       → o ≡ record { action = looksAtTree; operand = names % 65536; tree = tree; more = 0 } → o ≡ ownIn s cases names depth (meant node)
   unfolding ownIn actionOf operandIn treeIn moreOf
   owns-case t tree case et e =
       of-kind (aCase (t .a)) (ap meant case) (e ∙ ap (λ n. record { action = looksAtTree; operand = names % 65536; tree = n; more = 0 }) et)
 
-  pub owns-call : (c : Called) (tree first many : ℕ) → node ≡ Call c → tree ≡ codeOf (take depth cases) (c .a) % 65536 → first ≡ firstIn s (c .b) → many ≡ arityIn s (c .b)
+  pub owns-call : (c : Called) (tree first many : ℕ) → node ≡ Call c → tree ≡ namingCode (take depth cases) (c .a) % 65536 → first ≡ firstIn s (c .b) → many ≡ arityIn s (c .b)
       → o ≡ record { action = callsFunction; operand = first % 65536; tree = tree; more = many } → o ≡ ownIn s cases names depth (meant node)
   unfolding ownIn actionOf operandIn treeIn moreOf
   owns-call c tree first many case et ef em e =
       of-kind (aCall (c .a) (c .b)) (ap meant case)
       (e
       ∙ ap₂ (λ f n. record { action = callsFunction; operand = f % 65536; tree = n; more = many }) ef et
-      ∙ ap (λ n. record { action = callsFunction; operand = firstIn s (c .b) % 65536; tree = codeOf (take depth cases) (c .a) % 65536; more = n }) em)
+      ∙ ap (λ n. record { action = callsFunction; operand = firstIn s (c .b) % 65536; tree = namingCode (take depth cases) (c .a) % 65536; more = n }) em)
 
 pub ruleset owned = (owns-const, owns-var, owns-add, owns-if, owns-let, owns-leaf, owns-node, owns-case, owns-call)

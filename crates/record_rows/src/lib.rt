@@ -5,7 +5,7 @@ ghost use Prim.Native.Nat.{_%_};
 ghost use mathlib.Core.Path.{_≡_};
 ghost use lib.ListN.{getD, take};
 ghost use Rattle.records.specs.Inner.Read.{meant};
-ghost use Rattle.stepwise.specs.Inner.Rows.{codeOf};
+ghost use Rattle.stepwise.specs.Inner.Rows.{namingCode};
 ghost use Rattle.record_rows.specs.Inner.Halves.{firstIn, ownIn};
 
 // What a record does when it begins.
@@ -59,7 +59,7 @@ fn case_at(cases: &[u16], depth: usize, n: usize) -> u16
 
 // The code that a row has instead of tree name a.
 fn code_of(cases: &[u16], depth: usize, a: u8) -> u16
-    ensures { λ r. ⌜ r ≡ codeOf (take depth (now (cases .entry))) a % 65536 ⌝ }
+    ensures { λ r. ⌜ r ≡ namingCode (take depth (now (cases .entry))) a % 65536 ⌝ }
 {
     if a == 0 {
         return 0;

@@ -21,19 +21,19 @@ use Rattle.finish_record.specs.Inner.Rises.{Rises}
 use Rattle.open_call.specs.Inner.Opens.{Opens}
 use Rattle.result_bytes.specs.Inner.Bytes.{countLimit, Says}
 use Rattle.source_walk.specs.declared.Walked.{Walked}
-use Rattle.source_walk.specs.Inner.Loop.{Run, run, weightOf, beginStep, riseStep, openStep, climbing, climbed, turned, finished, Ending, ending, walking, firstStage, walked}
+use Rattle.source_walk.specs.Inner.Loop.{Run, run, weightOf, beginStep, riseStep, openStep, climbing, climbed, turned, answerWith, Ending, ending, walking, firstStage, walked}
 use Rattle.source_walk.specs.Inner.Loop.{BeginsOne, Climbs, OpensOne, Turns, Walks}
 
 -- ---- `finish`, `weight_of`
 
 module _ (s : Stage) where
-  pub finish-ended : (begun : ℕ) → s .mode ≡ hasEnded → record { stop = 0; begun = begun; written = s .written; number = s .number } ≡ finished s begun
-  unfolding finished
-  finish-ended begun e = rw (finished, eq-eqb _ _ e)
+  pub finish-ended : (begun : ℕ) → s .mode ≡ hasEnded → record { stop = 0; begun = begun; written = s .written; number = s .number } ≡ answerWith s begun
+  unfolding answerWith
+  finish-ended begun e = rw (answerWith, eq-eqb _ _ e)
 
-  pub finish-deep : (begun : ℕ) → s .mode ≢ hasEnded → record { stop = tooManyCalls; begun = begun; written = 0; number = 0 } ≡ finished s begun
-  unfolding finished
-  finish-deep begun h = rw (finished, ne-eqb _ _ h)
+  pub finish-deep : (begun : ℕ) → s .mode ≢ hasEnded → record { stop = tooManyCalls; begun = begun; written = 0; number = 0 } ≡ answerWith s begun
+  unfolding answerWith
+  finish-deep begun h = rw (answerWith, ne-eqb _ _ h)
 
   pub weight-finished : s .mode ≡ isFinished → 1 + 65536 * s .calls + s .node ≡ weightOf s
   unfolding weightOf
@@ -280,7 +280,7 @@ module _ (T input : List ℕ) where
   walks-on fuel begun p e = simp (walking, eq-eqb _ _ e)
 
   walks-out : (fuel begun : ℕ) (p : Run) → turned T input p .stage .mode ≢ toBegin
-      → walking T input (suc fuel) begun p ≡ ending (finished (turned T input p .stage) (suc begun)) (turned T input p)
+      → walking T input (suc fuel) begun p ≡ ending (answerWith (turned T input p .stage) (suc begun)) (turned T input p)
   unfolding walking
   walks-out fuel begun p h = simp (walking, ne-eqb _ _ h)
 
@@ -366,14 +366,14 @@ module _ (T input : List ℕ) (first fuel : ℕ) (output₀ values₀ returns₀
             short = w .short;
           }
 
-      pub walk-stops : (end : Walked) → r .mode ≢ toBegin → end ≡ finished r (begun + 1)
+      pub walk-stops : (end : Walked) → r .mode ≢ toBegin → end ≡ answerWith r (begun + 1)
           → Walks T input first fuel output₀ output′ values₀ values′ returns₀ returns′ end
       walk-stops end other e =
           walks-to output′ values′ returns′ r end walk-long-values walk-long-returns (w .short)
           (so-far
           ∙ walks-out T input (fuel - (begun + 1)) begun (run output values returns s) (λ m. other (sym mode-is ∙ m))
-          ∙ ap (λ (p : Run). ending (finished (p .stage) (suc begun)) p) (sym (t .moves .is))
-          ∙ ap (λ x. ending x (run output′ values′ returns′ r)) (ap (finished r) (sym (add-one begun)) ∙ sym e))
+          ∙ ap (λ (p : Run). ending (answerWith (p .stage) (suc begun)) p) (sym (t .moves .is))
+          ∙ ap (λ x. ending x (run output′ values′ returns′ r)) (ap (answerWith r) (sym (add-one begun)) ∙ sym e))
 
   -- the fuel is used up
   pub walk-ends : (output values returns : List ℕ) (s : Stage) (begun : ℕ)

@@ -7,7 +7,7 @@ use stages::OPEN;
 use stages::STUCK;
 use stages::Stage;
 ghost use mathlib.Core.Path.{_≡_};
-ghost use Rattle.source_walk.specs.Inner.Loop.{weightOf, finished, BeginsOne, Climbs, OpensOne, Turns, Walks};
+ghost use Rattle.source_walk.specs.Inner.Loop.{weightOf, answerWith, BeginsOne, Climbs, OpensOne, Turns, Walks};
 
 // This falls at each step from one finished record to the next.
 fn weight_of(s: Stage) -> usize
@@ -104,7 +104,7 @@ const TOO_MANY_CALLS: u32 = 18;
 // What a walk that stops at this stage answers. A program's rows lead to no stuck stage, so a walk
 // that has not ended has come to a call too many.
 fn finish(s: Stage, begun: u64) -> Walked
-    ensures { λ r. ⌜ r ≡ finished s begun ⌝ }
+    ensures { λ r. ⌜ r ≡ answerWith s begun ⌝ }
 {
     if s.mode == ENDED {
         return Walked {

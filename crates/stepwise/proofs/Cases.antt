@@ -22,7 +22,7 @@ use Rattle.meaning.specs.Evaluation.{resultBytes, resultNumber}
 use Rattle.meaning.specs.OpenCalls.{gives, afterBegun, followedBy, numberOr, treeOr, resultTree, evaluate, evaluateArgs, firstRecord, called, evaluation}
 use Rattle.meaning.specs.Meaning.{PassesOne}
 use Rattle.meaning.proofs.MeaningCases.{two-leaves}
-use Rattle.stepwise.specs.Inner.Rows.{callsFunction, actionOf, codeOf, roleOf, slotOf, namesIn, keepsIn, casesIn, operandOf, treeOf, moreOf, rowsOf, rowsOfArgs, afterArgs}
+use Rattle.stepwise.specs.Inner.Rows.{callsFunction, actionOf, namingCode, roleOf, slotOf, namesIn, keepsIn, casesIn, operandOf, treeOf, moreOf, rowsOf, rowsOfArgs, afterArgs}
 use Rattle.stepwise.specs.Inner.Rows.{rowsOfAll, rowWords, rowsIn, tabled}
 use Rattle.stepwise.specs.Inner.Steps.{begin, State, deep, beginning, opening}
 use Rattle.stepwise.specs.Inner.Outcomes.{reported, reportedOf, Comes}
@@ -42,7 +42,7 @@ grow-rows : rowsIn grow
     ∷ 5 ∷ 2 ∷ 5 ∷ 0 ∷ 6 ∷ 7 ∷ 0 ∷ 9
     ∷ 5 ∷ 2 ∷ 6 ∷ 0 ∷ 4 ∷ 7 ∷ 0 ∷ 10
     ∷ []
-unfolding grow rowsOfAll rowsOf actionOf codeOf roleOf slotOf namesIn keepsIn casesIn operandOf treeOf moreOf firstRecord arityOf nth sumOfCounts signatureOf size prefix
+unfolding grow rowsOfAll rowsOf actionOf namingCode roleOf slotOf namesIn keepsIn casesIn operandOf treeOf moreOf firstRecord arityOf nth sumOfCounts signatureOf size prefix
 grow-rows = refl
 
 -- A Call of two arguments, with one number kept: the first argument's word is below that of the
@@ -67,13 +67,13 @@ pair-rows : rowsIn pair
     ∷ 1 ∷ 0 ∷ 0 ∷ 0 ∷ 4 ∷ 12 ∷ 0 ∷ 15
     ∷ 1 ∷ 1 ∷ 0 ∷ 0 ∷ 4 ∷ 12 ∷ 0 ∷ 16
     ∷ []
-unfolding pair programOf numbered rowsOfAll rowsOf rowsOfArgs afterArgs actionOf codeOf roleOf slotOf namesIn keepsIn casesIn operandOf treeOf moreOf firstRecord arityOf nth sumOfCounts signatureOf size prefix prefixes
+unfolding pair programOf numbered rowsOfAll rowsOf rowsOfArgs afterArgs actionOf namingCode roleOf slotOf namesIn keepsIn casesIn operandOf treeOf moreOf firstRecord arityOf nth sumOfCounts signatureOf size prefix prefixes
 pair-rows = refl
 
 -- the codes of the trees named inside two Cases, at records 2 and 5: the frame's tree, the left and
 -- the right tree of the first Case, then those of the second
-codes : map (codeOf (2 ∷ 5 ∷ [])) (0 ∷ 1 ∷ 2 ∷ 3 ∷ 4 ∷ []) ≡ 0 ∷ 5 ∷ 6 ∷ 11 ∷ 12 ∷ []
-unfolding codeOf
+codes : map (namingCode (2 ∷ 5 ∷ [])) (0 ∷ 1 ∷ 2 ∷ 3 ∷ 4 ∷ []) ≡ 0 ∷ 5 ∷ 6 ∷ 11 ∷ 12 ∷ []
+unfolding namingCode
 codes = refl
 
 -- ---- the steps

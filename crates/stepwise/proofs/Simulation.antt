@@ -35,7 +35,7 @@ use Rattle.meaning.proofs.Levels.{level-newest, level-older, level-found, level
 use Rattle.meaning.proofs.Proper.{Proper, proper-const, proper-var, proper-add, proper-ifZero, proper-let, proper-leaf}
 use Rattle.meaning.proofs.Proper.{proper-node, proper-case, proper-call, proper-none, proper-arg, count-proper}
 use Rattle.meaning.proofs.Sorts.{ValuesOf, valueOf}
-use Rattle.stepwise.specs.Inner.Rows.{Location, passed, lastWord, codeOf, partLocation}
+use Rattle.stepwise.specs.Inner.Rows.{Location, passed, lastWord, namingCode, partLocation}
 use Rattle.stepwise.specs.Inner.Rows.{callsFunction, actionOf, roleOf, slotOf, namesIn, keepsIn, casesIn, operandOf, treeOf, moreOf}
 use Rattle.stepwise.specs.Inner.Steps.{State, Turn, begin, finished, opens, frameWords, recordLimit, mostWaiting, wordAt, withWord, withEnd}
 use Rattle.stepwise.specs.Inner.Steps.{actionAt, operandAt, treeAt, moreAt, roleAt, parentAt, slotAt, Found}
@@ -139,7 +139,7 @@ module _ (program : Program) (T input : List ℕ) (k : ℕ) where
     agrees-trees :
         (a : ℕ) (left right : Tree) (r′ : ℕ)
         → suc r ≤ r′
-        → treeAt T r ≡ codeOf cases a
+        → treeAt T r ≡ namingCode cases a
         → treeNamed E a ≡ some (node left right)
         → Agrees g (suc (suc n)) (cases ++ (r ∷ [])) r′ (withTrees left right E) s
     agrees-trees a left right r′ later code is = record {

@@ -26,7 +26,7 @@ use Rattle.formats.proofs.Results.{done-injective, both-held}
 use Rattle.formats.proofs.Tokens.{stands}
 use Rattle.meaning.specs.Levels.{atLevel}
 use Rattle.meaning.proofs.Levels.{level-newest, level-older, level-below}
-use Rattle.stepwise.specs.Inner.Rows.{codeOf}
+use Rattle.stepwise.specs.Inner.Rows.{namingCode}
 use Rattle.stepwise.specs.Inner.Steps.{State, treeAt, Found, the-own, the-left, the-right, the-known, onRight, knownAfter}
 
 -- ---- trees in the input
@@ -153,7 +153,7 @@ pub record At (T input : List ℕ) (own r code : ℕ) (t : Tree) : Type 0 where
 -- the trees named at record r, the Cases in whose node parts it stands being `cases`
 pub record Named (T input : List ℕ) (own : ℕ) (cases : List ℕ) (r : ℕ) (trees : List Tree) : Type 0 where
   pub many : length trees ≡ suc (2 * length cases)
-  pub each : (a : ℕ) (t : Tree) → atLevel trees a ≡ some t → At T input own r (codeOf cases a) t
+  pub each : (a : ℕ) (t : Tree) → atLevel trees a ≡ some t → At T input own r (namingCode cases a) t
 
 -- at later records the same trees are named
 at-later : {T input : List ℕ} {own r r′ code : ℕ} {t : Tree} → r ≤ r′ → At T input own r code t → At T input own r′ code t
@@ -176,8 +176,8 @@ by-level {A} P x xs newest older a y e = by-test (eqb a (length xs)) refl
     by-test false t = older a y (sym (level-older x a xs (eqb-false a (length xs) t)) ∙ e)
 
 -- the code of a frame's own tree
-code-own : (cases : List ℕ) → codeOf cases 0 ≡ 0
-unfolding codeOf
+code-own : (cases : List ℕ) → namingCode cases 0 ≡ 0
+unfolding namingCode
 code-own cases = refl
 
 -- at first the frame's own tree is named
@@ -185,7 +185,7 @@ pub named-first : {T input : List ℕ} {own r : ℕ} {t : Tree} → Lies input o
 named-first {T} {input} {own} {r} {t} h =
     record {
       many = refl;
-      each = by-level (λ a u. At T input own r (codeOf [] a) u) t []
+      each = by-level (λ a u. At T input own r (namingCode [] a) u) t []
           (rw (code-own []) (record { offset = own; found = λ s same cached. rw (← same) the-own; lies = h; small = zero-le }))
           (λ a u e. absurd (none a u e));
     }
@@ -195,23 +195,23 @@ named-first {T} {input} {own} {r} {t} h =
 
 module _ (cases : List ℕ) (r : ℕ) where
   -- the codes of a node's left and right tree
-  code-left : codeOf (cases ++ (r ∷ [])) (suc (2 * length cases)) ≡ suc (2 * r)
-  unfolding codeOf
+  code-left : namingCode (cases ++ (r ∷ [])) (suc (2 * length cases)) ≡ suc (2 * r)
+  unfolding namingCode
   code-left =
       let half : 2 * length cases / 2 ≡ length cases = omega arith in
       let rest : 2 * length cases % 2 ≡ 0 = omega arith in
       rw (half, rest, getD-at cases r [] 0 (length cases) refl, add-zero)
 
-  code-right : codeOf (cases ++ (r ∷ [])) (suc (suc (2 * length cases))) ≡ suc (suc (2 * r))
-  unfolding codeOf
+  code-right : namingCode (cases ++ (r ∷ [])) (suc (suc (2 * length cases))) ≡ suc (suc (2 * r))
+  unfolding namingCode
   code-right =
       let half : suc (2 * length cases) / 2 ≡ length cases = omega arith in
       let rest : suc (2 * length cases) % 2 ≡ 1 = omega arith in
       rw (half, rest, getD-at cases r [] 0 (length cases) refl) (omega arith)
 
   -- the codes of the trees named before stay
-  code-older : (a : ℕ) → a < suc (2 * length cases) → codeOf (cases ++ (r ∷ [])) a ≡ codeOf cases a
-  unfolding codeOf
+  code-older : (a : ℕ) → a < suc (2 * length cases) → namingCode (cases ++ (r ∷ [])) a ≡ namingCode cases a
+  unfolding namingCode
   code-older zero h = refl
   code-older (suc j) h =
       let inside : j / 2 < length cases = omega arith in
@@ -240,7 +240,7 @@ found-right {T} {input} {s} {p} {l} c lies small cached found = by-test (eqb (su
 -- in the node part of the Case at record r, which looks at the tree of name a, its left and its
 -- right tree are named
 pub named-deeper : {T input : List ℕ} {own : ℕ} {cases : List ℕ} {r : ℕ} {trees : List Tree} (a : ℕ) (left right : Tree)
-    → treeAt T r ≡ codeOf cases a → atLevel trees a ≡ some (node left right) → Named T input own cases r trees
+    → treeAt T r ≡ namingCode cases a → atLevel trees a ≡ some (node left right) → Named T input own cases r trees
     → Named T input own (cases ++ (r ∷ [])) (suc r) (right ∷ (left ∷ trees))
 named-deeper {T} {input} {own} {cases} {r} {trees} a left right code e n =
     record {
@@ -251,12 +251,12 @@ named-deeper {T} {input} {own} {cases} {r} {trees} a left right code e n =
     }
   where
     P : ℕ → Tree → Type 0
-    P b u = At T input own (suc r) (codeOf (cases ++ (r ∷ [])) b) u
+    P b u = At T input own (suc r) (namingCode (cases ++ (r ∷ [])) b) u
 
     many : length trees ≡ suc (2 * length cases)
     many = n .many
 
-    looked : At T input own r (codeOf cases a) (node left right)
+    looked : At T input own r (namingCode cases a) (node left right)
     looked = n .each a (node left right) e
 
     found : (s : State) → s .tree ≡ own → Cached input (s .known) (s .end) → Found T input s (treeAt T r) (looked .offset)

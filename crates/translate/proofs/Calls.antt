@@ -26,7 +26,7 @@ use Rattle.translation.specs.Templates.{operationsOf, codeOf}
 use Rattle.translation.specs.TranslateAndRun.{checkedRecords, translateRecords, translateFile}
 use Rattle.translation.proofs.Calls.{as-checked}
 use Rattle.translate.specs.declared.Table.{Table}
-use Rattle.translate.specs.Inner.Walk.{Tabled, Ready, EmitsAll}
+use Rattle.translate.specs.Inner.Walk.{Tabled, CodeReady, EmitsAll}
 use Rattle.translate.proofs.Written.{length-bytes}
 
 -- ---- `translate_records`
@@ -57,7 +57,7 @@ module _ (s code′ : List ℕ) (checks : Verdict) (reported : verdictResult che
       pub records-short : length code′ < recordBytes * t .count → FilledBuffer (translateRecords (length code′) s) code′ code′ (Refused SpaceTooShort 0)
       records-short short = put-refused _ code′ SpaceTooShort 0 (into ∙ within-short (length code′) _ (omega (arith, long)))
 
-      pub records-ready : recordBytes * t .count ≤ length code′ → Ready s (t .entries) code′
+      pub records-ready : recordBytes * t .count ≤ length code′ → CodeReady s (t .entries) code′
       records-ready room = record {
         checked = records-asked;
         entered = tabled .entries;

@@ -29,7 +29,7 @@ use Rattle.translation.specs.Templates.{functionCode, functionEnd, functionsCod
 use Rattle.template.specs.Inner.Items.{entriesIn}
 use Rattle.translate.specs.declared.Emitted.{Emitted}
 use Rattle.translate.specs.Inner.Emitting.{emittedAt}
-use Rattle.translate.specs.Inner.Walk.{Small, EmitsFunction, Tabled, Ready, EmitsAll}
+use Rattle.translate.specs.Inner.Walk.{Small, EmitsFunction, Tabled, CodeReady, EmitsAll}
 use Rattle.translate.proofs.Written.{length-bytes, length-emitted, emitted-none, emitted-beyond}
 use Rattle.translate.proofs.All.{was-checked, beyondAll, beyond-more, code-more, length-all, FunctionsLeft, Next, next-function, all-left, none-left, entry-here, same-function}
 
@@ -199,12 +199,12 @@ pub record UpTo (s : List ℕ) (functions end : ℕ) (code₀ code : List ℕ) (
   pub small : beyondAll before 0 + recordInstructions * (end - k) + (functions - j) ≤ mostEmitted
 
 pub record EmittingAll (s entries : List ℕ) (functions end : ℕ) (code₀ code : List ℕ) (k j : ℕ) : Type 0 where
-  pub ready : Ready s entries code₀
+  pub ready : CodeReady s entries code₀
   pub counts : Counts s functions end
   pub inside : Inside k end
   pub up-to : (program : Program) → checkedRecords s ≡ done program → UpTo s functions end code₀ code k j program
 
-pub all-first : (s entries : List ℕ) (functions nodes end : ℕ) (code : List ℕ) → Bytes s → Ready s entries code → functions ≡ headerIn s .functions → nodes ≡ headerIn s .nodes
+pub all-first : (s entries : List ℕ) (functions nodes end : ℕ) (code : List ℕ) → Bytes s → CodeReady s entries code → functions ≡ headerIn s .functions → nodes ≡ headerIn s .nodes
     → end ≡ 1 + functions + nodes
     → EmittingAll s entries functions end code code (1 + functions) 0
 unfolding functionsCode beyondAll

@@ -15,7 +15,7 @@ ghost use Rattle.refusal.specs.Inner.FilledBuffer.{FilledBuffer};
 ghost use Rattle.translation.specs.TranslateAndRun.{checkedRecords, translateRecords, translateFile};
 ghost use Rattle.translation.specs.Templates.{wordsKept};
 ghost use Rattle.code_scope.specs.Inner.Around.{sortOf};
-ghost use Rattle.translate.specs.Inner.Walk.{Small, SmallParts, Emits, EmitsParts, Starts, EmitsFunction, Tabled, Ready, EmitsAll};
+ghost use Rattle.translate.specs.Inner.Walk.{Small, SmallParts, Emits, EmitsParts, Starts, EmitsFunction, Tabled, CodeReady, EmitsAll};
 
 const INSTRUCTION_BYTES: usize = 8;
 
@@ -246,7 +246,7 @@ fn measure(flat: &[u8]) -> Table
 
 // Emits all functions, each in the part of the code buffer that begins at its entry.
 fn emit_all(flat: &[u8], entries: &[u16], code: &mut [u8])
-    requires { ⌜ Ready (now flat) (now entries) (now code) ⌝ }
+    requires { ⌜ CodeReady (now flat) (now entries) (now code) ⌝ }
     ensures { λ _. ⌜ EmitsAll (now (flat .entry)) (now (code .entry)) (now (code .exit)) ⌝ }
 {
     let functions = signatures::functions_in(flat) as u16;

@@ -18,7 +18,7 @@ use Rattle.stages.specs.declared.Stage.{Stage}
 use Rattle.stages.specs.Inner.Stages.{toBegin, isFinished, toOpen, hasEnded, tooManyOpen, turnOf}
 use Rattle.stages.proofs.Stages.{turn-begin, turn-ended, turn-deep, turn-none}
 use Rattle.source_walk.specs.declared.Walked.{Walked}
-use Rattle.source_walk.specs.Inner.Loop.{Run, run, turned, finished, Ending, ending, walking, firstStage, Walks}
+use Rattle.source_walk.specs.Inner.Loop.{Run, run, turned, answerWith, Ending, ending, walking, firstStage, Walks}
 use Rattle.walk_outcome.specs.Inner.Outcomes.{Counts, Reports, reports-value, reports-stop}
 use Rattle.walk_outcome.proofs.Holding.{Holding, turn-holds, turn-settles}
 
@@ -107,17 +107,17 @@ module _ (T input output₀ : List ℕ) where
   -- a turn after which no expression begins
   stops-there : (fuel begun : ℕ) (q : Run) (rest : Outcome Reported) → Holding T input output₀ q rest → q .stage .mode ≢ toBegin
       → (q .stage .mode ≢ isFinished) × (q .stage .mode ≢ toOpen)
-      → From (suc begun) (withFuel fuel rest) output₀ (ending (finished (q .stage) (suc begun)) q)
-  unfolding afterBegun finished
+      → From (suc begun) (withFuel fuel rest) output₀ (ending (answerWith (q .stage) (suc begun)) q)
+  unfolding afterBegun answerWith
   stops-there fuel begun q rest h other settles =
       by (settled T input (q .values) (q .returns) (h .out) (q .stage) rest other (settles .0) (settles .1) (h .comes))
     where
-      by : Settled T input (q .values) (q .returns) (h .out) (q .stage) rest → From (suc begun) (withFuel fuel rest) output₀ (ending (finished (q .stage) (suc begun)) q)
+      by : Settled T input (q .values) (q .returns) (h .out) (q .stage) rest → From (suc begun) (withFuel fuel rest) output₀ (ending (answerWith (q .stage) (suc begun)) q)
       by (settled-end mode is) =
-          rw (finished, eq-eqb _ _ mode)
+          rw (answerWith, eq-eqb _ _ mode)
           (from-value 0 (h .out) (omega arith) (ap (withFuel fuel) is ∙ within-gives fuel _) refl (h .counts) (h .wrote))
       by (settled-deep mode is) =
-          rw (finished, ne-eqb _ _ mode)
+          rw (answerWith, ne-eqb _ _ mode)
           (from-stop 0 (q .stage .node) (omega arith) (ap (withFuel fuel) is ∙ within-stops fuel tooManyCalls (q .stage .node)) (inr refl))
 
   from : (fuel begun : ℕ) (p : Run) (o : Outcome Reported) → p .stage .mode ≡ toBegin → Holding T input output₀ p o
@@ -141,7 +141,7 @@ module _ (T input output₀ : List ℕ) where
           → From (suc begun) (withFuel fuel rest) output₀
           (elim c [
             | true ↦ walking T input fuel (suc begun) (turned T input p)
-            | false ↦ ending (finished (turned T input p .stage) (suc begun)) (turned T input p)
+            | false ↦ ending (answerWith (turned T input p .stage) (suc begun)) (turned T input p)
           ])
       by fuel begun p rest holds true e next = next (eqb-true _ _ e)
       by fuel begun p rest holds false e next = stops-there fuel begun (turned T input p) rest holds (eqb-false _ _ e) (turn-settles T input p)

@@ -76,7 +76,7 @@ pub record Stacked (cases : List ℕ) (depth more : ℕ) : Type 0 where
   pub low : (n : ℕ) → n < depth → getD cases n 0 ≤ mostRecords
 
 -- The first half of a row is the right one.
-pub record Reported (entry arity : ℕ → ℕ) (p : LocationThere) (kind : Kind) (o : Own) : Type 0 where
+pub record FirstHalf (entry arity : ℕ → ℕ) (p : LocationThere) (kind : Kind) (o : Own) : Type 0 where
   pub action : o .action ≡ actionOf kind
   pub operand : o .operand ≡ operandOf entry arity p kind
   pub tree : o .tree ≡ treeOf entry arity p kind
@@ -118,7 +118,7 @@ pub record Filled (table table′ cases cases′ : List ℕ) (entry arity : ℕ 
   pub rows : table′ ≡ written table (rowWords * k) (rowsOf entry arity (locationWith p cases) k e)
   pub stack : Same cases cases′ (p .depth)
 
-pub record Fills (s table table′ cases cases′ : List ℕ) (k end : ℕ) (p : Location) (next : ℕ) : Type 0 where
+pub record FillsRows (s table table′ cases cases′ : List ℕ) (k end : ℕ) (p : Location) (next : ℕ) : Type 0 where
   pub went : Went k end next
   pub is : (entry arity : ℕ → ℕ) (e : Expr) → Entering s table cases entry arity k end p e → Filled table table′ cases cases′ entry arity k p e next
 
@@ -172,7 +172,7 @@ abbrev pub Starts : List ℕ → ℕ → Location → Type 0
 Starts s j p = Begins Location s j startLocation p
 
 -- The records are a program, and there is room for its rows and for its Cases.
-pub record Ready (s table cases : List ℕ) : Type 0 where
+pub record TableReady (s table cases : List ℕ) : Type 0 where
   pub is-read : verdict (readProgram s) ≡ done tt
   pub room : tableWords ≤ length table
   pub stack : mostRecords ≤ length cases

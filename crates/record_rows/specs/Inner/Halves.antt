@@ -6,7 +6,7 @@ use lib.ListN.{take}
 use Rattle.formats.specs.Records.{Kind, Const, Var, Add, IfZero, Let, Leaf, Node, Case, Call}
 use Rattle.formats.specs.Inner.Fields.{headerIn, arityIn}
 use Rattle.functions.specs.Inner.Counts.{countsFrom}
-use Rattle.stepwise.specs.Inner.Rows.{actionOf, codeOf, moreOf}
+use Rattle.stepwise.specs.Inner.Rows.{actionOf, namingCode, moreOf}
 use Rattle.record_rows.specs.declared.Own.{Own}
 
 -- The first record of function b, from the node counts of the function records.
@@ -35,8 +35,8 @@ treeIn cases depth IfZero = 0
 treeIn cases depth Let = 0
 treeIn cases depth Leaf = 0
 treeIn cases depth Node = 0
-treeIn cases depth (Case a) = codeOf (take depth cases) a % 65536
-treeIn cases depth (Call a b) = codeOf (take depth cases) a % 65536
+treeIn cases depth (Case a) = namingCode (take depth cases) a % 65536
+treeIn cases depth (Call a b) = namingCode (take depth cases) a % 65536
 
 unfoldable pub ownIn : (s cases : List ℕ) (names depth : ℕ) → Kind → Own
 ownIn s cases names depth kind =

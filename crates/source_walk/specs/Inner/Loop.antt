@@ -82,8 +82,8 @@ module _ (T input : List ℕ) where
 
 -- What a walk that stops at this stage answers. A program's rows lead to no stuck stage, so a walk
 -- that has not ended has come to a call too many.
-unfoldable pub finished : Stage → ℕ → Walked
-finished s begun =
+unfoldable pub answerWith : Stage → ℕ → Walked
+answerWith s begun =
     elim (eqb (s .mode) hasEnded) [
       | true ↦ record { stop = 0; begun = begun; written = s .written; number = s .number }
       | false ↦ record { stop = tooManyCalls; begun = begun; written = 0; number = 0 }
@@ -103,7 +103,7 @@ walking T input zero begun p = ending (record { stop = fuelUsedUp; begun = begun
 walking T input (suc fuel) begun p =
     elim (eqb (turned T input p .stage .mode) toBegin) [
       | true ↦ walking T input fuel (suc begun) (turned T input p)
-      | false ↦ ending (finished (turned T input p .stage) (suc begun)) (turned T input p)
+      | false ↦ ending (answerWith (turned T input p .stage) (suc begun)) (turned T input p)
     ]
 
 -- The stage before the record `first` begins.

@@ -109,9 +109,9 @@ actionOf (Call a b) = callsFunction
 -- the left tree and 2c + 2 the right tree of the tree that the Case at record c looks at. Names
 -- count along the path: first the frame's tree, then two for each Case in whose node part the
 -- record stands.
-unfoldable pub codeOf : List ℕ → ℕ → ℕ
-codeOf cases zero = 0
-codeOf cases (suc j) = suc (2 * getD cases (j / 2) 0 + j % 2)
+unfoldable pub namingCode : List ℕ → ℕ → ℕ
+namingCode cases zero = 0
+namingCode cases (suc j) = suc (2 * getD cases (j / 2) 0 + j % 2)
 
 module _ (entry arity : ℕ → ℕ) where
   -- The role of part i of a record.
@@ -218,8 +218,8 @@ module _ (entry arity : ℕ → ℕ) where
   treeOf p Let = 0
   treeOf p Leaf = 0
   treeOf p Node = 0
-  treeOf p (Case a) = codeOf (p .cases) a
-  treeOf p (Call a b) = codeOf (p .cases) a
+  treeOf p (Case a) = namingCode (p .cases) a
+  treeOf p (Call a b) = namingCode (p .cases) a
 
   -- The upper half of Const's number, or how many arguments a Call has.
   unfoldable pub moreOf : Kind → ℕ

@@ -142,7 +142,7 @@ pub record Tabled (s : List ℕ) (t : Table) : Type 0 where
 
 -- The records are a program that both passes accept, the table has its entries, and its code has
 -- room.
-pub record Ready (s entries code′ : List ℕ) : Type 0 where
+pub record CodeReady (s entries code′ : List ℕ) : Type 0 where
   pub checked : verdict (checkedRecords s) ≡ done tt
   pub entered : (program : Program) → checkedRecords s ≡ done program → (b : ℕ) → b < length (program .functions) → entriesIn entries b ≡ entryOf program b
   pub room : (program : Program) → checkedRecords s ≡ done program → recordBytes * length (operationsOf program) ≤ length code′

@@ -84,7 +84,8 @@ fn flat_bytes(file: &[u8]) -> usize
 // has room for those of every file.
 fn gather(file: &[u8], flat: &mut [u8])
     requires { ⌜ (verdict (flatIn (now file)) ≡ done tt) × (length (now flat) ≡ mostBytes) ⌝ }
-    ensures { λ _. ⌜ now (flat .exit) ≡ bufferAfter (now (flat .entry)) (flatIn (now (file .entry))) ⌝ }
+    ensures { λ _. ⌜ now (flat .exit) ≡ bufferAfter (now (flat .entry))
+        (flatIn (now (file .entry))) ⌝ }
 {
     let blocks = file.len() / BLOCK_BYTES;
     let mut j = 0;

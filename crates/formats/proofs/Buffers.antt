@@ -1,5 +1,5 @@
--- Laws of bytes at an offset of a buffer. `BytesAt` goes by recursion on the bytes, so joins and parts
--- of byte strings are joins and parts of proofs.
+-- Laws of bytes at an offset of a buffer. `BytesAt` goes by recursion on the bytes, so joins and
+-- parts of byte strings are joins and parts of proofs.
 use Prim.Native.Nat.{ℕ, zero, suc, _+_, _-_, _≤_, _<_, suc-le-suc}
 use mathlib.Core.List.{List, [], _∷_, _++_, append-nil}
 use mathlib.Core.Path.{_≡_, refl, sym, ap, ap₂, subst, _∙_}

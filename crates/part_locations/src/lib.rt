@@ -78,8 +78,14 @@ fn placed(
     keeps: usize,
     depth: usize,
 ) -> Location
-    ensures { λ r. ⌜ r ≡ record
-        { role = role; parent = parent; slot = slot; names = names; keeps = keeps; depth = depth } ⌝ }
+    ensures { λ r. ⌜ r ≡ record {
+      role = role;
+      parent = parent;
+      slot = slot;
+      names = names;
+      keeps = keeps;
+      depth = depth;
+    } ⌝ }
 {
     Location {
         role: role,

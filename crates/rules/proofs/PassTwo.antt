@@ -1,5 +1,5 @@
--- Laws of pass two. `ValueOrRefusal` is a view of a result: what holds of its value, or else of its refusal.
--- Two recursions do the work: over a derivation by Figure 19 (`checked-walk`), and over an
+-- Laws of pass two. `ValueOrRefusal` is a view of a result: what holds of its value, or else of its
+-- refusal. Two recursions do the work: over a derivation by Figure 19 (`checked-walk`), and over an
 -- expression that passed pass one (`reported`: it is in order, or it has a first fault).
 use Prim.Native.Nat.{ℕ, suc, _+_, _≤_, _<_}
 use mathlib.Core.Bool.{Bool, true, false, false≢true}

@@ -69,12 +69,12 @@ pub record TooDeep (s : List ℕ) (p : ℕ) : Type 0 where
   pub tag : BytesAt s p (nodeTag ∷ [])
   pub under : Due s p mostDepth
 
--- 01, The tree reader, sentence by sentence.
+-- 01, Tokens and 01, The tree reader, sentence by sentence.
 pub record TreeReader : Type 0 where
-  -- "A tree of n leaves takes 6n − 1 bytes."
+  -- 01, Tokens: "A tree of n leaves takes 6n − 1 bytes."
   pub length-of-tokens : (t : Tree) → length (tokens t) ≡ 6 * tips t - 1
-  -- "The tree reader takes the first tree of a buffer": each tree at most 1,024 deep, whatever
-  -- stands after it ..
+  -- 01, The tree reader: "The tree reader takes the first tree of a buffer": each tree at most
+  -- 1,024 deep, whatever stands after it ..
   pub takes : (t : Tree) (rest : List ℕ) → Labelled t → depth t ≤ mostDepth → firstTree (tokens t ++ rest) ≡ done t
   -- .. and nothing else.
   pub gives : (s : List ℕ) (t : Tree) → Bytes s → firstTree s ≡ done t → Gave s t

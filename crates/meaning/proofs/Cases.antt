@@ -69,10 +69,10 @@ grown = 2 ∷ 1 ∷ 6 ∷ 0 ∷ 0 ∷ 0 ∷ 1 ∷ 8 ∷ 0 ∷ 0 ∷ 0 ∷ []
 on-grow : (input : List ℕ) (fuel space : ℕ) → Ran → Row
 on-grow input fuel space gives = record { code = grow; input = input; fuel = fuel; space = space; gives = gives }
 
--- 01, Worked programs: "Grow on T, fuel 25: ends, labels 6 and 8, units 25. fuel 24: 14, read 11,
--- written 11. fuel 2: 14, read 1, written 1. fuel 0: 14, read 0." "output of 10 bytes: 17, read 11,
--- written 7." "empty input, fuel 1: 15, units 0. 01 05 00 00: 15, read 1. 03: 16, read 0." "Call 0
--- on 0 ..; fuel 1,023 gives 14, 1,024 gives 18."
+-- 01, Worked programs: "Grow on T, fuel 25: ends, labels 6 and 8, units 25." "fuel 24: 14, read 11,
+-- written 11." "fuel 2: 14, read 1, written 1." "fuel 0: 14, read 0." "output of 10 bytes: 17, read
+-- 11, written 7." "empty input, fuel 1: 15, units 0." "01 05 00 00: 15, read 1." "03: 16, read 0."
+-- "Call 0 on 0 ..; fuel 1,023 gives 14, 1,024 gives 18."
 worked : List Row
 worked =
     on-grow two-leaves 25 12 (ended-with 25 11 0 grown (blank 1))

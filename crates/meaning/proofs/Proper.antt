@@ -5,7 +5,7 @@
 -- That a program which passes is proper is shown by recursion on each body, with the laws of pass
 -- one for each kind of record. Pass one speaks of types and of signatures: a sort is known by its
 -- values' type, and a signature is that of a function. The ranges of constants and the counts of
--- arguments come from the limits of "Program file".
+-- arguments come from the limits of 01, Lawful programs.
 use Prim.Native.Nat.{ℕ, zero, suc, _+_, _^_, _≤_, _<_}
 use mathlib.Core.List.{List, [], _∷_, map}
 use mathlib.Core.Option.{some, Option·some-injective, Option·none-ne-some, map-eq-some-iff}

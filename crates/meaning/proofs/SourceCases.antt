@@ -55,8 +55,8 @@ row program t fuel space gives =
     record { file = fileOf (flatOf program); input = tokens t; fuel = fuel; space = space; values = valueWords; returns = returnWords; gives = gives }
 
 -- 01, Worked programs: "Source run: fuel 14 ends, 13 gives 14." "Its source run on T gives labels
--- 7, 5." "Sum of leaves 2147483647 and 1: −2147483648." "Call 0 on 0 ..; fuel 1,023 gives 14, 1,024
--- gives 18." A refusal leaves the output.
+-- 7, 5." "Sum .. of leaves 2147483647 and 1: −2147483648." "Call 0 on 0 ..; fuel 1,023 gives 14,
+-- 1,024 gives 18." A refusal leaves the output.
 worked : List Row
 worked =
     row grow two-leaves 14 12 (ended-with 14 11 0 (2 ∷ 1 ∷ 6 ∷ 0 ∷ 0 ∷ 0 ∷ 1 ∷ 8 ∷ 0 ∷ 0 ∷ 0 ∷ 255 ∷ []))

@@ -133,7 +133,8 @@ unfoldable pub resultBytes : Value → List ℕ
 resultBytes (number i) = []
 resultBytes (tree t) = tokens t
 
--- 01, The answer of a stream run: "the number (0 for a tree ..)".
+-- The number of a result (01, The source evaluation), which both runs answer. 01, The answer of a
+-- stream run: "the number (0 for a tree ..)".
 unfoldable pub resultNumber : Value → ℕ
 resultNumber (number i) = i
 resultNumber (tree t) = 0

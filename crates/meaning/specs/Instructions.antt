@@ -48,10 +48,10 @@ pub data Operation : Type 0 where
   -- how many words are kept
   Return : (kept : ℕ) → Operation
 
--- 01, Opcodes: "0 push, 1 get (operand: word above the base), 2 add, 3 ifnot (.. goes to operand),
--- 4 jump, 5 slide, 6 drop, 7 leaf tag, 8 node tag, 9 write number, 10 read tag (.. goes to
--- operand), 11 read number, 12 call (operand: entry; byte 1: arguments ..), 13 return (byte 1: ..
--- words kept ..)".
+-- 01, Opcodes: "0 push, 1 get (operand: word above the base), 2 add .., 3 ifnot (.. goes to
+-- operand), 4 jump, 5 slide .., 6 drop, 7 leaf tag, 8 node tag, 9 write number .., 10 read tag (..
+-- goes to operand), 11 read number .., 12 call (operand: entry; byte 1: arguments ..), 13 return
+-- (byte 1: .. words kept ..)".
 unfoldable pub operations : ℕ → ℕ → ℕ → List Operation
 operations byte1 operand number =
     Push number ∷ Get operand ∷ Add ∷ Ifnot operand ∷ Jump operand ∷ Slide ∷ Drop ∷ LeafTag ∷ NodeTag ∷ WriteNumber ∷ ReadTag operand ∷ ReadNumber
@@ -80,9 +80,9 @@ instructionOf (Call entry n) = fields 12 n entry 0
 instructionOf (Return k) = fields 13 k 0 0
 
 -- For each opcode, 0 to 13, the instruction with its unused fields zero. 01, Opcodes: "0 push, 1
--- get (operand ..), 2 add, 3 ifnot (.. operand), 4 jump, 5 slide, 6 drop, 7 leaf tag, 8 node tag, 9
--- write number, 10 read tag (.. operand), 11 read number, 12 call (operand ..; byte 1 ..), 13
--- return (byte 1 ..)". A push uses its number, a jump its operand.
+-- get (operand ..), 2 add .., 3 ifnot (.. operand), 4 jump, 5 slide .., 6 drop, 7 leaf tag, 8 node
+-- tag, 9 write number .., 10 read tag (.. operand), 11 read number .., 12 call (operand ..; byte 1
+-- ..), 13 return (byte 1 ..)". A push uses its number, a jump its operand.
 unfoldable pub usedFields : ℕ → ℕ → ℕ → List Instruction
 usedFields byte1 operand number =
     fields 0 0 0 number

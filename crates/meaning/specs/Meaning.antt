@@ -22,7 +22,8 @@ use Rattle.meaning.specs.OpenCalls.{Outcome, gives, stops, begins, begun
 use Rattle.meaning.specs.SourceRun.{SourceRan, sourceRun}
 use Rattle.meaning.specs.Reductions.{IsValue, only, substitute, Redex, Reduces, Leads, valueTerm, programOn}
 
--- A program within the limits of "Program file" that passes pass one. Pass two is not asked for.
+-- A program within the limits of 01, Lawful programs, that passes pass one. Pass two is not asked
+-- for.
 pub record PassesOne (program : Program) : Type 0 where
   pub lawful : Lawful program
   pub passes : passOne program ≡ done tt

@@ -52,8 +52,7 @@ reported begun v output =
     ]
 
 -- What an evaluation's outcome is reported as, where so many expressions have begun before. 01, The
--- table of refusals: "either run: 14 fuel used up, 18 a call with 1,024 open", the position:
--- "source run 0".
+-- table of refusals: "14 fuel used up, 18 a call with 1,024 open ..", the position: "source run 0".
 unfoldable pub reportFrom : ℕ → Outcome Value → List ℕ → SourceRan
 reportFrom begun (gives v) output = reported begun v output
 reportFrom begun (stops why r) output = refusedAfter begun why 0 output

@@ -102,7 +102,7 @@ pub record OrderChecker : Type 0 where
   -- stays within the limits.
   pub passes : (program : Program) → Lawful program → (bothPasses program ≡ done tt) ↔ Admitted program
   -- The same for flat records and for files: they pass exactly where they hold a program that the
-  -- rules admit. (Such a program is always within the limits of "Program file".)
+  -- rules admit. (Such a program is always within the limits of 01, Lawful programs.)
   pub records : (r : List ℕ) → Bytes r → (checkRecords r ≡ done tt) ↔ AdmittedRecords r
   pub files : (s : List ℕ) → Bytes s → (checkFile s ≡ done tt) ↔ AdmittedFile s
   -- The limit of 16 pending, in another form: no list of the derivation is longer than 16.

@@ -1,5 +1,5 @@
--- 01, Checking and 01, Nine kinds of record: what is known on entering each record of a function
--- body, in prefix order.
+-- 01, Names, 01, Words and 01, Pass one: what is known on entering each record of a function body,
+-- in prefix order.
 use Prim.Native.Nat.{ℕ, zero, suc, _+_}
 use mathlib.Core.List.{List, [], _∷_, _++_}
 use mathlib.Core.Option.{none, some}

@@ -88,7 +88,7 @@ pub record InPlace (program : Program) (b : ℕ) (f : Function) : Type 0 where
 
 -- ---- the theorems
 
--- What holds of a program within the limits of "Program file".
+-- What holds of a program within the limits of 01, Lawful programs.
 pub record CodeLimits (program : Program) : Type 0 where
   -- 01, Limits: "At most 4,128 instructions."
   pub few : length (operationsOf program) ≤ mostInstructions

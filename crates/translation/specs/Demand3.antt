@@ -29,7 +29,7 @@ use Rattle.translation.specs.Templates.{codeOf}
 use Rattle.meaning.specs.Running.{readBy}
 use Rattle.translation.specs.EndedRuns.{Whole}
 
--- "any checked program": one within the limits of "Program file" that both passes accept.
+-- "any checked program": one within the limits of 01, Lawful programs, that both passes accept.
 pub record Checked (program : Program) : Type 0 where
   pub lawful : Lawful program
   pub passes : bothPasses program ≡ done tt

@@ -5,7 +5,7 @@ use std::collections::{BTreeMap, BTreeSet};
 use crate::checks::{idle_definitions, is_inner};
 use crate::closure::{Believed, Closure};
 use crate::project::{crate_of, Project};
-use crate::roots::{CONTRACTS, STATEMENTS};
+use crate::roots::{CONTRACTS, OF_DEFINITIONS, STATEMENTS};
 use crate::text::{counted, number, quoted, sentence, wrapped, MADE};
 
 const INTRODUCTION: &str = "Whoever relies on Hogvax must believe that the definitions below say \
@@ -14,10 +14,15 @@ const INTRODUCTION: &str = "Whoever relies on Hogvax must believe that the defin
     goes by definition, not by file. Crates and files stand in reading order: each after those \
     that it rests on.";
 
+const TRUSTED: &str = "The command line, the readers of program texts and of Newick, and all that \
+    they print are tested, not proved. The prover, the kit with its library, the compilers and \
+    the machine are trusted.";
+
 /// The page `docs/BELIEVE.md`.
 pub fn page(project: &Project, closure: &Closure) -> String {
     let mut page = format!("# What must be believed\n{MADE}\n\n");
     page += &wrapped("", "", INTRODUCTION);
+    page += &format!("\n{}", wrapped("", "", TRUSTED));
     page += &totals(project, closure);
     page += &promises();
     let calls = Closure::of_calls(project);
@@ -61,8 +66,7 @@ fn totals(project: &Project, closure: &Closure) -> String {
     let calls = format!(
         "Whoever calls Hogvax, and asks no more than what the contracts of the calls and of the \
          listing program say, need believe {} in {} with {}, of which {} are theirs: the column \
-         \"calls\" has how many of a file's definitions these are. The rest is what the \
-         statements of the demands say besides.",
+         \"calls\" counts them. The rest is what the statements say besides.",
         counted(definitions, "definition"),
         counted(files, "file"),
         counted(lines, "line"),
@@ -84,9 +88,16 @@ fn promises() -> String {
         );
         page += &wrapped("- ", "  ", &said);
     }
-    let statements = STATEMENTS.iter();
-    let statements = statements.map(|(place, name)| format!("{place}: {name}"));
-    let said = format!("the statements of the demands: {}", quoted(statements));
+    let cited = |statements: &[(&str, &str)]| {
+        let statements = statements.iter();
+        quoted(statements.map(|(place, name)| format!("{place}: {name}")))
+    };
+    let said = format!("the statements of the demands: {}", cited(&STATEMENTS));
+    page += &wrapped("- ", "  ", &said);
+    let said = format!(
+        "and of three definitions that they say what they seem to: {}",
+        cited(&OF_DEFINITIONS)
+    );
     page + &wrapped("- ", "  ", &said)
 }
 

@@ -6,7 +6,7 @@ use std::collections::{BTreeMap, BTreeSet};
 use crate::imports::{Import, Module};
 use crate::items::AnttFile;
 use crate::project::{crate_of, Project};
-use crate::roots::{CONTRACTS, STATEMENTS};
+use crate::roots::{CONTRACTS, OF_DEFINITIONS, STATEMENTS};
 use crate::source::Sort;
 use crate::words::{uses, words};
 
@@ -33,7 +33,7 @@ impl Closure {
     /// What the promises of the project rest on.
     pub fn new(project: &Project) -> Closure {
         let mut roots = all_contracts(project);
-        for (place, name) in STATEMENTS {
+        for (place, name) in STATEMENTS.iter().chain(&OF_DEFINITIONS) {
             roots.extend(definitions(project, place, name));
         }
         Closure::from(project, roots)

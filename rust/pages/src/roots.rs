@@ -23,7 +23,7 @@ pub const CONTRACTS: [Contracts; 2] = [
 ];
 
 /// The statements of the demands: file and name.
-pub const STATEMENTS: [(&str, &str); 12] = [
+pub const STATEMENTS: [(&str, &str); 9] = [
     ("formats/specs/Reader", "TreeReader"),
     ("formats/specs/ProgramFiles", "ProgramFiles"),
     ("rules/specs/OrderChecker", "OrderChecker"),
@@ -33,7 +33,11 @@ pub const STATEMENTS: [(&str, &str); 12] = [
     ("translation/specs/EveryRun", "EveryRunHolds"),
     ("translation/specs/CodeLimits", "CodeLimitsHold"),
     ("translation/specs/ThisCall", "AllRunnable"),
+];
+
+/// Statements of definitions, that they say what they seem to: file and name.
+pub const OF_DEFINITIONS: [(&str, &str); 3] = [
     ("translation/specs/Listing", "NeverShort"),
     ("formats/specs/Written", "Wrote"),
-    ("run_answers/specs/RunAnswer", "Extends"),
+    ("run_answers/specs/RunSlots", "Extends"),
 ];

@@ -8,7 +8,8 @@ use crate::project::Project;
 use crate::text::{counted, quoted, wrapped, MADE};
 
 /// A function with fewer than two edits of its own, the functions that it calls for
-/// its answer, whose edits change that too, and why.
+/// its answer, whose edits change that too, and why. The edits of a function that
+/// forwards to another are that one's.
 pub struct Beside {
     pub function: &'static str,
     pub others: &'static [&'static str],
@@ -166,7 +167,10 @@ fn fault(project: &Project, all: &[Function], one: &Function, edits: &[Edit]) ->
     let beside = BESIDE.iter().find(|beside| beside.function == title);
     let has_two = |name: &&str| {
         let mut named = all.iter().filter(|other| other.title() == **name);
-        named.any(|other| other.edits(edits).len() >= 2)
+        named.any(|other| {
+            let forwarded = other.forwards_to(project);
+            forwarded.as_ref().unwrap_or(other).edits(edits).len() >= 2
+        })
     };
     let calls = |name: &&str| one.calls(&name.replace(": ", "::"));
     match beside {

@@ -9,9 +9,8 @@ ghost use lib.ListN.{length};
 ghost use Rattle.refusal.specs.Inner.FilledBuffer.{filledResult};
 ghost use Rattle.formats.specs.Results.{onValue};
 ghost use Rattle.refusal.specs.Inner.Verdicts.{verdictResult};
-ghost use Rattle.answers.specs.Inner.Stores.{Stored};
+ghost use Rattle.answers.specs.Inner.Stores.{Stored, Stores};
 ghost use Rattle.answers.specs.Answer.{answerSlots, Answers};
-ghost use Rattle.answers.specs.Inner.Stores.{Stores};
 
 // How many slots an answer takes. Slots that a later version adds come after these.
 const ANSWER_SLOTS: usize = 2;

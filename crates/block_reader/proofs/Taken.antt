@@ -1,6 +1,6 @@
 -- What a caller gets out of a file's blocks: the block rows refuse, or the flat records stand at
 -- the start of the caller's buffer.
-use Prim.Native.Nat.{ℕ, _+_, _*_, _≤_}
+use Prim.Native.Nat.{ℕ, _+_, _≤_}
 use mathlib.Core.List.{List, _++_}
 use mathlib.Core.Path.{_≡_, sym, ap, _∙_}
 use native.Mathlib.Omega.{arith}

@@ -12,8 +12,7 @@ use borrow.Author.Tests.{eq-eqb, ne-eqb}
 use lib.ListN.{getD, set, length-set}
 use Rattle.formats.specs.Inner.Buffers.{fromLast}
 use Rattle.formats.specs.Programs.{numberValued}
-use Rattle.formats.specs.Records.{aNumber, aTree, asWhole, underNumber, underTrees}
-use Rattle.formats.specs.Records.{Part as PartOfKind}
+use Rattle.formats.specs.Records.{aNumber, aTree, asWhole, underNumber, underTrees, Part as PartOfKind}
 use Rattle.formats.proofs.Buffers.{length-from, from-top}
 use Rattle.meaning.specs.Levels.{atLevel}
 use Rattle.meaning.proofs.Levels.{level-newest, level-older}

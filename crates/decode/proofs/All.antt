@@ -8,17 +8,17 @@ use native.Mathlib.Omega.{arith}
 use borrow.Author.Needs.{needs}
 use lib.ListN.{length, take, length-append}
 use Rattle.formats.specs.Numbers.{Bytes}
-use Rattle.formats.specs.Results.{done, each}
+use Rattle.formats.specs.Results.{done}
 use Rattle.formats.specs.Records.{recordAt}
 use Rattle.formats.specs.Programs.{size, Signature, arityOf, sumOfCounts, Function, signatureOf, Program, signatures}
 use Rattle.formats.specs.Inner.Limits.{mostRecords}
 use Rattle.formats.specs.Rows.{readProgram}
 use Rattle.formats.specs.Inner.Fields.{headerIn, functionIn}
 use Rattle.formats.specs.Written.{written}
-use Rattle.formats.proofs.Results.{Value, passed-is, each-inv, each-none, each-front}
-use Rattle.formats.proofs.Rows.{function-read, flattens}
+use Rattle.formats.proofs.Results.{Value, passed-is, each-front}
+use Rattle.formats.proofs.Rows.{flattens}
 use Rattle.formats.proofs.Written.{written-append, written-none, wrote}
-use Rattle.functions.specs.Inner.Counts.{countsFrom}
+use Rattle.functions.proofs.Functions.{total-is}
 use Rattle.meaning.specs.OpenCalls.{firstRecord}
 use Rattle.walks.specs.Inner.Standing.{Known, Holds, Bodies, no-more, one-more}
 use Rattle.walks.specs.Inner.Limits.{parametersOfAny}
@@ -33,14 +33,6 @@ use Rattle.decode.specs.Inner.Decoding.{tableWords}
 use Rattle.decode.specs.Inner.Walk.{Agrees, Small, Entering, Filled, FillsRows, startLocation, Starts, TableReady, FillsAll}
 
 -- ---- the first records and the arities of a program's functions
-
--- the node counts of functions that were read, summed
-total-is : (s : List ℕ) (n j : ℕ) (gs : List Signature) → each (functionIn s) n j ≡ done gs → sumOfCounts gs ≡ countsFrom n s j
-unfolding sumOfCounts countsFrom
-total-is s zero j gs e = ap sumOfCounts (each-none (functionIn s) j gs e)
-total-is s (suc n) j gs e =
-    let i = each-inv (functionIn s) n j gs e in
-    ap sumOfCounts (i .both) ∙ ap₂ _+_ (function-read s j (i .head) (i .here) .count) (total-is s n (suc j) (i .tail) (i .later))
 
 -- the first functions have no more nodes than all of them
 total-front : (b : ℕ) (gs : List Signature) → sumOfCounts (take b gs) ≤ sumOfCounts gs

@@ -13,7 +13,7 @@ use lib.ListN.{length, length-append}
 use Rattle.formats.specs.Results.{onValue}
 use Rattle.formats.specs.Records.{Kind, functionBelow, partsOf, partCount, nthPart}
 use Rattle.formats.specs.Records.{Const as aConst, Var as aVar, Add as anAdd, IfZero as anIfZero, Let as aLet, Leaf as aLeaf, Node as aNode, Case as aCase, Call as aCall}
-use Rattle.formats.specs.Programs.{Expr, size, Placed, placedAt, partsAt}
+use Rattle.formats.specs.Programs.{Expr, size, Placed, partsAt}
 use Rattle.formats.specs.Inner.Fields.{headerIn, arityIn, nodeIn}
 use Rattle.formats.specs.Written.{written}
 use Rattle.formats.proofs.Results.{done-injective, done-not}

@@ -17,7 +17,7 @@ use lib.Seq.{getD-drop, take-all, split-at}
 use Rattle.formats.specs.Numbers.{Bytes, numberOf}
 use Rattle.formats.specs.Buffers.{Opens, BytesAt, nothing, one-more}
 use Rattle.formats.specs.Refusals.{inputEnded, notATag, tooDeep}
-use Rattle.formats.specs.Tokens.{Tree, leaf, node, Labelled, depth, leafTag, nodeTag, labelBytes, mostDepth, tokens, Tag, noByte, aLeaf, aNode, labelAt, treeAt, firstTree}
+use Rattle.formats.specs.Tokens.{Tree, leaf, node, Labelled, depth, leafTag, nodeTag, labelBytes, mostDepth, tokens, Tag, aLeaf, aNode, labelAt, treeAt, firstTree}
 use Rattle.formats.specs.Reader.{Gave, Due, first, left, right, Refuses, no-tag, no-label, no-such-tag, under-too-many, OpensSomeTree, Ended, FitsNone, TooDeep, TreeReader}
 use Rattle.formats.proofs.Numbers.{length-bytesOf, bytesOf-opens, numberOf-fits}
 use Rattle.formats.proofs.Buffers.{lies-left, lies-right, lies-part, lies-within, lies-first, opens-lies, lies-shared, lies-take, lies-all, head-is}

@@ -175,7 +175,7 @@ pub ruleset fields-checked = (fields-none, fields-more, fields-refused, pass-all
 -- ---- `function_row`
 
 -- the sum of the counts of functions that were read
-total-is : (s : List ℕ) (n j : ℕ) (gs : List Signature) → each (functionIn s) n j ≡ done gs → sumOfCounts gs ≡ countsFrom n s j
+pub total-is : (s : List ℕ) (n j : ℕ) (gs : List Signature) → each (functionIn s) n j ≡ done gs → sumOfCounts gs ≡ countsFrom n s j
 unfolding sumOfCounts countsFrom
 total-is s zero j gs e = ap sumOfCounts (each-none (functionIn s) j gs e)
 total-is s (suc n) j gs e =

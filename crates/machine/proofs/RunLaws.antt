@@ -27,8 +27,7 @@ use Rattle.meaning.specs.StreamRun.{Steps as Led}
 use Rattle.meaning.proofs.Steps.{one-step}
 use Rattle.meaning.proofs.Runs.{runs}
 use Rattle.meaning.specs.WorkWords.{WorkWords, beforeStream}
-use Rattle.meaning.proofs.WorkWords.{untouched, run-refused}
-use Rattle.meaning.proofs.WorkWords.{ended as words-ended}
+use Rattle.meaning.proofs.WorkWords.{untouched, run-refused, ended as words-ended}
 use Rattle.machine.specs.declared.Machine.{Machine}
 use Rattle.machine.specs.declared.Answer.{Answer}
 use Rattle.machine.specs.Inner.States.{wordsFrom, waiting, frameOf, stateOf, stepOf, goesOn, hasEnded, first, Going, Held, Lent}

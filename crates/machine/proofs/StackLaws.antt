@@ -11,7 +11,7 @@ use lib.ListN.{length, getD, set, length-set}
 use Rattle.formats.specs.Numbers.{sum32}
 use Rattle.formats.specs.Refusals.{cannotPerform}
 use Rattle.meaning.specs.Instructions.{Operation, Push, Get, Add, Ifnot, Slide, Drop}
-use Rattle.meaning.specs.Performing.{Setting, Step, goes, refuses, toNext, holding, popOne, ifRoom, pushWord, operate}
+use Rattle.meaning.specs.Performing.{Setting, Step, goes, refuses, toNext, holding, ifRoom, pushWord, operate}
 use Rattle.meaning.specs.Running.{valueWords}
 use Rattle.machine.specs.declared.Machine.{Machine}
 use Rattle.machine.specs.Inner.States.{wordsFrom, stateOf, Held, Sound, stoppedBy, nextTo}

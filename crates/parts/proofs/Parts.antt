@@ -4,8 +4,7 @@ use mathlib.Core.List.{[], _∷_}
 use mathlib.Core.Logic.{_≢_}
 use mathlib.Core.Path.{_≡_, refl, _∙_}
 use native.Mathlib.Omega.{arith}
-use Rattle.formats.specs.Records.{asWhole, aNumber, nth, these, nthPart}
-use Rattle.formats.specs.Records.{Part as PartOfKind}
+use Rattle.formats.specs.Records.{asWhole, aNumber, nth, these, nthPart, Part as PartOfKind}
 use Rattle.records.specs.Inner.Read.{partOf, listed}
 use Rattle.records.specs.declared.Part.{Part}
 use Rattle.records.specs.declared.Parts.{Parts}

@@ -19,16 +19,14 @@ use Rattle.refusal.specs.Inner.Verdicts.{verdictResult}
 use Rattle.refusal.specs.declared.Refusal.{Refusal}
 use Rattle.refusal.specs.declared.Refusal.the-variants.{PrefixForm}
 use Rattle.refusal.specs.declared.Verdict.{Verdict}
-use Rattle.refusal.specs.declared.Verdict.the-variants.{Passed}
-use Rattle.refusal.specs.declared.Verdict.the-variants.{Refused as Refuses}
+use Rattle.refusal.specs.declared.Verdict.the-variants.{Passed, Refused as Refuses}
 use Rattle.records.specs.Inner.Read.{Shape, meant, partOf, listed, shapeOf, shaped, described}
 use Rattle.records.specs.declared.Part.{Part}
 use Rattle.records.specs.declared.Parts.{Parts}
 use Rattle.records.specs.declared.Record.{Record}
 use Rattle.records.specs.declared.Template.{Template}
 use Rattle.records.specs.declared.RecordRead.{RecordRead}
-use Rattle.records.specs.declared.RecordRead.the-variants.{Read}
-use Rattle.records.specs.declared.RecordRead.the-variants.{Refused as Unread}
+use Rattle.records.specs.declared.RecordRead.the-variants.{Read, Refused as Unread}
 use Rattle.rules.specs.Scopes.{inside, partScope, entry, entered}
 use Rattle.rules.specs.PassOne.{atEntry, passOver}
 use Rattle.rules.proofs.Entries.{part-scopes}

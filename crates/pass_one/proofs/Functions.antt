@@ -16,8 +16,7 @@ use Rattle.refusal.specs.Inner.Numbers.{number}
 use Rattle.refusal.specs.Inner.Verdicts.{verdictResult}
 use Rattle.refusal.specs.declared.Refusal.{Refusal}
 use Rattle.refusal.specs.declared.Verdict.{Verdict}
-use Rattle.refusal.specs.declared.Verdict.the-variants.{Passed}
-use Rattle.refusal.specs.declared.Verdict.the-variants.{Refused as Refuses}
+use Rattle.refusal.specs.declared.Verdict.the-variants.{Passed, Refused as Refuses}
 use Rattle.rules.specs.Types.{resultType}
 use Rattle.rules.specs.Scopes.{scope, startOf, entered, enteredAll}
 use Rattle.rules.specs.PassOne.{passOver, passOne}

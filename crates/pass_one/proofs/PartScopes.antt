@@ -5,13 +5,11 @@ use mathlib.Core.Bool.{true, false}
 use mathlib.Core.Path.{_≡_, ap, ap₂}
 use native.Mathlib.Numerals.{add-one}
 use native.Mathlib.Omega.{arith}
-use Rattle.formats.specs.Records.{aNumber, aTree, asWhole, underNumber, underTrees}
-use Rattle.formats.specs.Records.{Part as PartOfKind}
+use Rattle.formats.specs.Records.{aNumber, aTree, asWhole, underNumber, underTrees, Part as PartOfKind}
 use Rattle.records.specs.Inner.Read.{partOf}
 use Rattle.records.specs.declared.Part.{Part}
 use Rattle.records.specs.declared.Part.the-variants.{Number, Tree, Whole, UnderNumber, UnderTrees}
-use Rattle.rules.specs.Scopes.{scope, partScope}
-use Rattle.rules.specs.Scopes.{Scope as ScopeThere}
+use Rattle.rules.specs.Scopes.{scope, partScope, Scope as ScopeThere}
 use Rattle.pass_one.specs.Inner.Walk.{expected, scopeOf, Small, Fits, FitsParts}
 use Rattle.pass_one.specs.declared.Scope.{Scope}
 

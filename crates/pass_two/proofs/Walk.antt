@@ -14,8 +14,7 @@ use types.Run.{OneOf, miss}
 use lib.ListN.{length}
 use Rattle.formats.specs.Inner.Buffers.{fromLast}
 use Rattle.formats.specs.Results.{done, onValue}
-use Rattle.formats.specs.Records.{Kind, partCount}
-use Rattle.formats.specs.Records.{IfZero as anIfZero, Case as aCase, Call as aCall}
+use Rattle.formats.specs.Records.{Kind, partCount, IfZero as anIfZero, Case as aCase, Call as aCall}
 use Rattle.formats.specs.Programs.{Expr, size, Placed, placedAt, partsAt, Signature}
 use Rattle.formats.specs.Inner.Fields.{arityIn, nodeIn}
 use Rattle.formats.proofs.Results.{done-injective, done-not}
@@ -34,8 +33,7 @@ use Rattle.records.specs.declared.TreeName.{TreeName}
 use Rattle.records.specs.declared.Called.{Called}
 use Rattle.records.proofs.Record as TheRecord
 use Rattle.rules.specs.PassTwo.{walk, noneLeft}
-use Rattle.walks.specs.Inner.Standing.{Known, headOf, Row, walkParts}
-use Rattle.walks.specs.Inner.Standing.{end as no-part, next as a-part}
+use Rattle.walks.specs.Inner.Standing.{Known, headOf, Row, walkParts, end as no-part, next as a-part}
 use Rattle.walks.specs.Inner.Walks.{Inside, Here, HereRow}
 use Rattle.walks.proofs.Walks.{node-held, parts-counted}
 use Rattle.walks.proofs.Here.{parts-here, first-here, rest-here}

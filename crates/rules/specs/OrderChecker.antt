@@ -17,10 +17,9 @@ use Rattle.formats.specs.Blocks.{programIn}
 use Rattle.rules.specs.Types.{Ty, resultType, functionType}
 use Rattle.rules.specs.Typing.{Types, TypedFunction}
 use Rattle.rules.specs.Leftover.{Checks, lines, FewAtCase, NoLonger}
-use Rattle.rules.specs.Limits.{mostPending}
+use Rattle.rules.specs.Limits.{mostPending, mostFrameWords}
 use Rattle.rules.specs.Scopes.{Scope, inside, partScope, expectedIn, PartTyped, Entry, entry, enteredAll}
 use Rattle.rules.specs.PassOne.{wordsOf, passOne, FirstFails}
-use Rattle.rules.specs.Limits.{mostFrameWords}
 use Rattle.rules.specs.PassTwo.{passTwo, bothPasses, checkRecords, checkFile}
 use Rattle.rules.specs.FirstFault.{FirstFault}
 use Rattle.rules.specs.Printed.{functionName, fix, Judges, functionTerm, JudgedFunction}

@@ -14,8 +14,7 @@ use Rattle.formats.specs.Blocks.{bufferAfter}
 use Rattle.formats.proofs.Results.{byResult, value-inv, value-refused}
 use Rattle.formats.proofs.Written.{front-written, wrote}
 use Rattle.refusal.specs.Inner.Numbers.{number}
-use Rattle.refusal.specs.Inner.FilledBuffer.{FilledBuffer}
-use Rattle.refusal.specs.Inner.FilledBuffer.{filledResult as filledWith}
+use Rattle.refusal.specs.Inner.FilledBuffer.{FilledBuffer, filledResult as filledWith}
 use Rattle.refusal.proofs.FilledBuffer.{put-refused}
 use Rattle.refusal.specs.Inner.Verdicts.{verdictResult}
 use Rattle.refusal.specs.declared.Refusal.{Refusal}

@@ -13,14 +13,12 @@ use borrow.Author.Tests.{eqb-true, eqb-false, ltb-true}
 use lib.ListN.{length, getD, take, drop, length-append, take-append-drop, List·getD-append}
 use lib.Seq.{getD-at}
 use Rattle.formats.specs.Numbers.{Bytes, bytesOf, numberOf, numberAt}
-use Rattle.formats.specs.Buffers.{one-more}
-use Rattle.formats.specs.Buffers.{BytesAt as BytesLie}
+use Rattle.formats.specs.Buffers.{one-more, BytesAt as BytesLie}
 use Rattle.formats.specs.Results.{done}
 use Rattle.formats.specs.Tokens.{Tree, leaf, node, Labelled, depth, leafTag, nodeTag, labelBytes, tokens, mostDepth, firstTree, firstEnd, endFrom}
 use Rattle.formats.specs.Inner.Trees.{leafBytes}
 use Rattle.formats.proofs.Numbers.{length-bytesOf, number-bytesOf, numberAt-whole}
-use Rattle.formats.proofs.Buffers.{lies-part, lies-within}
-use Rattle.formats.proofs.Buffers.{lies-left as bytes-left, lies-right as bytes-right}
+use Rattle.formats.proofs.Buffers.{lies-part, lies-within, lies-left as bytes-left, lies-right as bytes-right}
 use Rattle.formats.proofs.Reader.{tree-reader}
 use Rattle.formats.proofs.Results.{done-injective, both-held}
 use Rattle.formats.proofs.Tokens.{stands}

@@ -10,12 +10,10 @@ use borrow.Author.Needs.{needs}
 use mir.Syntax.{w64}
 use mir.Val.{Fits}
 use lib.ListN.{length, length-append, length-map}
-use Rattle.formats.specs.Inner.CodeColumn.{Item, templateOf, itemsBefore}
-use Rattle.formats.specs.Inner.CodeColumn.{Template as TemplateOfKind}
+use Rattle.formats.specs.Inner.CodeColumn.{Item, templateOf, itemsBefore, Template as TemplateOfKind}
 use Rattle.formats.specs.Results.{onValue}
 use Rattle.formats.specs.Records.{recordBytes, Parts as PartsOfKind, partsOf, nthPart, partCount}
-use Rattle.formats.specs.Programs.{Expr, size, Placed, partsAt}
-use Rattle.formats.specs.Programs.{placedAt as placed}
+use Rattle.formats.specs.Programs.{Expr, size, Placed, partsAt, placedAt as placed}
 use Rattle.formats.specs.Inner.Fields.{arityIn, nodeIn}
 use Rattle.formats.proofs.Results.{done-not}
 use Rattle.formats.proofs.Programs.{some-record}
@@ -28,8 +26,7 @@ use Rattle.records.specs.declared.Parts.{Parts}
 use Rattle.records.specs.declared.Template.{Template}
 use Rattle.records.specs.declared.RecordRead.{RecordRead}
 use Rattle.records.specs.declared.RecordRead.the-variants.{Read, Refused}
-use Rattle.walks.specs.Inner.Standing.{headOf, Row}
-use Rattle.walks.specs.Inner.Standing.{end as no-part, next as a-part}
+use Rattle.walks.specs.Inner.Standing.{headOf, Row, end as no-part, next as a-part}
 use Rattle.walks.proofs.Walks.{node-held}
 use Rattle.meaning.specs.Instructions.{Operation}
 use Rattle.translation.specs.Templates.{codeEnd, code}

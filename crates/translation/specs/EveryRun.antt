@@ -15,8 +15,7 @@ use Rattle.formats.specs.Programs.{treeValued, Function, Program}
 use Rattle.meaning.specs.Running.{Ran, mostCalls}
 use Rattle.meaning.specs.Evaluation.{Value, Ends, resultBytes, unitsIn}
 use Rattle.translation.specs.Demand3.{Given, runOn}
-use Rattle.translation.specs.EndedRuns.{Whole}
-use Rattle.translation.specs.EndedRuns.{Meant, OneForOne}
+use Rattle.translation.specs.EndedRuns.{Whole, Meant, OneForOne}
 
 -- A run that is refused with the number `why`, at the bytes read, after so many units.
 pub record RefusedAfterUnits (units why : ℕ) (ran : Ran) : Type 0 where

@@ -21,8 +21,7 @@ use Rattle.meaning.specs.Instructions.{instructionBytes, mostInstructions}
 use Rattle.meaning.specs.Running.{Answer, Ran, valueWords, returnWords, mostCalls}
 use Rattle.meaning.specs.Evaluation.{Value, Ends, resultBytes}
 use Rattle.translation.specs.Demand3.{Checked}
-use Rattle.translation.specs.EndedRuns.{Whole}
-use Rattle.translation.specs.EndedRuns.{Meant, OneForOne}
+use Rattle.translation.specs.EndedRuns.{Whole, Meant, OneForOne}
 use Rattle.translation.specs.TranslateAndRun.{FileRan, runFile, Ready}
 
 -- Answer and output at exit, as what a run gives.

@@ -6,8 +6,7 @@ use mathlib.Core.List.{List, []}
 use lib.Dec.{leb}
 use lib.ListN.{set, take}
 use Rattle.formats.specs.Records.{Kind, Const, Var, Add, IfZero, Let, Leaf, Node, Case, Call, Part, aNumber, aTree, asWhole, underNumber, underTrees}
-use Rattle.stepwise.specs.Inner.Rows.{kept, lastArgument, lastWord, roleOf, slotOf}
-use Rattle.stepwise.specs.Inner.Rows.{Location as LocationThere}
+use Rattle.stepwise.specs.Inner.Rows.{kept, lastArgument, lastWord, roleOf, slotOf, Location as LocationThere}
 use Rattle.part_locations.specs.declared.Location.{Location}
 
 -- The largest 64-bit number. Sums stop there.

@@ -15,8 +15,7 @@ use Rattle.records.specs.Inner.Read.{meant, listed}
 use Rattle.records.specs.declared.Parts.{Parts}
 use Rattle.records.specs.declared.Record.{Record}
 use Rattle.rules.specs.Types.{Ty, Int, Tree⁺}
-use Rattle.rules.specs.Scopes.{scope, startOf, entry, entered}
-use Rattle.rules.specs.Scopes.{Scope as ScopeThere}
+use Rattle.rules.specs.Scopes.{scope, startOf, entry, entered, Scope as ScopeThere}
 use Rattle.rules.specs.PassOne.{typeFits, hasRoom, bareNumber, atEntry, passOver, passOne}
 use Rattle.walks.specs.Inner.Standing.{Known, passParts}
 use Rattle.walks.specs.Inner.Limits.{mostCount, mostTreeNames}

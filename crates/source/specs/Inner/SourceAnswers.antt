@@ -15,8 +15,7 @@ use Rattle.refusal.specs.Inner.Numbers.{number as numberOf}
 use Rattle.refusal.specs.declared.Refusal.{Refusal}
 use Rattle.meaning.specs.Running.{valueWords, returnWords}
 use Rattle.meaning.specs.OpenCalls.{Outcome, gives, stops, begins, withFuel}
-use Rattle.meaning.specs.SourceRun.{SourceRan, refusedAfter, sourceRun}
-use Rattle.meaning.specs.SourceRun.{SourceAnswer as Due}
+use Rattle.meaning.specs.SourceRun.{SourceRan, refusedAfter, sourceRun, SourceAnswer as Due}
 use Rattle.meaning.specs.WorkWords.{beforeSource, WorkWords}
 use Rattle.stepwise.specs.Inner.Steps.{begin}
 use Rattle.stepwise.specs.Inner.Outcomes.{Reported, Comes}

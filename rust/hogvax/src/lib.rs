@@ -38,7 +38,7 @@ pub use source::{source, source_in, source_into, Sourced};
 pub use translate::{translate, translate_into};
 pub use tree::{first_tree, tree, tree_into};
 
-/// A refusal: its number in document 01's table, and its position.
+/// A refusal: its number in the table of refusals (`docs/REFERENCE.md`), and its position.
 /// What that counts depends on the number: the tree reader's is a byte of the
 /// input, a program file's is a block or a record, a stream run's is the bytes
 /// read; a source run's own refusals are at 0.

@@ -111,7 +111,7 @@ impl Default for WorkSpace {
 /// the rest of `output` is left as it is.
 ///
 /// ```
-/// // Document 01's Grow, which adds 1 to every label.
+/// // Grow, which adds 1 to every label.
 /// let code = [
 ///     [10, 0, 9, 0, 0, 0, 0, 0], // 0: read tag, a node goes to 9
 ///     [11, 0, 0, 0, 0, 0, 0, 0], // 1: read number

@@ -20,7 +20,7 @@ use crate::{ffi, Ran, WorkSpace};
 /// the rest of `output` is left as it is.
 ///
 /// ```
-/// // Document 01's Sum: Case 0, Var 0, Add, Call 0 on 1, Call 0 on 2.
+/// // Sum: Case 0, Var 0, Add, Call 0 on 1, Call 0 on 2.
 /// let records = [
 ///     [1, 1, 5, 0, 0, 0, 0, 0], // 0: header, 1 function and 5 nodes
 ///     [0, 0, 5, 0, 0, 0, 0, 0], // 1: function 0, a number
@@ -51,7 +51,7 @@ pub fn run(file: &[u8], input: &[u8], fuel: u64, output: &mut [u8]) -> Ran {
 /// it, does not matter to the next.
 ///
 /// ```
-/// // Document 01's Grow: Case 0, Leaf, Add, Var 0, Const 1, Node,
+/// // Grow: Case 0, Leaf, Add, Var 0, Const 1, Node,
 /// // Call 0 on 1, Call 0 on 2.
 /// let records = [
 ///     [1, 1, 8, 0, 0, 0, 0, 0], // 0: header, 1 function and 8 nodes

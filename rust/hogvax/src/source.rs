@@ -72,7 +72,7 @@ impl fmt::Display for Sourced {
 /// left as it is. A number and a refusal leave all of it as it is.
 ///
 /// ```
-/// // Document 01: Case 0, Leaf, Var 0, Node, Call 0 on 2, Call 0 on 1. Its
+/// // Swap: Case 0, Leaf, Var 0, Node, Call 0 on 2, Call 0 on 1. Its
 /// // trees are not in order: it takes the right one first.
 /// let records = [
 ///     [1, 1, 6, 0, 0, 0, 0, 0], // 0: header, 1 function and 6 nodes
@@ -112,7 +112,7 @@ pub fn source(file: &[u8], input: &[u8], fuel: u64, output: &mut [u8]) -> Source
 /// the first allocates one.
 ///
 /// ```
-/// // Document 01's Sum: Case 0, Var 0, Add, Call 0 on 1, Call 0 on 2.
+/// // Sum: Case 0, Var 0, Add, Call 0 on 1, Call 0 on 2.
 /// let records = [
 ///     [1, 1, 5, 0, 0, 0, 0, 0], // 0: header, 1 function and 5 nodes
 ///     [0, 0, 5, 0, 0, 0, 0, 0], // 1: function 0, a number

@@ -3,7 +3,7 @@
 use crate::{ffi, written, Refused, LONGEST_CODE};
 
 /// The stream code of the program in this file, 8 bytes an instruction, by
-/// document 01's templates: function by function, each its body and a return.
+/// the reference's templates: function by function, each its body and a return.
 /// Or the first fault, as [`check`](crate::check) gives it.
 ///
 /// [`perform`](crate::perform) runs the code, [`run`](crate::run) does both.

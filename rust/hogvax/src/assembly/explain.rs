@@ -68,7 +68,7 @@ pub fn first_refusal(records: &[u8]) -> Option<Refused> {
     search(records).err().map(|found| found.refused())
 }
 
-/// Looks for the first fault, each row of document 01's table being finished
+/// Looks for the first fault, each row of the reference's table being finished
 /// before the next. The passes come last: they walk no more than 1,024 nodes.
 fn search(records: &[u8]) -> Result<(), Found> {
     rows::header(records)?;

@@ -1,4 +1,4 @@
-//! Programs as text: one record a line, as document 01 writes them.
+//! Programs as text: one record a line, as the reference writes them.
 //!
 //! A text has a line for each function, after it one for each of its records,
 //! and after each record its parts:

@@ -1,4 +1,4 @@
-//! Records by name: the nine kinds as document 01 writes them.
+//! Records by name: the nine kinds as the reference writes them.
 
 use std::fmt;
 
@@ -124,7 +124,7 @@ impl Record {
     }
 }
 
-/// A node record as document 01 writes it: `Case 0`, `Const -1`, `Call 0 on 1`.
+/// A node record as the reference writes it: `Case 0`, `Const -1`, `Call 0 on 1`.
 impl fmt::Display for Record {
     fn fmt(&self, f: &mut fmt::Formatter<'_>) -> fmt::Result {
         let Some(kind) = KINDS.get(usize::from(self.kind)) else {

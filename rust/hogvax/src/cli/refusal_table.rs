@@ -1,4 +1,4 @@
-//! What each refusal means: document 01's table in words.
+//! What each refusal means: the reference's table of refusals in words.
 
 /// One number of the table "Where each refusal arises".
 pub struct Refusal {
@@ -192,7 +192,7 @@ on each instruction performed, the source run on each expression begun; before
 each, the fuel is looked at first.",
         position: "in the stream run the bytes read, in the source run 0.",
         example: "\
-document 01's program Grow on its tree T, a stream run of 25 units,
+the sample program Grow on the sample tree, a stream run of 25 units,
 with fuel 24, and the same of its code; its source run begins 14 expressions:
   $ ./hogvax run samples/programs/grow.program samples/small.tokens --fuel 24
   refused 14 11 units 24 read 11 written 11 number 0
@@ -247,7 +247,7 @@ written before stays, and --partial hands it out. In the source run the output
 is shorter than the result; nothing is written.",
         position: "in the stream run the bytes read, in the source run 0.",
         example: "\
-document 01's program Grow on its tree T, a stream run with an output
+the sample program Grow on the sample tree, a stream run with an output
 of 10 bytes, of which it writes 7, and the same of its code; its source run
 writes none:
   $ ./hogvax run samples/programs/grow.program samples/small.tokens --space 10

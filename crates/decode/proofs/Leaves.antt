@@ -8,7 +8,7 @@ use native.Mathlib.Omega.{arith}
 use borrow.Author.Tests.{ltb-true}
 use lib.ListN.{getD, take}
 use lib.Seq.{getD-take}
-use Rattle.formats.specs.Records.{Kind, Const, Var, Add, IfZero, Let, Leaf, Node, Case, Call, functionBelow}
+use Rattle.formats.specs.Records.{Kind, Const, Var, Compute, IfZero, Let, Leaf, Node, Case, Call, functionBelow}
 use Rattle.formats.specs.Inner.Limits.{mostRecords}
 use Rattle.formats.specs.Inner.Fields.{headerIn}
 use Rattle.walks.specs.Inner.Limits.{mostCount}
@@ -41,7 +41,7 @@ module _ (s cases : List ℕ) (p : Location) (entry arity : ℕ → ℕ) (more :
   unfolding ownIn actionOf operandIn treeIn operandOf treeOf moreOf functionBelow
   reported (Const i) low = record { action = refl; operand = refl; tree = refl; more = refl }
   reported (Var a) low = record { action = refl; operand = refl; tree = refl; more = refl }
-  reported Add low = record { action = refl; operand = refl; tree = refl; more = refl }
+  reported (Compute op) low = record { action = refl; operand = refl; tree = refl; more = refl }
   reported IfZero low = record { action = refl; operand = refl; tree = refl; more = refl }
   reported Let low = record { action = refl; operand = refl; tree = refl; more = refl }
   reported Leaf low = record { action = refl; operand = refl; tree = refl; more = refl }

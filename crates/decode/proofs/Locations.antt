@@ -10,8 +10,9 @@ use native.Mathlib.Omega.{arith}
 use lib.Dec.{eqb}
 use lib.ListN.{length, getD, set, take, length-set}
 use lib.Seq.{getD-set-same, getD-set-other, getD-take, take-set-le, take-suc-set, take-take}
+use Rattle.formats.specs.Arithmetic.{Op, plus}
 use Rattle.formats.specs.Records.{Kind, Part, aNumber, aTree, asWhole, underNumber, underTrees, partsOf, partCount, nth, nthPart}
-use Rattle.formats.specs.Records.{Const as aConst, Var as aVar, Add as anAdd, IfZero as anIfZero, Let as aLet, Leaf as aLeaf, Node as aNode, Case as aCase, Call as aCall}
+use Rattle.formats.specs.Records.{Const as aConst, Var as aVar, Compute as anOperation, IfZero as anIfZero, Let as aLet, Leaf as aLeaf, Node as aNode, Case as aCase, Call as aCall}
 use Rattle.formats.specs.Programs.{signatureOf}
 use Rattle.formats.specs.Inner.Limits.{mostRecords}
 use Rattle.formats.specs.Inner.Fields.{arityIn}
@@ -20,7 +21,7 @@ use Rattle.records.specs.Inner.Read.{meant, partOf}
 use Rattle.records.specs.declared.Part.{Part as RecordPart}
 use Rattle.records.specs.declared.Record.{Record}
 use Rattle.walks.specs.Inner.Limits.{mostCount}
-use Rattle.stepwise.specs.Inner.Rows.{kept, lastArgument, lastWord, roleOf, slotOf, namesIn, keepsIn, casesIn, partLocation}
+use Rattle.stepwise.specs.Inner.Rows.{kept, secondOf, lastArgument, lastWord, roleOf, slotOf, namesIn, keepsIn, casesIn, partLocation}
 use Rattle.part_locations.specs.declared.Location.{Location}
 use Rattle.part_locations.specs.Inner.Locations.{locationWith, capped, namesInside, keepsInside, depthInside, partIn, noted}
 use Rattle.part_locations.proofs.Parts.{cap-low, placed}
@@ -53,8 +54,8 @@ module _ (part : Part) (r count : ℕ) where
   unfolding insideLocation keepsInside keepsIn
   keeps-plain (aConst c) i p low = refl
   keeps-plain (aVar a) i p low = refl
-  keeps-plain anAdd zero p low = refl
-  keeps-plain anAdd (suc i) p low = one-more (p .keeps) (omega arith)
+  keeps-plain (anOperation op) zero p low = refl
+  keeps-plain (anOperation op) (suc i) p low = one-more (p .keeps) (omega arith)
   keeps-plain anIfZero i p low = refl
   keeps-plain aLet i p low = refl
   keeps-plain aLeaf i p low = refl
@@ -118,13 +119,18 @@ last-role : (b : Bool) → elim b [ true ↦ lastArgument | false ↦ kept ] ≤
 last-role true = omega arith
 last-role false = omega arith
 
+-- the role of an operation's second part
+second-role : (op : Op) → secondOf op ≤ lastArgument
+unfolding secondOf
+second-role plus = omega arith
+
 -- each part's location is near
 near : (part : Part) (kind : Kind) (r i count : ℕ) (p : Location) → Near r i p (insideLocation part kind r i count p)
 unfolding insideLocation roleOf slotOf keepsIn
 near part (aConst c) r i count p = near-to part r i p _ _ _ (omega arith) (omega arith) (omega arith)
 near part (aVar a) r i count p = near-to part r i p _ _ _ (omega arith) (omega arith) (omega arith)
-near part anAdd r zero count p = near-to part r zero p _ _ _ (omega arith) (omega arith) (omega arith)
-near part anAdd r (suc i) count p = near-to part r (suc i) p _ _ _ (omega arith) (omega arith) (omega arith)
+near part (anOperation op) r zero count p = near-to part r zero p _ _ _ (omega arith) (omega arith) (omega arith)
+near part (anOperation op) r (suc i) count p = near-to part r (suc i) p _ _ _ (second-role op) (omega arith) (omega arith)
 near part anIfZero r zero count p = near-to part r zero p _ _ _ (omega arith) (omega arith) (omega arith)
 near part anIfZero r (suc i) count p = near-to part r (suc i) p _ _ _ (omega arith) (omega arith) (omega arith)
 near part aLet r zero count p = near-to part r zero p _ _ _ (omega arith) (omega arith) (omega arith)
@@ -161,9 +167,9 @@ pub location-inside : (entry arity : ℕ → ℕ) (kind : Kind) (r i count : ℕ
 unfolding insideLocation namesUnder noted roleOf slotOf namesIn keepsIn casesIn deeper partsOf partCount nthPart nth
 location-inside entry arity (aConst c) r i count p cases counted more low room = absurd (omega (arith, counted .is))
 location-inside entry arity (aVar a) r i count p cases counted more low room = absurd (omega (arith, counted .is))
-location-inside entry arity anAdd r zero count p cases counted more low room = refl
-location-inside entry arity anAdd r (suc zero) count p cases counted more low room = refl
-location-inside entry arity anAdd r (suc (suc i)) count p cases counted more low room = absurd (omega (arith, counted .is))
+location-inside entry arity (anOperation op) r zero count p cases counted more low room = refl
+location-inside entry arity (anOperation op) r (suc zero) count p cases counted more low room = refl
+location-inside entry arity (anOperation op) r (suc (suc i)) count p cases counted more low room = absurd (omega (arith, counted .is))
 location-inside entry arity anIfZero r zero count p cases counted more low room = refl
 location-inside entry arity anIfZero r (suc zero) count p cases counted more low room = refl
 location-inside entry arity anIfZero r (suc (suc zero)) count p cases counted more low room = refl

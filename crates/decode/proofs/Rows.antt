@@ -6,11 +6,11 @@ use mathlib.Core.Path.{_≡_, refl, sym, ap, ap₂}
 use native.Mathlib.Nat.{add-zero}
 use native.Mathlib.Omega.{arith}
 use lib.ListN.{length, length-append}
-use Rattle.formats.specs.Records.{Kind, Const, Var, Add, IfZero, Let, Leaf, Node, Case, Call}
-use Rattle.formats.specs.Programs.{Expr, const, var, add, ifZero, letIn, leafOf, nodeOf, caseOf, call, Args, noArgs, arg, size, Placed, placedAt, argsAt, partsAt, Signature}
+use Rattle.formats.specs.Records.{Kind, Const, Var, Compute, IfZero, Let, Leaf, Node, Case, Call}
+use Rattle.formats.specs.Programs.{Expr, const, var, compute, ifZero, letIn, leafOf, nodeOf, caseOf, call, Args, noArgs, arg, size, Placed, placedAt, argsAt, partsAt, Signature}
 use Rattle.walks.specs.Inner.Standing.{headOf, Row, end, next}
 use Rattle.stepwise.specs.Inner.Rows.{Location, rowWords, partLocation, rowOf, rowsOf, rowsOfArgs}
-use Rattle.stepwise.proofs.Rows.{size-const, size-var, size-add, size-ifZero, size-let, size-leaf, size-node, size-case, size-call, after-args, length-rows}
+use Rattle.stepwise.proofs.Rows.{size-const, size-var, size-compute, size-ifZero, size-let, size-leaf, size-node, size-case, size-call, after-args, length-rows}
 use Rattle.decode.specs.Inner.Walk.{rowsOfParts}
 
 module _ (entry arity : ℕ → ℕ) where
@@ -40,7 +40,7 @@ module _ (entry arity : ℕ → ℕ) where
   unfolding rowsOf rowsOfParts partsAt headOf
   rows-split p r (const i) = in-front p (Const i) {xs = []} (omega (arith, size-const i)) refl
   rows-split p r (var a) = in-front p (Var a) {xs = []} (omega (arith, size-var a)) refl
-  rows-split p r (add x y) = in-front p Add (omega (arith, size-add x y)) (rows-two p Add r 0 (suc r) x y)
+  rows-split p r (compute op x y) = in-front p (Compute op) (omega (arith, size-compute x y op)) (rows-two p (Compute op) r 0 (suc r) x y)
   rows-split p r (ifZero t z o) =
       in-front p IfZero (omega (arith, size-ifZero t z o))
       (ap (λ (l : List ℕ). rowsOf entry arity (partLocation entry arity p IfZero r 0) (suc r) t ++ l) (rows-two p IfZero r 1 (suc r + size t) z o))

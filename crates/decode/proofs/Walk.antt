@@ -12,7 +12,7 @@ use borrow.Author.Tests.{ltb-true}
 use lib.ListN.{length, length-append}
 use Rattle.formats.specs.Results.{onValue}
 use Rattle.formats.specs.Records.{Kind, functionBelow, partsOf, partCount, nthPart}
-use Rattle.formats.specs.Records.{Const as aConst, Var as aVar, Add as anAdd, IfZero as anIfZero, Let as aLet, Leaf as aLeaf, Node as aNode, Case as aCase, Call as aCall}
+use Rattle.formats.specs.Records.{Const as aConst, Var as aVar, Compute as anOperation, IfZero as anIfZero, Let as aLet, Leaf as aLeaf, Node as aNode, Case as aCase, Call as aCall}
 use Rattle.formats.specs.Programs.{Expr, size, Placed, partsAt}
 use Rattle.formats.specs.Inner.Fields.{headerIn, arityIn, nodeIn}
 use Rattle.formats.specs.Written.{written}
@@ -62,7 +62,7 @@ same-count : (s : List ℕ) (entry arity : ℕ → ℕ) → Agrees s entry arity
 unfolding functionBelow partsOf partCount
 same-count s entry arity agrees (aConst c) there = refl
 same-count s entry arity agrees (aVar a) there = refl
-same-count s entry arity agrees anAdd there = refl
+same-count s entry arity agrees (anOperation op) there = refl
 same-count s entry arity agrees anIfZero there = refl
 same-count s entry arity agrees aLet there = refl
 same-count s entry arity agrees aLeaf there = refl

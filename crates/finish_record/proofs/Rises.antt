@@ -10,17 +10,20 @@ use native.Mathlib.Omega.{arith}
 use borrow.Author.Tests.{eq-eqb, ne-eqb, lt-ltb, le-ltb}
 use lib.Dec.{eqb, ltb}
 use lib.ListN.{length, getD, set}
-use Rattle.formats.specs.Numbers.{sum32}
+use Rattle.formats.specs.Arithmetic.{plus, resultOf}
 use Rattle.formats.specs.Tokens.{nodeTag}
 use Rattle.stepwise.specs.Inner.Rows.{whole, kept, added, tested, passed, labelled, followed}
 use Rattle.stepwise.specs.Inner.Steps.{treeAt, roleAt, parentAt, slotAt, afterAt, frameWords, onRight, knownAfter}
-use Rattle.stepwise.proofs.Steps.{closes-first, closes-waiting, rises-whole, rises-kept, rises-added, rises-zero, rises-other, rises-on}
+use Rattle.stepwise.proofs.Steps.{closes-first, closes-waiting, computes-result, computes-none, rises-whole, rises-kept, rises-added, rises-zero, rises-other, rises-on}
 use Rattle.stepwise.proofs.Steps.{follows-passed, follows-labelled, follows-followed, follows-last}
 use Rattle.words.proofs.Bytes.{byte-cut}
+use Rattle.numbers.specs.declared.Sum.{Sum}
+use Rattle.numbers.specs.declared.Sum.the-variants.{Word, OutOfRange}
+use Rattle.numbers.specs.Inner.Sums.{wordIn}
 use Rattle.stages.specs.declared.Stage.{Stage}
-use Rattle.stages.specs.Inner.Stages.{toBegin, isFinished, toOpen, hasEnded, stateOf, staged, stageOf, wordsOf, returnsOf}
-use Rattle.stages.proofs.Stages.{reach-begin, reach-finished, reach-ended, put-begin, put-open}
-use Rattle.finish_record.specs.Inner.Rises.{Knows, Closes, Picks, Follows, Rises}
+use Rattle.stages.specs.Inner.Stages.{toBegin, isFinished, toOpen, hasEnded, isBroken, stateOf, staged, stageOf, wordsOf, returnsOf}
+use Rattle.stages.proofs.Stages.{reach-begin, reach-finished, reach-ended, reach-broken, put-begin, put-open}
+use Rattle.finish_record.specs.Inner.Rises.{Knows, Closes, Adds, Picks, Follows, Rises}
 
 -- ---- `return_at`
 
@@ -148,16 +151,48 @@ module _ (T input returns : List ℕ) (s : Stage) where
 
 pub ruleset closes = (close-first, close-waiting)
 
--- ---- `keep`, `sum_kept`
+-- ---- `keep`, `add_kept`
 
 module _ (l : List ℕ) (base slot f : ℕ) (is : f ≡ slot) where
   pub slot-put : (k : List ℕ) (x : ℕ) → k ≡ set l (base + f) x → k ≡ set l (base + slot) x
   slot-put k x e = e ∙ ap (λ j. set l (base + j) x) is
 
-  pub slot-summed : (left x sum : ℕ) → left ≡ getD l (base + f) 0 → sum ≡ sum32 left x → sum ≡ sum32 (getD l (base + slot) 0) x
-  slot-summed left x sum e s = s ∙ ap (λ j. sum32 j x) (e ∙ ap (λ j. getD l (base + j) 0) is)
+pub ruleset slots = (slot-put)
 
-pub ruleset slots = (slot-put, slot-summed)
+module _ (T values : List ℕ) (s r : Stage) (f left parent : ℕ) (sum : Sum) (slot : f ≡ slotAt T (s .node))
+    (word : left ≡ getD values (frameWords * s .calls + f) 0)
+    (above : parent ≡ parentAt T (s .node))
+    (is-sum : wordIn sum ≡ resultOf plus left (s .number))
+  where
+    -- the sum is of the number kept
+    kept-word : left ≡ getD values (frameWords * s .calls + slotAt T (s .node)) 0
+    kept-word = word ∙ ap (λ j. getD values (frameWords * s .calls + j) 0) slot
+
+    pub adds-word : (w : ℕ) → sum ≡ Word w → r ≡ staged s isFinished parent w → Adds T values s r
+    adds-word w case e =
+        rw (e, above)
+        (record {
+          is = λ returns.
+              rw (
+                ← kept-word,
+                computes-result plus left (s .number) (parentAt T (s .node)) (stateOf values returns s) w (sym is-sum ∙ ap wordIn case),
+              )
+              (reach-finished values returns s (parentAt T (s .node)) w);
+        })
+
+    pub adds-none : sum ≡ OutOfRange → r ≡ staged s isBroken parent 0 → Adds T values s r
+    adds-none case e =
+        rw (e, above)
+        (record {
+          is = λ returns.
+              rw (
+                ← kept-word,
+                computes-none plus left (s .number) (parentAt T (s .node)) (stateOf values returns s) (sym is-sum ∙ ap wordIn case),
+              )
+              (reach-broken values returns s plus left (s .number) (parentAt T (s .node)));
+        })
+
+pub ruleset additions = (adds-word, adds-none)
 
 -- ---- `picked`
 
@@ -234,20 +269,9 @@ module _ (T values : List ℕ) (s : Stage) (k : ℕ) (role : k ≡ roleAt T (s .
               (put-begin values returns s (frameWords * s .calls + slotAt T (s .node)) (s .number) (afterAt T (s .node)));
         })
 
-    pub rise-added :
-        (p x : ℕ) (r : Stage)
-        → k ≡ added
-        → x ≡ sum32 (getD values (frameWords * s .calls + slotAt T (s .node)) 0) (s .number)
-        → p ≡ parentAt T (s .node)
-        → r ≡ staged s isFinished p x
-        → Rises T input values values returns s r
-    rise-added p x r is ex ep e =
-        rw (e, ep, ex)
-        (record {
-          is =
-              rw (rises-added T input (s .node) (s .number) (stateOf values returns s) (sym role ∙ is))
-              (reach-finished values returns s (parentAt T (s .node)) (sum32 (getD values (frameWords * s .calls + slotAt T (s .node)) 0) (s .number)));
-        })
+    pub rise-added : (r : Stage) → k ≡ added → Adds T values s r → Rises T input values values returns s r
+    rise-added r is adds =
+        record { is = rw (rises-added T input (s .node) (s .number) (stateOf values returns s) (sym role ∙ is)) (adds .is returns) }
 
     pub rise-tested : (b : ℕ) (r : Stage) → k ≡ tested → Picks T s b → r ≡ staged s toBegin b 0 → Rises T input values values returns s r
     rise-tested b r is picks e =

@@ -11,7 +11,9 @@ use frames::SLOT;
 use frames::TESTED;
 use frames::TREE;
 use frames::WHOLE;
+use numbers::Sum;
 use stages::BEGIN;
+use stages::BROKEN;
 use stages::ENDED;
 use stages::FINISHED;
 use stages::OPEN;
@@ -19,9 +21,8 @@ use stages::Stage;
 ghost use Prim.Native.Nat.{_+_, _*_};
 ghost use mathlib.Core.Path.{_≡_};
 ghost use lib.ListN.{getD, set};
-ghost use Rattle.formats.specs.Numbers.{sum32};
 ghost use Rattle.stepwise.specs.Inner.Steps.{slotAt, frameWords, onRight};
-ghost use Rattle.finish_record.specs.Inner.Rises.{Knows, Closes, Picks, Follows, Rises};
+ghost use Rattle.finish_record.specs.Inner.Rises.{Knows, Closes, Adds, Picks, Follows, Rises};
 
 const NODE_TAG: u8 = 2;
 
@@ -107,13 +108,17 @@ fn keep(table: &[u16], values: &mut [u32], s: Stage)
     )
 }
 
-// The number of a record that is finished, added to the number kept.
-fn sum_kept(table: &[u16], values: &[u32], s: Stage) -> u32
-    ensures { λ r. ⌜ r ≡ sum32 (getD (now (values .entry))
-        (frameWords * s .calls + slotAt (now (table .entry)) (s .node)) 0) (s .number) ⌝ }
+// The sum of the number kept and the number of a record that is finished: Add's record is finished
+// with it, or Add has no result.
+fn add_kept(table: &[u16], values: &[u32], s: Stage) -> Stage
+    ensures { λ r. ⌜ Adds (now (table .entry)) (now (values .entry)) s r ⌝ }
 {
     let left = frames::frame_word(values, s.calls, frames::field(table, s.node, SLOT));
-    numbers::add32(left, s.number)
+    let parent = frames::field(table, s.node, PARENT);
+    match numbers::sum_of(left, s.number) {
+        Sum::Word(sum) => stages::staged_at(s, FINISHED, parent, sum),
+        Sum::OutOfRange => stages::staged_at(s, BROKEN, parent, 0),
+    }
 }
 
 // The record of the part that IfZero takes: the zero part is after the test, the other part after
@@ -159,10 +164,7 @@ pub fn rise(table: &[u16], input: &[u8], values: &mut [u32], returns: &[u64], s:
             keep(table, values, s);
             stages::staged_at(s, BEGIN, frames::field(table, s.node, AFTER), 0)
         }
-        ADDED => {
-            let sum = sum_kept(table, values, s);
-            stages::staged_at(s, FINISHED, frames::field(table, s.node, PARENT), sum)
-        }
+        ADDED => add_kept(table, values, s),
         TESTED => stages::staged_at(s, BEGIN, picked(table, s), 0),
         _ => follow(table, values, s),
     }

@@ -2,10 +2,12 @@
 -- what the tree reader finds in it.
 use Prim.Native.Nat.{ℕ, zero, suc}
 use mathlib.Core.List.{List, [], _∷_, _++_, map}
+use mathlib.Core.Option.{none, some}
 use mathlib.Core.Path.{_≡_, refl}
 use lib.IntN.{pos, negsuc}
 use lib.ListN.{take, replicate}
-use Rattle.formats.specs.Numbers.{bytesOf, numberOf, numberAt, sum32, signed32}
+use Rattle.formats.specs.Numbers.{bytesOf, numberOf, numberAt, signed32}
+use Rattle.formats.specs.Arithmetic.{plus, unbounded, wordFor, resultOf}
 use Rattle.formats.specs.Written.{written}
 use Rattle.formats.specs.Tokens.{Tree, leaf, node, tips, depth, nodeTag, tokens, tagOf, tagAt, labelAt, branchesAt, treeByTag, treeAt, firstTree, ownBytes, endFrom, firstEnd}
 use Rattle.formats.specs.Results.{done, refusal}
@@ -28,9 +30,36 @@ signed-of : map signed32 (0 ∷ 5 ∷ 2147483647 ∷ 2147483648 ∷ 4294967295 �
 unfolding signed32
 signed-of = refl
 
-sums : map (sum32 4294967295) (0 ∷ 1 ∷ 2 ∷ []) ≡ 4294967295 ∷ 0 ∷ 1 ∷ []
-unfolding sum32
-sums = refl
+-- the exact sum, in range or not
+exact-sums :
+    unbounded plus (pos 2147483647) (pos 1) ∷ unbounded plus (negsuc 2147483647) (negsuc 0) ∷ unbounded plus (negsuc 0) (pos 1) ∷ unbounded plus (pos 5) (negsuc 6) ∷ []
+    ≡ pos 2147483648 ∷ negsuc 2147483648 ∷ pos 0 ∷ negsuc 1 ∷ []
+unfolding unbounded
+exact-sums = refl
+
+-- the word that stands for a number, at both ends of the range
+words-for :
+    map wordFor (pos 0 ∷ pos 2147483647 ∷ pos 2147483648 ∷ negsuc 0 ∷ negsuc 2147483647 ∷ negsuc 2147483648 ∷ [])
+    ≡ some 0 ∷ some 2147483647 ∷ none ∷ some 4294967295 ∷ some 2147483648 ∷ none ∷ []
+unfolding wordFor
+words-for = refl
+
+-- 2147483647 + 0 fits, + 1 does not; −2147483648 + 0 fits, + −1 does not; −1 + 1 and −1 + 5;
+-- 2147483647 + −2147483648; −2147483648 twice; 1073741824 twice
+results :
+    resultOf plus 2147483647 0
+    ∷ resultOf plus 2147483647 1
+    ∷ resultOf plus 2147483648 0
+    ∷ resultOf plus 2147483648 4294967295
+    ∷ resultOf plus 4294967295 1
+    ∷ resultOf plus 4294967295 5
+    ∷ resultOf plus 2147483647 2147483648
+    ∷ resultOf plus 2147483648 2147483648
+    ∷ resultOf plus 1073741824 1073741824
+    ∷ []
+    ≡ some 2147483647 ∷ none ∷ some 2147483648 ∷ none ∷ some 0 ∷ some 4 ∷ some 4294967295 ∷ none ∷ none ∷ []
+unfolding resultOf wordFor unbounded signed32
+results = refl
 
 -- the number at an offset, 0 where a byte is missing
 numbers : map (numberAt 2 (1 ∷ 2 ∷ 3 ∷ [])) (0 ∷ 1 ∷ 2 ∷ 3 ∷ []) ≡ 513 ∷ 770 ∷ 0 ∷ 0 ∷ []

@@ -1,5 +1,6 @@
 -- Laws of the definitions in specs/, and closed cases of them.
 pub mod Numbers
+pub mod Arithmetic
 pub mod Results
 pub mod Buffers
 pub mod Written

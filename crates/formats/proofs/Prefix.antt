@@ -12,8 +12,8 @@ use native.Mathlib.Omega.{arith}
 use lib.ListN.{length}
 use Rattle.formats.specs.Refusals.{prefixForm}
 use Rattle.formats.specs.Results.{done, refusal, verdict}
-use Rattle.formats.specs.Records.{Kind, Const, Var, Add, IfZero, Let, Leaf, Node, Case, Call, partsOf, partCount}
-use Rattle.formats.specs.Programs.{Expr, const, var, add, ifZero, letIn, leafOf, nodeOf, caseOf, call, Args, noArgs, arg}
+use Rattle.formats.specs.Records.{Kind, Const, Var, Compute, IfZero, Let, Leaf, Node, Case, Call, partsOf, partCount}
+use Rattle.formats.specs.Programs.{Expr, const, var, compute, ifZero, letIn, leafOf, nodeOf, caseOf, call, Args, noArgs, arg}
 use Rattle.formats.specs.Programs.{prefix, prefixes, countArgs, CallsComplete, ArgsComplete, Every}
 use Rattle.formats.specs.Rows.{pop, popArgs, build, exprsOf, exactlyOne}
 
@@ -104,7 +104,7 @@ built : (arity : ℕ → ℕ) (kind : Kind) (es : List Expr) → partCount arity
 unfolding build partsOf partCount prefix recordsOfAll
 built arity (Const i) es h = record { whole = const i; rest = es; is = refl; taken = omega arith; joined = refl; applied = λ a. (tt, a) }
 built arity (Var v) es h = record { whole = var v; rest = es; is = refl; taken = omega arith; joined = refl; applied = λ a. (tt, a) }
-built arity Add es h = two-parts arity Add add (λ es. refl) refl (λ p q. refl) (λ p q a b. (a, b)) es h
+built arity (Compute op) es h = two-parts arity (Compute op) (compute op) (λ es. refl) refl (λ p q. refl) (λ p q a b. (a, b)) es h
 built arity IfZero [] h = absurd (omega arith)
 built arity IfZero (t ∷ []) h = absurd (omega arith)
 built arity IfZero (t ∷ (z ∷ [])) h = absurd (omega arith)
@@ -150,7 +150,7 @@ build-short : (arity : ℕ → ℕ) (kind : Kind) (es : List Expr) → length es
 unfolding build partsOf partCount
 build-short arity (Const i) es h = absurd (omega arith)
 build-short arity (Var v) es h = absurd (omega arith)
-build-short arity Add es h = two-short es add h
+build-short arity (Compute op) es h = two-short es (compute op) h
 build-short arity IfZero [] h = refl
 build-short arity IfZero (t ∷ []) h = refl
 build-short arity IfZero (t ∷ (z ∷ [])) h = refl
@@ -235,8 +235,8 @@ mutual
       → exprsOf arity (prefix e ++ ks) ≡ some (e ∷ es)
   exprs-prefix (const i) arity ks es a h = exprs-cons arity (Const i) ks es h
   exprs-prefix (var v) arity ks es a h = exprs-cons arity (Var v) ks es h
-  exprs-prefix (add p q) arity ks es a h =
-      exprs-cons arity Add _ (p ∷ q ∷ es) (rw append-assoc (exprs-prefix p arity (prefix q ++ ks) (q ∷ es) (a .0) (exprs-prefix q arity ks es (a .1) h)))
+  exprs-prefix (compute op p q) arity ks es a h =
+      exprs-cons arity (Compute op) _ (p ∷ q ∷ es) (rw append-assoc (exprs-prefix p arity (prefix q ++ ks) (q ∷ es) (a .0) (exprs-prefix q arity ks es (a .1) h)))
   exprs-prefix (ifZero t z o) arity ks es a h =
       let last = exprs-prefix o arity ks es (a .1 .1) h in
       let second = exprs-prefix z arity (prefix o ++ ks) (o ∷ es) (a .1 .0) last in

@@ -8,7 +8,8 @@ use lib.ListN.{length, take, drop, replicate, set}
 use Rattle.formats.specs.Numbers.{bytesOf, numberOf, numberAt}
 use Rattle.formats.specs.Results.{Result, done, refusal, verdict, each}
 use Rattle.formats.specs.Records.{Record, fields, bytesOfRecord, flat, recordAt, Const, Var, Add, IfZero, Let, Leaf, Node, Case, Call, fieldsOf, kinds, nth, kindOf, sameFields, functionBelow, nodeRecord}
-use Rattle.formats.specs.Programs.{const, var, add, ifZero, letIn, leafOf, nodeOf, caseOf, call, noArgs, arg, prefix, prefixes, size, placedAt, partsAt}
+use Rattle.formats.specs.Programs.{const, var, ifZero, letIn, leafOf, nodeOf, caseOf, call, noArgs, arg, prefix, prefixes, size, placedAt, partsAt}
+use Rattle.formats.specs.Inner.Expressions.{add}
 use Rattle.formats.specs.Programs.{Lawful, countArgs, treeValued, sortNumber, signatureRecord, arityOf, sumOfCounts, signatureOf, Program, nodes, headerRecord, headerOf, recordsOf, mostParameters}
 use Rattle.formats.specs.Rows.{headerFrom, headerRow, sorts, functionFrom, functionAt, functionRow, nodeAt, nodeRow, popArgs, build, exprsOf, exactlyOne, bodies, prefixRow, readProgram}
 use Rattle.formats.specs.Blocks.{wordSum, checkWord, blockBody, blockOf, blocksFrom, blocksFor, fileOf, lengthRow, zeros, usedFits, fieldsFit, usedOf, blockAt, blockRow, concatenated, flatIn, programRecords, readFile}

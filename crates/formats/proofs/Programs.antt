@@ -8,7 +8,7 @@ use native.Mathlib.Omega.{arith}
 use lib.Dec.{lit<}
 use lib.ListN.{length, length-append, length-map}
 use Rattle.formats.specs.Records.{Ranged, Kind, fieldsOf}
-use Rattle.formats.specs.Programs.{Expr, const, var, add, ifZero, letIn, leafOf, nodeOf, caseOf, call, Args, noArgs, arg, prefix, prefixes, size}
+use Rattle.formats.specs.Programs.{Expr, const, var, compute, ifZero, letIn, leafOf, nodeOf, caseOf, call, Args, noArgs, arg, prefix, prefixes, size}
 use Rattle.formats.specs.Programs.{argsAt, partsAt, Sort, numberValued, treeValued, sortNumber, Signature, signatureRecord, sumOfCounts, Function, signatureOf}
 use Rattle.formats.specs.Programs.{Program, signatures, nodes, headerRecord, headerOf, recordsOf, mostFunctions, mostParameters, InRange, Every, LawfulFunctions, Lawful}
 use Rattle.formats.specs.ProgramFiles.{RecordsAt, nothing, one-more, StandsPlaced}
@@ -45,7 +45,7 @@ pub parts-stand : (r : List ℕ) (k : ℕ) (e : Expr) → RecordsAt r k (prefix 
 unfolding prefix partsAt size
 parts-stand r k (const i) h = tt
 parts-stand r k (var a) h = tt
-parts-stand r k (add p q) (one-more is more) = two-stand r (suc k) p q more
+parts-stand r k (compute op p q) (one-more is more) = two-stand r (suc k) p q more
 parts-stand r k (ifZero t z o) (one-more is more) =
     (stands-left (prefix t) (prefix z ++ prefix o) more, two-stand r (suc k + length (prefix t)) z o (stands-right (prefix t) (prefix z ++ prefix o) more))
 parts-stand r k (letIn p body) (one-more is more) = two-stand r (suc k) p body more
@@ -61,7 +61,7 @@ pub some-record : (e : Expr) → 1 ≤ size e
 unfolding size prefix
 some-record (const i) = suc-le-suc zero-le
 some-record (var a) = suc-le-suc zero-le
-some-record (add p q) = suc-le-suc zero-le
+some-record (compute op p q) = suc-le-suc zero-le
 some-record (ifZero t z o) = suc-le-suc zero-le
 some-record (letIn p body) = suc-le-suc zero-le
 some-record (leafOf p) = suc-le-suc zero-le

@@ -13,10 +13,11 @@ use borrow.Author.Tests.{eqb-true, eq-eqb, ltb-true, lt-ltb}
 use lib.Dec.{lit<, eqb}
 use lib.ListN.{length, getD, take, drop, length-append, take-append-drop, drop-of-length-le}
 use lib.Seq.{getD-append-add, take-add, drop-drop, drop-cons}
+use Rattle.formats.specs.Arithmetic.{plus}
 use Rattle.formats.specs.Numbers.{Bytes, bytesOf, numberAt}
 use Rattle.formats.specs.Refusals.{nodeField}
 use Rattle.formats.specs.Results.{done, refusal, valueIf}
-use Rattle.formats.specs.Records.{recordBytes, Record, fields, Ranged, bytesOfRecord, flat, recordAt, Kind, Const, Var, Add, IfZero, Let, Leaf, Node, Case, Call, fieldsOf, kinds, nth, kindOf, sameFields, functionBelow, nodeRecord}
+use Rattle.formats.specs.Records.{recordBytes, Record, fields, Ranged, bytesOfRecord, flat, recordAt, Kind, Const, Var, Compute, IfZero, Let, Leaf, Node, Case, Call, fieldsOf, kinds, nth, kindOf, sameFields, functionBelow, nodeRecord}
 use Rattle.formats.specs.Programs.{InRange, Every}
 use Rattle.formats.specs.Rows.{nodeAt}
 use Rattle.formats.specs.Inner.Fields.{headerIn, nodeIn}
@@ -163,7 +164,7 @@ in-range : (functions : ℕ) (kind : Kind) → Ranged (fieldsOf kind) → functi
 unfolding fieldsOf functionBelow
 in-range functions (Const i) h e = h .3
 in-range functions (Var a) h e = h .1
-in-range functions Add h e = tt
+in-range functions (Compute op) h e = tt
 in-range functions IfZero h e = tt
 in-range functions Let h e = tt
 in-range functions Leaf h e = tt
@@ -176,7 +177,7 @@ in-range-below : (functions : ℕ) (kind : Kind) → InRange functions kind → 
 unfolding functionBelow
 in-range-below functions (Const i) h = refl
 in-range-below functions (Var a) h = refl
-in-range-below functions Add h = refl
+in-range-below functions (Compute op) h = refl
 in-range-below functions IfZero h = refl
 in-range-below functions Let h = refl
 in-range-below functions Leaf h = refl
@@ -189,7 +190,7 @@ pub ranged-kind : (functions : ℕ) (kind : Kind) → functions ≤ 2 ^ 16 → I
 unfolding fieldsOf
 ranged-kind functions (Const i) m h = (lit< tt, lit< tt, lit< tt, h)
 ranged-kind functions (Var a) m h = (lit< tt, h, lit< tt, lit< tt)
-ranged-kind functions Add m h = (lit< tt, lit< tt, lit< tt, lit< tt)
+ranged-kind functions (Compute plus) m h = (lit< tt, lit< tt, lit< tt, lit< tt)
 ranged-kind functions IfZero m h = (lit< tt, lit< tt, lit< tt, lit< tt)
 ranged-kind functions Let m h = (lit< tt, lit< tt, lit< tt, lit< tt)
 ranged-kind functions Leaf m h = (lit< tt, lit< tt, lit< tt, lit< tt)
@@ -202,7 +203,7 @@ kind-of-own : (edition : ℕ) (kind : Kind) → kindOf edition (fieldsOf kind) �
 unfolding kindOf kinds nth fieldsOf
 kind-of-own edition (Const i) = refl
 kind-of-own edition (Var a) = refl
-kind-of-own edition Add = refl
+kind-of-own edition (Compute plus) = refl
 kind-of-own edition IfZero = refl
 kind-of-own edition Let = refl
 kind-of-own edition Leaf = refl

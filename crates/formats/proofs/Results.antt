@@ -29,6 +29,10 @@ byResult r value none = elim (outcome r) [ gave x e ↦ value x e | stopped numb
 pub done-injective : {A : Type 0} {x y : A} → _≡_ {A = Result A} (done x) (done y) → x ≡ y
 done-injective {x = x} e = ap (λ r. elim r [ done z ↦ z | refusal number position ↦ x ]) e
 
+-- a refusal's number and position
+pub refusal-injective : {A : Type 0} {n m p q : ℕ} → _≡_ {A = Result A} (refusal n p) (refusal m q) → (n ≡ m) × (p ≡ q)
+refusal-injective e = (cc e, cc e)
+
 -- a done reading is no refusal
 pub done-not : {A C : Type 0} {x : A} {number position : ℕ} {r : Result A} → r ≡ done x → r ≡ refusal number position → C
 done-not e f = let z : _≡_ {A = ℕ} 0 1 = ap (λ r. elim r [ done x ↦ 0 | refusal number position ↦ 1 ]) (sym e ∙ f) in absurd (omega arith)

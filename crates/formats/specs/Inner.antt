@@ -6,3 +6,4 @@ pub mod Trees
 pub mod Buffers
 pub mod Blocks
 pub mod Limits
+pub mod Expressions

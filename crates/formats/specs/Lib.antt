@@ -1,6 +1,7 @@
 -- The formats of 01, Tokens and of 01, Program file: numbers, trees, records, programs, refusals. A
 -- citation "01, HEADING" names a heading of docs/REFERENCE.md.
 pub mod Numbers
+pub mod Arithmetic
 pub mod Buffers
 pub mod Written
 pub mod Refusals

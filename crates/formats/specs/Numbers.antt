@@ -25,10 +25,6 @@ numberOf (b ∷ s) = b + 256 * numberOf s
 unfoldable pub numberAt : ℕ → List ℕ → ℕ → ℕ
 numberAt width s p = elim (leb (p + width) (length s)) [ true ↦ numberOf (take width (drop p s)) | false ↦ 0 ]
 
--- 01, Opcodes: "add (modulo 2^32)".
-unfoldable pub sum32 : ℕ → ℕ → ℕ
-sum32 a b = (a + b) % 2 ^ 32
-
 -- 01, Notation: "Labels, i and instruction numbers are two's complement." The number that a 32-bit
 -- word stands for.
 unfoldable pub signed32 : ℕ → ℤ

@@ -4,14 +4,15 @@ use mathlib.Core.List.{List, [], _∷_, _++_, map}
 use mathlib.Core.Option.{none, some}
 use mathlib.Core.Path.{_≡_}
 use lib.ListN.{length}
-use Rattle.formats.specs.Records.{Record, fields, flat, Kind, Const, Var, Add, IfZero, Let, Leaf, Node, Case, Call, fieldsOf, nth}
+use Rattle.formats.specs.Arithmetic.{Op}
+use Rattle.formats.specs.Records.{Record, fields, flat, Kind, Const, Var, Compute, IfZero, Let, Leaf, Node, Case, Call, fieldsOf, nth}
 
 -- An expression of each kind: its operands, then its parts. A Call's number arguments are a list.
 mutual
   pub data Expr : Type 0 where
     const : (i : ℕ) → Expr
     var : (a : ℕ) → Expr
-    add : (p q : Expr) → Expr
+    compute : (op : Op) (p q : Expr) → Expr
     ifZero : (test zero-part other-part : Expr) → Expr
     letIn : (p body : Expr) → Expr
     leafOf : (label : Expr) → Expr
@@ -28,7 +29,7 @@ unfoldable mutual
   pub prefix : Expr → List Kind
   prefix (const i) = Const i ∷ []
   prefix (var a) = Var a ∷ []
-  prefix (add p q) = Add ∷ (prefix p ++ prefix q)
+  prefix (compute op p q) = Compute op ∷ (prefix p ++ prefix q)
   prefix (ifZero t z o) = IfZero ∷ (prefix t ++ (prefix z ++ prefix o))
   prefix (letIn p body) = Let ∷ (prefix p ++ prefix body)
   prefix (leafOf p) = Leaf ∷ prefix p
@@ -63,7 +64,7 @@ argsAt r (arg x xs) = placedAt r x ∷ argsAt (r + size x) xs
 unfoldable pub partsAt : ℕ → Expr → List Placed
 partsAt r (const i) = []
 partsAt r (var a) = []
-partsAt r (add p q) = placedAt (suc r) p ∷ placedAt (suc r + size p) q ∷ []
+partsAt r (compute op p q) = placedAt (suc r) p ∷ placedAt (suc r + size p) q ∷ []
 partsAt r (ifZero t z o) = placedAt (suc r) t ∷ placedAt (suc r + size t) z ∷ placedAt (suc r + size t + size z) o ∷ []
 partsAt r (letIn p body) = placedAt (suc r) p ∷ placedAt (suc r + size p) body ∷ []
 partsAt r (leafOf p) = placedAt (suc r) p ∷ []
@@ -81,7 +82,7 @@ abbrev mutual
   pub CallsComplete : (ℕ → ℕ) → Expr → Type 0
   CallsComplete arity (const i) = Unit {0}
   CallsComplete arity (var a) = Unit {0}
-  CallsComplete arity (add p q) = CallsComplete arity p × CallsComplete arity q
+  CallsComplete arity (compute op p q) = CallsComplete arity p × CallsComplete arity q
   CallsComplete arity (ifZero t z o) = CallsComplete arity t × (CallsComplete arity z × CallsComplete arity o)
   CallsComplete arity (letIn p body) = CallsComplete arity p × CallsComplete arity body
   CallsComplete arity (leafOf p) = CallsComplete arity p
@@ -189,7 +190,7 @@ mostParameters (suc j) = 4
 abbrev pub InRange : ℕ → Kind → Type 0
 InRange functions (Const i) = i < 2 ^ 32
 InRange functions (Var a) = a < 256
-InRange functions Add = Unit {0}
+InRange functions (Compute op) = Unit {0}
 InRange functions IfZero = Unit {0}
 InRange functions Let = Unit {0}
 InRange functions Leaf = Unit {0}

@@ -5,6 +5,7 @@ use mathlib.Core.List.{List, [], _∷_, _++_}
 use mathlib.Core.Option.{Option, none, some}
 use lib.ListN.{length, getD}
 use lib.Dec.{ltb, eqb}
+use Rattle.formats.specs.Arithmetic.{Op, plus}
 use Rattle.formats.specs.Numbers.{bytesOf, numberAt}
 use Rattle.formats.specs.Refusals.{nodeField}
 use Rattle.formats.specs.Results.{Result, refusal, valueIf}
@@ -42,7 +43,8 @@ pub data Kind : Type 0 where
   Const : (i : ℕ) → Kind
   -- a: number name
   Var : (a : ℕ) → Kind
-  Add : Kind
+  -- an operation on two numbers: Add
+  Compute : (op : Op) → Kind
   IfZero : Kind
   Let : Kind
   Leaf : Kind
@@ -52,11 +54,15 @@ pub data Kind : Type 0 where
   -- a: tree name, b: function
   Call : (a b : ℕ) → Kind
 
+-- 01, Nine kinds of record: "2 Add". The operation is the sum.
+abbrev pub Add : Kind
+Add = Compute plus
+
 -- 01, Nine kinds of record: "by byte 0 (.. unused ones zero)". The fields of each kind's record.
 unfoldable pub fieldsOf : Kind → Record
 fieldsOf (Const i) = fields 0 0 0 i
 fieldsOf (Var a) = fields 1 a 0 0
-fieldsOf Add = fields 2 0 0 0
+fieldsOf (Compute plus) = fields 2 0 0 0
 fieldsOf IfZero = fields 3 0 0 0
 fieldsOf Let = fields 4 0 0 0
 fieldsOf Leaf = fields 5 0 0 0
@@ -88,7 +94,7 @@ unfoldable pub functionBelow : ℕ → Kind → Bool
 functionBelow functions (Call a b) = ltb b functions
 functionBelow functions (Const i) = true
 functionBelow functions (Var a) = true
-functionBelow functions Add = true
+functionBelow functions (Compute op) = true
 functionBelow functions IfZero = true
 functionBelow functions Let = true
 functionBelow functions Leaf = true
@@ -132,7 +138,7 @@ pub data Parts : Type 0 where
 unfoldable pub partsOf : Kind → Parts
 partsOf (Const i) = these []
 partsOf (Var a) = these []
-partsOf Add = these (aNumber ∷ aNumber ∷ [])
+partsOf (Compute op) = these (aNumber ∷ aNumber ∷ [])
 partsOf IfZero = these (aNumber ∷ asWhole ∷ asWhole ∷ [])
 partsOf Let = these (aNumber ∷ underNumber ∷ [])
 partsOf Leaf = these (aNumber ∷ [])

@@ -80,3 +80,7 @@ cannotPerform = 19
 -- a node tag under 1,024 others
 abbrev pub tooDeep : ℕ
 tooDeep = 20
+
+-- the exact sum lies outside −2147483648 to 2147483647
+abbrev pub outOfRange : ℕ
+outOfRange = 21

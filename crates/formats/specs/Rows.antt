@@ -9,8 +9,8 @@ use lib.ListN.{length, take, drop}
 use lib.Dec.{leb, eqb}
 use Rattle.formats.specs.Refusals.{headerField, functionField, prefixForm}
 use Rattle.formats.specs.Results.{Result, done, refusal, andThen, valueIf, each}
-use Rattle.formats.specs.Records.{Record, fields, recordBytes, recordAt, Kind, Const, Var, Add, IfZero, Let, Leaf, Node, Case, Call, nth, nodeRecord}
-use Rattle.formats.specs.Programs.{Expr, const, var, add, ifZero, letIn, leafOf, nodeOf, caseOf, call, Args, noArgs, arg}
+use Rattle.formats.specs.Records.{Record, fields, recordBytes, recordAt, Kind, Const, Var, Compute, IfZero, Let, Leaf, Node, Case, Call, nth, nodeRecord}
+use Rattle.formats.specs.Programs.{Expr, const, var, compute, ifZero, letIn, leafOf, nodeOf, caseOf, call, Args, noArgs, arg}
 use Rattle.formats.specs.Programs.{Sort, numberValued, treeValued, Signature, arityOf, sumOfCounts, Function, Program, Header, firstEdition, mostFunctions, mostNodes, mostParameters}
 
 -- The header, from the fields of record 0 and the number of bytes of all flat records. 01, The
@@ -78,7 +78,7 @@ popArgs (suc n) es next = pop es (λ x rest. popArgs n rest (λ xs after. next (
 unfoldable pub build : (ℕ → ℕ) → Kind → List Expr → Option (List Expr)
 build arity (Const i) es = some (const i ∷ es)
 build arity (Var a) es = some (var a ∷ es)
-build arity Add es = pop es (λ p es′. pop es′ (λ q rest. some (add p q ∷ rest)))
+build arity (Compute op) es = pop es (λ p es′. pop es′ (λ q rest. some (compute op p q ∷ rest)))
 build arity IfZero es = pop es (λ t es′. pop es′ (λ z es″. pop es″ (λ o rest. some (ifZero t z o ∷ rest))))
 build arity Let es = pop es (λ p es′. pop es′ (λ body rest. some (letIn p body ∷ rest)))
 build arity Leaf es = pop es (λ p rest. some (leafOf p ∷ rest))

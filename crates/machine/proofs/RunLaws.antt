@@ -13,7 +13,7 @@ use mir.Syntax.{w64}
 use mir.Val.{Fits}
 use lib.ListN.{length, getD, take, drop, length-append, take-append-drop}
 use lib.Seq.{length-take-le, drop-drop}
-use Rattle.formats.specs.Refusals.{fuelUsedUp, inputEnded, notATag, outputFull, tooManyCalls, cannotPerform}
+use Rattle.formats.specs.Refusals.{fuelUsedUp, inputEnded, notATag, outputFull, tooManyCalls, cannotPerform, outOfRange}
 use Rattle.formats.specs.Written.{written}
 use Rattle.formats.proofs.Written.{written-fits}
 use Rattle.refusal.specs.Inner.Numbers.{number}
@@ -22,7 +22,7 @@ use Rattle.refusal.specs.declared.Refusal.the-variants.{FuelUsedUp}
 use Rattle.refusal.specs.declared.Verdict.the-variants.{Passed, Refused}
 use Rattle.meaning.specs.Performing.{Setting, State, start, goes, ends, refuses, step, numberKept}
 use Rattle.meaning.specs.Running.{Run, Stop, refused, Ran, ranTo, noneDone, tooShort, ofCode, outcomeOf, numberReported, valueWords, returnWords, streamRun}
-use Rattle.meaning.specs.StreamRun.{StepRefusal, ended-there, not-a-tag, full, too-many, cannot, Stops, used-up, returned, stuck, here, on}
+use Rattle.meaning.specs.StreamRun.{StepRefusal, ended-there, not-a-tag, full, too-many, cannot, out-of-range, Stops, used-up, returned, stuck, here, on}
 use Rattle.meaning.specs.StreamRun.{Steps as Led}
 use Rattle.meaning.proofs.Steps.{one-step}
 use Rattle.meaning.proofs.Runs.{runs}
@@ -54,20 +54,25 @@ module _ (stop : ℕ) where
   unfolding refusalNumber
   named-calls e = sym (ap refusalNumber e)
 
+  pub named-range : stop ≡ outOfRange → outOfRange ≡ refusalNumber stop
+  unfolding refusalNumber
+  named-range e = sym (ap refusalNumber e)
+
   pub named-rest :
       stop ≢ inputEnded
       → stop ≢ notATag
       → stop ≢ outputFull
       → stop ≢ tooManyCalls
+      → stop ≢ outOfRange
       → cannotPerform ≡ refusalNumber stop
   unfolding refusalNumber
-  named-rest a b c d =
+  named-rest a b c d f =
       elim (decLe inputEnded stop) [
-        | no low ↦ let few : stop < inputEnded = omega arith in sym (rw (refusalNumber, lt-leb _ _ few))
-        | yes low ↦ let many : tooManyCalls < stop = omega arith in sym (rw (refusalNumber, le-leb _ _ low, lt-leb _ _ many))
+        | no low ↦ let few : stop < inputEnded = omega arith in sym (simp (refusalNumber, lt-leb _ _ few, ne-eqb stop outOfRange f))
+        | yes low ↦ let many : tooManyCalls < stop = omega arith in sym (simp (refusalNumber, le-leb _ _ low, lt-leb _ _ many, ne-eqb stop outOfRange f))
       ]
 
-pub ruleset named = (named-input, named-tag, named-output, named-calls, named-rest)
+pub ruleset named = (named-input, named-tag, named-output, named-calls, named-range, named-rest)
 
 -- ---- `number_kept`
 
@@ -126,6 +131,7 @@ names-itself n not-a-tag = refl
 names-itself n full = refl
 names-itself n too-many = refl
 names-itself n cannot = refl
+names-itself n out-of-range = refl
 
 -- and comes after 13
 not-before : (n : ℕ) → StepRefusal n → beforeStream n ≡ false
@@ -135,6 +141,7 @@ not-before n not-a-tag = refl
 not-before n full = refl
 not-before n too-many = refl
 not-before n cannot = refl
+not-before n out-of-range = refl
 
 -- ---- the steps of the whole run
 

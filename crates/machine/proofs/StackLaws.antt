@@ -1,20 +1,24 @@
 -- The operations on the value words: push, get, add, ifnot, slide and drop. A law for each way out
 -- of their functions.
-use Prim.Native.Nat.{ℕ, suc, _+_, _-_, _%_, _^_, _≤_, _<_}
+use Prim.Native.Nat.{ℕ, suc, _+_, _-_, _≤_, _<_}
 use mathlib.Core.List.{List, _∷_}
 use mathlib.Core.Logic.{_≢_}
-use mathlib.Core.Path.{_≡_, refl, sym, _∙_}
+use mathlib.Core.Path.{_≡_, refl, sym, ap, _∙_}
 use native.Mathlib.Numerals.{add-one}
 use native.Mathlib.Omega.{arith}
 use borrow.Author.Tests.{eq-eqb, ne-eqb, lt-ltb, le-ltb}
+use lib.Dec.{lit<}
 use lib.ListN.{length, getD, set, length-set}
-use Rattle.formats.specs.Numbers.{sum32}
-use Rattle.formats.specs.Refusals.{cannotPerform}
+use Rattle.formats.specs.Arithmetic.{plus, resultOf}
+use Rattle.formats.specs.Refusals.{cannotPerform, outOfRange}
 use Rattle.meaning.specs.Instructions.{Operation, Push, Get, Add, Ifnot, Slide, Drop}
-use Rattle.meaning.specs.Performing.{Setting, Step, goes, refuses, toNext, holding, ifRoom, pushWord, operate}
+use Rattle.meaning.specs.Performing.{Setting, Step, goes, refuses, toNext, holding, ifRoom, pushWord, pushResult, operate}
 use Rattle.meaning.specs.Running.{valueWords}
+use Rattle.numbers.specs.Inner.Sums.{wordIn}
+use Rattle.numbers.specs.declared.Sum.{Sum}
+use Rattle.numbers.specs.declared.Sum.the-variants.{Word, OutOfRange}
 use Rattle.machine.specs.declared.Machine.{Machine}
-use Rattle.machine.specs.Inner.States.{wordsFrom, stateOf, Held, Sound, stoppedBy, nextTo}
+use Rattle.machine.specs.Inner.States.{wordsFrom, stateOf, Held, Sound, hasEnded, stoppedBy, nextTo}
 use Rattle.machine.specs.Inner.Effects.{OnNumbers, OnValues}
 use Rattle.machine.proofs.Frames.{words-pushed, one-missing, one-taken, two-missing, two-taken, word-found, word-missing, waiting-kept, all-standing}
 use Rattle.machine.proofs.Effects.{moved, held-moved, refused-so, goes-so}
@@ -32,14 +36,23 @@ Becomes op values s due =
 on-numbers : (op : Operation) (s r : Machine) → ((values : List ℕ) → OnValues op values values s r) → OnNumbers op s r
 on-numbers op s r h = record { does = λ m values returns output held. h values .does m returns output held }
 
+-- it is refused
+refused :
+    (why : ℕ) (op : Operation) (values : List ℕ) (s r : Machine)
+    → hasEnded < why
+    → r ≡ stoppedBy why s
+    → Becomes op values s (λ returns output. refuses why)
+    → OnValues op values values s r
+refused why op values s r numbered is e =
+    record { does = λ m returns output h. refused-so m _ values returns output s r why is (e m returns output h) numbered h }
+
 -- it cannot be performed
 cannot :
     (op : Operation) (values : List ℕ) (s r : Machine)
     → r ≡ stoppedBy cannotPerform s
     → Becomes op values s (λ returns output. refuses cannotPerform)
     → OnValues op values values s r
-cannot op values s r is e =
-    record { does = λ m returns output h. refused-so m _ values returns output s r cannotPerform is (e m returns output h) (omega arith) h }
+cannot op values s r = refused cannotPerform op values s r (lit< tt)
 
 -- it goes on at an address, with the frame's words up to a new top
 stays :
@@ -130,21 +143,30 @@ module _ (values : List ℕ) (s r : Machine) where
   unfolding operate
   add-missing few is = cannot Add values s r is (λ m returns output h. two-missing values (s .base) (s .top) _ few)
 
-  pub add-two :
-      (x : ℕ)
-      → Sound s
-      → valueWords ≤ length values
-      → 2 ≤ s .top - s .base
-      → x ≡ (getD values (s .top - 2) 0 + getD values (s .top - 1) 0) % 2 ^ 32
-      → r ≡ nextTo (s .top - 1) s
-      → OnValues Add values (set values (s .top - 2) x) s r
-  unfolding operate sum32
-  add-two x sound lent there sum is =
-      let topped = sound .topped in
-      stays-set Add values s r (s .top - 2) (s .top - 1) x sound lent is (omega arith) (omega arith) (omega arith)
-      (λ m returns output h. two-taken values (s .base) (s .top) _ (omega arith) ∙ rw sum)
+  -- the sum of the two words, if it is in range
+  module _ (sum : Sum) (sound : Sound s) (there : 2 ≤ s .top - s .base)
+      (is-sum : wordIn sum ≡ resultOf plus (getD values (s .top - 2) 0) (getD values (s .top - 1) 0)) where
+    pub add-two :
+        (x : ℕ)
+        → valueWords ≤ length values
+        → sum ≡ Word x
+        → r ≡ nextTo (s .top - 1) s
+        → OnValues Add values (set values (s .top - 2) x) s r
+    unfolding operate pushResult
+    add-two x lent word is =
+        let topped = sound .topped in
+        let result = sym is-sum ∙ ap wordIn word in
+        stays-set Add values s r (s .top - 2) (s .top - 1) x sound lent is (omega arith) (omega arith) (omega arith)
+        (λ m returns output h. two-taken values (s .base) (s .top) _ (omega arith) ∙ rw (result, pushResult))
 
-pub ruleset adds = (add-missing, add-two)
+    pub add-outside : sum ≡ OutOfRange → r ≡ stoppedBy outOfRange s → OnValues Add values values s r
+    unfolding operate pushResult
+    add-outside none-there is =
+        let missing = sym is-sum ∙ ap wordIn none-there in
+        refused outOfRange Add values s r (lit< tt) is
+        (λ m returns output h. two-taken values (s .base) (s .top) _ (omega arith) ∙ rw (missing, pushResult))
+
+pub ruleset adds = (add-missing, add-two, add-outside)
 
 -- ---- `ifnot`
 

@@ -1,4 +1,5 @@
 // The stream run: instruction after instruction, over any code buffer.
+use numbers::Sum;
 use refusal::Refusal;
 use refusal::Verdict;
 ghost use Prim.Native.Nat.{_+_, _*_, _^_, _≤_, _<_};
@@ -41,6 +42,8 @@ const OUTPUT_FULL: u32 = 17;
 const TOO_MANY_CALLS: u32 = 18;
 
 const CANNOT_PERFORM: u32 = 19;
+
+const OUT_OF_RANGE: u32 = 21;
 
 const LEAF_TAG: u8 = 1;
 
@@ -146,7 +149,7 @@ fn get(s: Machine, k: u16, values: &mut [u32]) -> Machine
     push(s, word, values)
 }
 
-// 2 add: replaces the two top words by their sum, modulo 2^32.
+// 2 add: replaces the two top words by their sum, if it is in range.
 fn add(s: Machine, values: &mut [u32]) -> Machine
     requires { ⌜ Sound s ⌝ }
     requires { ⌜ valueWords ≤ length (now values) ⌝ }
@@ -156,8 +159,13 @@ fn add(s: Machine, values: &mut [u32]) -> Machine
     if top - s.base < 2 {
         return stopped(s, CANNOT_PERFORM);
     }
-    values[top - 2] = std::num::wrapping_add_u32(values[top - 2], values[top - 1]);
-    next(s, top - 1)
+    match numbers::sum_of(values[top - 2], values[top - 1]) {
+        Sum::Word(word) => {
+            values[top - 2] = word;
+            next(s, top - 1)
+        }
+        Sum::OutOfRange => stopped(s, OUT_OF_RANGE),
+    }
 }
 
 // 3 ifnot: takes the top word, and goes to the address if the word is not 0.
@@ -442,6 +450,7 @@ fn refusal_of(stop: u32) -> Refusal
         16 => Refusal::NotATag,
         17 => Refusal::OutputFull,
         18 => Refusal::TooManyCalls,
+        21 => Refusal::OutOfRange,
         _ => Refusal::CannotPerform,
     }
 }

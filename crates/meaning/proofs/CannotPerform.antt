@@ -4,7 +4,7 @@
 use Prim.Native.Nat.{ℕ, zero, suc, _+_, _≤_, _<_}
 use mathlib.Core.Bool.{Bool, true, false}
 use mathlib.Core.List.{List, [], _∷_}
-use mathlib.Core.Logic.{_↔_}
+use mathlib.Core.Logic.{_↔_, _≢_}
 use mathlib.Core.Option.{Option, none, some, Option·some-injective, Option·none-ne-some}
 use mathlib.Core.Path.{_≡_, refl, sym, ap, _∙_}
 use native.Mathlib.Decide.{decLe}
@@ -12,7 +12,8 @@ use native.Mathlib.Omega.{arith}
 use borrow.Author.Tests.{ltb-true, ltb-false, leb-true, leb-false}
 use lib.Dec.{lit<, leb, ltb}
 use lib.ListN.{length}
-use Rattle.formats.specs.Refusals.{inputEnded, notATag, outputFull, tooManyCalls, cannotPerform}
+use Rattle.formats.specs.Arithmetic.{Op, resultOf}
+use Rattle.formats.specs.Refusals.{inputEnded, notATag, outputFull, tooManyCalls, cannotPerform, outOfRange}
 use Rattle.formats.specs.Tokens.{labelBytes, Tag, noByte, aLeaf, aNode, other, tagAt}
 use Rattle.formats.specs.Numbers.{bytesOf, numberOf, numberAt}
 use Rattle.formats.specs.Records.{fields, bytesOfRecord, recordAt, nth}
@@ -20,12 +21,12 @@ use Rattle.formats.proofs.Numbers.{length-bytesOf}
 use Rattle.formats.proofs.Records.{none-past}
 use Rattle.formats.proofs.Tokens.{Look, past, at-other, look}
 use Rattle.meaning.specs.Levels.{atLevel}
-use Rattle.meaning.specs.Instructions.{Instruction, Operation, Push, Get, Add, Ifnot, Jump, Slide, Drop, LeafTag, NodeTag, WriteNumber, ReadTag, ReadNumber, Call, Return, heldBy, operations, operationOf, instructionOf}
+use Rattle.meaning.specs.Instructions.{Instruction, Operation, Push, Get, Compute, Ifnot, Jump, Slide, Drop, LeafTag, NodeTag, WriteNumber, ReadTag, ReadNumber, Call, Return, heldBy, operations, operationOf, instructionOf}
 use Rattle.meaning.specs.Performing.{Setting, Caller, State, wordsBelow, wordsStanding, callsOpen, Step, goes, ends, refuses}
-use Rattle.meaning.specs.Performing.{holding, popOne, popTwo, ifRoom, pushWord, write, onTag, takeNumber, openCall, kept, numberKept, leave, operate, perform, step}
+use Rattle.meaning.specs.Performing.{holding, popOne, popTwo, ifRoom, pushWord, pushResult, write, onTag, takeNumber, openCall, kept, numberKept, leave, operate, perform, step}
 use Rattle.meaning.specs.Running.{ofCode}
 use Rattle.meaning.specs.CannotPerform.{wordsNeeded, wordsAdded, Fetches, fetched, CannotPerform, no-instruction, no-operation, return-byte, missing-words, surplus-words}
-use Rattle.meaning.specs.Stopping.{Prevented, no-tag, no-label, no-such-tag, no-room-for-leaf, no-room-for-node, no-room-for-number, all-open, Refused, prevented, ReturnsFirst, none-kept, one-kept}
+use Rattle.meaning.specs.Stopping.{Prevented, no-tag, no-label, no-such-tag, no-room-for-leaf, no-room-for-node, no-room-for-number, all-open, no-result, Refused, prevented, ReturnsFirst, none-kept, one-kept}
 use Rattle.meaning.proofs.Levels.{level-found, level-below}
 
 -- ---- the outcome of an instruction: refused with 19 where C holds, and nowhere else. R holds of
@@ -35,7 +36,7 @@ pub data Exactly (C : Type 0) (R E : ℕ → Type 0) : Step → Type 0 where
   stuck : C → Exactly C R E (refuses cannotPerform)
   going : {t : State} → (C → ⊥) → Exactly C R E (goes t)
   ending : {number : ℕ} → E number → (C → ⊥) → Exactly C R E (ends number)
-  refused : {number : ℕ} → R number → number < cannotPerform → (C → ⊥) → Exactly C R E (refuses number)
+  refused : {number : ℕ} → R number → number ≢ cannotPerform → (C → ⊥) → Exactly C R E (refuses number)
 
 -- the number of a refusal, or 0
 unfoldable pub numberIn : Step → ℕ
@@ -48,13 +49,13 @@ unfolding numberIn
 exactly-to (stuck c) e = c
 exactly-to (going h) e = let n : 0 ≡ cannotPerform = ap numberIn e in absurd (omega arith)
 exactly-to (ending x h) e = let n : 0 ≡ cannotPerform = ap numberIn e in absurd (omega arith)
-exactly-to (refused {number = number} x below h) e = let n : number ≡ cannotPerform = ap numberIn e in absurd (omega arith)
+exactly-to (refused x differs h) e = absurd (differs (ap numberIn e))
 
 exactly-from : {C : Type 0} {R E : ℕ → Type 0} {r : Step} → Exactly C R E r → C → r ≡ refuses cannotPerform
 exactly-from (stuck c) d = refl
 exactly-from (going h) d = absurd (h d)
 exactly-from (ending x h) d = absurd (h d)
-exactly-from (refused x below h) d = absurd (h d)
+exactly-from (refused x differs h) d = absurd (h d)
 
 -- of another condition that holds in the same cases, and of what follows from R and E
 exactly-of :
@@ -68,7 +69,7 @@ exactly-of :
 exactly-of to from numbered end (stuck c) = stuck (to c)
 exactly-of to from numbered end (going h) = going (λ d. h (from d))
 exactly-of to from numbered end (ending x h) = ending (end _ x) (λ d. h (from d))
-exactly-of to from numbered end (refused x below h) = refused (numbered _ (λ d. h (from d)) x) below (λ d. h (from d))
+exactly-of to from numbered end (refused x differs h) = refused (numbered _ (λ d. h (from d)) x) differs (λ d. h (from d))
 
 module _ {C : Type 0} {R E : ℕ → Type 0} where
   -- where a test fails, 19
@@ -98,12 +99,12 @@ module _ {C : Type 0} {R E : ℕ → Type 0} where
   exactly-two :
       (words : List ℕ) (f : ℕ → ℕ → List ℕ → Step)
       → (length words < 2 → C)
-      → ((x y : ℕ) (rest : List ℕ) → 2 ≤ length words → Exactly C R E (f x y rest))
+      → ((x y : ℕ) (rest : List ℕ) → words ≡ x ∷ (y ∷ rest) → 2 ≤ length words → Exactly C R E (f x y rest))
       → Exactly C R E (popTwo words f)
   unfolding popTwo popOne
   exactly-two [] f g h = stuck (g (omega arith))
   exactly-two (x ∷ []) f g h = stuck (g (omega arith))
-  exactly-two (x ∷ y ∷ rest) f g h = h x y rest (omega arith)
+  exactly-two (x ∷ y ∷ rest) f g h = h x y rest refl (omega arith)
 
 -- ---- operations
 
@@ -125,7 +126,7 @@ module _ (m : Setting) (s : State) where
   byteIn : Operation → ℕ
   byteIn (Push x) = 0
   byteIn (Get k) = 0
-  byteIn Add = 0
+  byteIn (Compute op) = 0
   byteIn (Ifnot a) = 0
   byteIn (Jump a) = 0
   byteIn Slide = 0
@@ -188,6 +189,17 @@ module _ (m : Setting) (s : State) where
       by-count (no h) = omega arith
       by-count (yes h) = let f = level-found (s .frame) k h in absurd (Option·none-ne-some (f .entry) (sym e ∙ f .is))
 
+  -- the result of two words, if there is one
+  exactly-result :
+      (op : Op) (q p : ℕ) (rest : List ℕ) (found : Option ℕ)
+      → resultOf op p q ≡ found
+      → s .frame ≡ q ∷ (p ∷ rest)
+      → (Cannot (Compute op) → ⊥)
+      → Performs (Compute op) (pushResult found rest s)
+  unfolding pushResult
+  exactly-result op q p rest (some x) e is h = going h
+  exactly-result op q p rest none e is h = refused {number = outOfRange} (no-result is e) (λ e. absurd (omega arith)) h
+
   -- bytes written, a number read, a call
   exactly-write :
       {C : Type 0} {R E : ℕ → Type 0} (bytes words : List ℕ)
@@ -196,25 +208,25 @@ module _ (m : Setting) (s : State) where
       → Exactly C R E (write m bytes (holding words s))
   unfolding write
   exactly-write bytes words full h =
-      exactly-or (leb (length (s .output) + length bytes) (m .space)) _ _ (going h) (λ e. refused {number = outputFull} (full (leb-false _ _ e)) (omega arith) h)
+      exactly-or (leb (length (s .output) + length bytes) (m .space)) _ _ (going h) (λ e. refused {number = outputFull} (full (leb-false _ _ e)) (λ e. absurd (omega arith)) h)
 
   exactly-number : (Cannot ReadNumber → ⊥) → Performs ReadNumber (takeNumber m s)
   unfolding takeNumber
   exactly-number h =
-      exactly-or (leb (s .read + labelBytes) (length (m .input))) _ _ (going h) (λ e. refused {number = inputEnded} (no-label (leb-false _ _ e)) (omega arith) h)
+      exactly-or (leb (s .read + labelBytes) (length (m .input))) _ _ (going h) (λ e. refused {number = inputEnded} (no-label (leb-false _ _ e)) (λ e. absurd (omega arith)) h)
 
   exactly-call : (entry n : ℕ) → (Cannot (Call entry n) → ⊥) → Performs (Call entry n) (openCall m entry n s)
   unfolding openCall
   exactly-call entry n h =
-      exactly-or (ltb (callsOpen s) (m .mostOpen)) _ _ (going h) (λ e. refused {number = tooManyCalls} (all-open (ltb-false _ _ e)) (omega arith) h)
+      exactly-or (ltb (callsOpen s) (m .mostOpen)) _ _ (going h) (λ e. refused {number = tooManyCalls} (all-open (ltb-false _ _ e)) (λ e. absurd (omega arith)) h)
 
   -- a tag read
   exactly-tag : (g : Tag) (a : ℕ) → Look (m .input) (s .read) g → (Cannot (ReadTag a) → ⊥) → Performs (ReadTag a) (onTag g a s)
   unfolding onTag
-  exactly-tag noByte a (past ends-before) h = refused {number = inputEnded} (no-tag ends-before) (omega arith) h
+  exactly-tag noByte a (past ends-before) h = refused {number = inputEnded} (no-tag ends-before) (λ e. absurd (omega arith)) h
   exactly-tag aLeaf a l h = going h
   exactly-tag aNode a l h = going h
-  exactly-tag other a (at-other there no-leaf no-node) h = refused {number = notATag} (no-such-tag there no-leaf no-node) (omega arith) h
+  exactly-tag other a (at-other there no-leaf no-node) h = refused {number = notATag} (no-such-tag there no-leaf no-node) (λ e. absurd (omega arith)) h
 
   -- a return
   exactly-leave :
@@ -244,10 +256,12 @@ module _ (m : Setting) (s : State) where
   unfolding operate wordsNeeded wordsAdded byteIn
   exactly-operate (Push x) = exactly-push (Push x) x refl (omega arith) (omega arith)
   exactly-operate (Get k) = exactly-get k (atLevel (s .frame) k) refl
-  exactly-operate Add = exactly-two (s .frame) _ missing (λ q p rest h. going (can-plain Add refl (omega arith) h))
+  exactly-operate (Compute op) =
+      exactly-two (s .frame) _ missing
+      (λ q p rest is h. exactly-result op q p rest (resultOf op p q) refl is (can-plain (Compute op) refl (omega arith) h))
   exactly-operate (Ifnot a) = exactly-one (s .frame) _ missing (λ x rest h. going (can-plain (Ifnot a) refl (omega arith) h))
   exactly-operate (Jump a) = going (can-plain (Jump a) refl (omega arith) (omega arith))
-  exactly-operate Slide = exactly-two (s .frame) _ missing (λ x under rest h. going (can-plain Slide refl (omega arith) h))
+  exactly-operate Slide = exactly-two (s .frame) _ missing (λ x under rest is h. going (can-plain Slide refl (omega arith) h))
   exactly-operate Drop = exactly-one (s .frame) _ missing (λ x rest h. going (can-plain Drop refl (omega arith) h))
   exactly-operate LeafTag = exactly-write _ (s .frame) no-room-for-leaf (can-plain LeafTag refl (omega arith) (omega arith))
   exactly-operate NodeTag = exactly-write _ (s .frame) no-room-for-node (can-plain NodeTag refl (omega arith) (omega arith))

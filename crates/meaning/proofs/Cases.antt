@@ -4,14 +4,15 @@ use Prim.Native.Nat.{ℕ, zero, suc}
 use mathlib.Core.List.{List, [], _∷_, _++_, map}
 use mathlib.Core.Path.{_≡_, refl}
 use lib.ListN.{length}
-use Rattle.formats.specs.Numbers.{bytesOf, numberOf, numberAt, sum32}
+use Rattle.formats.specs.Numbers.{bytesOf, numberOf, numberAt, signed32}
+use Rattle.formats.specs.Arithmetic.{plus, unbounded, wordFor, resultOf}
 use Rattle.formats.specs.Results.{Result, done, refusal, onValue}
 use Rattle.formats.specs.Records.{fields, bytesOfRecord, flat, recordAt, nth}
 use Rattle.formats.specs.Tokens.{tagOf, tagAt}
 use Rattle.formats.specs.Written.{written}
-use Rattle.meaning.specs.Instructions.{Instruction, Operation, Push, Get, Add, Ifnot, Jump, Slide, Drop, LeafTag, NodeTag, WriteNumber, ReadTag, ReadNumber, Call, Return, heldBy, operations, operationOf, instructionOf}
+use Rattle.meaning.specs.Instructions.{Instruction, Operation, Push, Get, Compute, Add, Ifnot, Jump, Slide, Drop, LeafTag, NodeTag, WriteNumber, ReadTag, ReadNumber, Call, Return, heldBy, operations, operationOf, instructionOf}
 use Rattle.meaning.specs.Levels.{atLevel}
-use Rattle.meaning.specs.Performing.{Setting, start, goes, ends, refuses, holding, wordsBelow, wordsStanding, callsOpen, popOne, popTwo, ifRoom, pushWord, write, onTag, takeNumber, openCall, kept, numberKept, leave, operate, perform, step}
+use Rattle.meaning.specs.Performing.{Setting, start, goes, ends, refuses, holding, wordsBelow, wordsStanding, callsOpen, popOne, popTwo, ifRoom, pushWord, pushResult, write, onTag, takeNumber, openCall, kept, numberKept, leave, operate, perform, step}
 use Rattle.meaning.specs.Running.{ofCode, Ran, Run, run, unitsOf, outcomeOf, numberReported, streamRun, valueWords, returnWords}
 
 -- A code's bytes.
@@ -156,11 +157,35 @@ at-ends =
     ∷ record { code = codeOf (WriteNumber ∷ []); input = []; fuel = 9; space = 0; gives = refused-with 19 0 0 [] [] }
     ∷ []
 
+-- Sums at both ends of the range. Outside it 21, which counts nothing and changes nothing, at the
+-- bytes read; what was written stays. 14 and 19 come before it; a word of the caller is not added.
+-- Grow breaks at its second leaf.
+summed : List Row
+summed =
+    bare (codeOf (Push 2147483647 ∷ Push 0 ∷ Add ∷ Return 1 ∷ [])) (ends-with 4 2147483647)
+    ∷ bare (codeOf (Push 2147483648 ∷ Push 0 ∷ Add ∷ Return 1 ∷ [])) (ends-with 4 2147483648)
+    ∷ bare (codeOf (Push 2147483647 ∷ Push 2147483648 ∷ Add ∷ Return 1 ∷ [])) (ends-with 4 4294967295)
+    ∷ bare (codeOf (Push 2147483647 ∷ Push 1 ∷ Add ∷ Return 1 ∷ [])) (stuck 21 2)
+    ∷ bare (codeOf (Push 2147483648 ∷ Push 4294967295 ∷ Add ∷ Return 1 ∷ [])) (stuck 21 2)
+    ∷ bare (codeOf (Push 2147483647 ∷ Add ∷ [])) (stuck 19 1)
+    ∷ bare (codeOf (Push 2147483647 ∷ Call 2 0 ∷ Push 1 ∷ Add ∷ [])) (stuck 19 3)
+    ∷ record { code = codeOf (Push 2147483647 ∷ Push 1 ∷ Add ∷ []); input = []; fuel = 3; space = 0; gives = refused-with 21 2 0 [] [] }
+    ∷ record { code = codeOf (Push 2147483647 ∷ Push 1 ∷ Add ∷ []); input = []; fuel = 2; space = 0; gives = refused-with 14 2 0 [] [] }
+    ∷ record {
+      code = codeOf (ReadTag 9 ∷ LeafTag ∷ Push 2147483647 ∷ Push 1 ∷ Add ∷ []);
+      input = 1 ∷ 5 ∷ [];
+      fuel = 9;
+      space = 3;
+      gives = refused-with 21 4 1 (1 ∷ []) (blank 2);
+    }
+    ∷ on-grow (2 ∷ 1 ∷ 5 ∷ 0 ∷ 0 ∷ 0 ∷ 1 ∷ 255 ∷ 255 ∷ 255 ∷ 127 ∷ []) 25 12 (refused-with 21 19 11 (2 ∷ 1 ∷ 6 ∷ 0 ∷ 0 ∷ 0 ∷ 1 ∷ []) (blank 5))
+    ∷ []
+
 cases : List Row
-cases = worked ++ (performed-well ++ (not-performed ++ at-ends))
+cases = worked ++ (performed-well ++ (not-performed ++ (at-ends ++ summed)))
 
 as-reported : map ranOn cases ≡ map (λ r. r .gives) cases
-unfolding streamRun run step perform operate heldBy operationOf operations instructionOf nth recordAt flat bytesOfRecord bytesOf numberOf numberAt sum32 tagAt tagOf written wordsStanding wordsBelow callsOpen atLevel popOne popTwo ifRoom pushWord write onTag takeNumber openCall kept numberKept leave outcomeOf numberReported cases worked performed-well not-performed at-ends grow grow-operations two-leaves grown blank codeOf ranOn ended-with refused-with ends-with stuck on-grow bare
+unfolding streamRun run step perform operate heldBy operationOf operations instructionOf nth recordAt flat bytesOfRecord bytesOf numberOf numberAt signed32 unbounded wordFor resultOf tagAt tagOf written wordsStanding wordsBelow callsOpen atLevel popOne popTwo ifRoom pushWord pushResult write onTag takeNumber openCall kept numberKept leave outcomeOf numberReported cases worked performed-well not-performed at-ends summed grow grow-operations two-leaves grown blank codeOf ranOn ended-with refused-with ends-with stuck on-grow bare
 as-reported = refl
 
 -- ---- the limits, on a machine that has room for 2 words and 2 open calls
@@ -191,7 +216,7 @@ limits = map stops
 within-limits :
     limits
     ≡ done 3 ∷ refusal 19 2 ∷ refusal 19 2 ∷ refusal 19 2 ∷ refusal 15 1 ∷ refusal 19 3 ∷ done 3 ∷ refusal 18 1 ∷ refusal 19 1 ∷ refusal 19 1 ∷ []
-unfolding streamRun run step perform operate heldBy operationOf operations instructionOf nth recordAt flat bytesOfRecord bytesOf numberOf numberAt sum32 tagAt tagOf written wordsStanding wordsBelow callsOpen atLevel popOne popTwo ifRoom pushWord write onTag takeNumber openCall kept numberKept leave outcomeOf numberReported limits stops small codeOf
+unfolding streamRun run step perform operate heldBy operationOf operations instructionOf nth recordAt flat bytesOfRecord bytesOf numberOf numberAt signed32 unbounded wordFor resultOf tagAt tagOf written wordsStanding wordsBelow callsOpen atLevel popOne popTwo ifRoom pushWord pushResult write onTag takeNumber openCall kept numberKept leave outcomeOf numberReported limits stops small codeOf
 within-limits = refl
 
 -- ---- the limit of 16,384 words
@@ -228,7 +253,7 @@ long-buffer = refl
 with-others : Operation → Instruction
 with-others (Push n) = fields 0 7 513 n
 with-others (Get k) = fields 1 7 k 9
-with-others Add = fields 2 7 513 9
+with-others (Compute plus) = fields 2 7 513 9
 with-others (Ifnot a) = fields 3 7 a 9
 with-others (Jump a) = fields 4 7 a 9
 with-others Slide = fields 5 7 513 9
@@ -250,7 +275,7 @@ others-set =
     ∷ []
 
 unused-fields : map ranOn others-set ≡ map (λ r. r .gives) others-set
-unfolding streamRun run step perform operate heldBy operationOf operations nth recordAt flat bytesOfRecord bytesOf numberOf numberAt sum32 tagAt tagOf written wordsStanding wordsBelow callsOpen atLevel popOne popTwo ifRoom pushWord write onTag takeNumber openCall kept numberKept leave outcomeOf numberReported others-set with-others grow-operations two-leaves grown blank ranOn ended-with refused-with ends-with bare
+unfolding streamRun run step perform operate heldBy operationOf operations nth recordAt flat bytesOfRecord bytesOf numberOf numberAt signed32 unbounded wordFor resultOf tagAt tagOf written wordsStanding wordsBelow callsOpen atLevel popOne popTwo ifRoom pushWord pushResult write onTag takeNumber openCall kept numberKept leave outcomeOf numberReported others-set with-others grow-operations two-leaves grown blank ranOn ended-with refused-with ends-with bare
 unused-fields = refl
 
 -- ---- the refusals of a call in their order

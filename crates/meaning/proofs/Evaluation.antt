@@ -13,40 +13,42 @@ use mathlib.Core.Logic.{_↔_}
 use mathlib.Core.Option.{Option, some}
 use mathlib.Core.Path.{_≡_, refl, sym, ap, subst}
 use native.Mathlib.Omega.{arith}
-use Rattle.formats.specs.Numbers.{sum32}
+use Rattle.formats.specs.Arithmetic.{Op, resultOf}
 use Rattle.formats.specs.Tokens.{Tree, leaf, node}
 use Rattle.formats.specs.Records.{nth}
-use Rattle.formats.specs.Programs.{Expr, const, var, add, ifZero, letIn, leafOf, nodeOf, caseOf, call, Args, noArgs, arg, Function, Program}
+use Rattle.formats.specs.Programs.{Expr, const, var, compute, ifZero, letIn, leafOf, nodeOf, caseOf, call, Args, noArgs, arg, Function, Program}
 use Rattle.meaning.specs.Evaluation.{Value, number, tree, Environment, numberNamed, treeNamed, withNumber, inCall, picked, branch, inBranch}
-use Rattle.meaning.specs.Evaluation.{Takes, Const, Var, Add, IfZero, Let, Leaf, Node, Case, Call, TakesArgs, no-more, one-more, Ends}
-use Rattle.meaning.specs.Evaluation.{ifZeroUnits, caseUnits, counted, rulesIn, unitsIn, nestingIn}
-
--- What `counted` counts along arguments.
-abbrev pub countedArgs :
-    {program : Program} {E : Environment} {xs : Args} {o n : ℕ} {before after : List ℕ} (begin : ℕ → ℕ → ℕ) (enter : ℕ → ℕ) (join : ℕ → ℕ → ℕ)
-    → TakesArgs program E xs o n before after
-    → ℕ
-countedArgs begin enter join ds = elim ds as (λ E e o n v d. ℕ) (λ E xs o n before after ds. ℕ) [
-  | Const ↦ begin 1 0
-  | Var named ↦ begin 1 0
-  | Add (d₁ → n) (d₂ → m) ↦ begin 1 (join n m)
-  | IfZero {i = i} (d₁ → n) (d₂ → m) ↦ begin (ifZeroUnits i) (join n m)
-  | Let (d₁ → n) (d₂ → m) ↦ begin 1 (join n m)
-  | Leaf (d → n) ↦ begin 2 n
-  | Node (d₁ → n) (d₂ → m) ↦ begin 1 (join n m)
-  | Case {t = t} named (d → n) ↦ begin (caseUnits t) n
-  | Call (ds → n) named known (d → m) ↦ begin 2 (join n (enter m))
-  | no-more ↦ 0
-  | one-more (d → n) (ds → m) ↦ join n m
-]
-
--- The units column summed along arguments.
-abbrev pub unitsInArgs : {program : Program} {E : Environment} {xs : Args} {o n : ℕ} {before after : List ℕ} → TakesArgs program E xs o n before after → ℕ
-unitsInArgs ds = countedArgs _+_ (λ n. n) _+_ ds
+use Rattle.meaning.specs.Evaluation.{Takes, Const, Var, Compute, IfZero, Let, Leaf, Node, Case, Call, TakesArgs, no-more, one-more, Ends}
+use Rattle.meaning.specs.Evaluation.{ifZeroUnits, caseUnits, counted, countedArgs, rulesIn, unitsIn, unitsInArgs, nestingIn}
 
 -- How deep Call rules are nested along arguments.
 abbrev nestingInArgs : {program : Program} {E : Environment} {xs : Args} {o n : ℕ} {before after : List ℕ} → TakesArgs program E xs o n before after → ℕ
 nestingInArgs ds = countedArgs (λ units n. n) suc max ds
+
+-- what holds where no argument is left, and with one more in front, holds of all arguments
+pub by-args :
+    {program : Program} (P : (E : Environment) (xs : Args) (o n : ℕ) (before after : List ℕ) → TakesArgs program E xs o n before after → Type 0)
+    → ((E : Environment) (o : ℕ) (numbers : List ℕ) → P E noArgs o 0 numbers numbers no-more)
+    → ((E : Environment) (x : Expr) (xs : Args) (o n m i : ℕ) (before after : List ℕ)
+    (d : Takes program E x o n (number i)) (ds : TakesArgs program E xs o m (i ∷ before) after)
+    → P E xs o m (i ∷ before) after ds
+    → P E (arg x xs) o (n + m) before after (one-more d ds))
+    → (E : Environment) (xs : Args) (o n : ℕ) (before after : List ℕ) (ds : TakesArgs program E xs o n before after)
+    → P E xs o n before after ds
+by-args P none-left one-left E xs o n before after ds = elim ds as (λ E e o n v d. Unit {0}) (λ E xs o n before after ds. P E xs o n before after ds) [
+  | Const ↦ tt
+  | Var named ↦ tt
+  | Compute d₁ d₂ fits ↦ tt
+  | IfZero d₁ d₂ ↦ tt
+  | Let d₁ d₂ ↦ tt
+  | Leaf d ↦ tt
+  | Node d₁ d₂ ↦ tt
+  | Case named d ↦ tt
+  | Call ds named known d ↦ tt
+  | no-more {E = E} {o = o} {numbers = numbers} ↦ none-left E o numbers
+  | one-more {E = E} {x = x} {xs = xs} {o = o} {n = n} {m = m} {i = i} {before = before} {after = after} d (ds → h) ↦
+      one-left E x xs o n m i before after d ds h
+]
 
 -- ---- two derivations agree
 
@@ -115,12 +117,15 @@ module _ (program : Program) where
   unfolding counted
   agree-var named o n v (Var named′) = record { begun = refl; units = refl; value = cc; below = omega arith }
 
-  -- equal numbers have one sum
-  agree-add : {E : Environment} {p q : Expr} {n m u w i j k l : ℕ} → Agrees E p n u (number i) k → Agrees E q m w (number j) l
-      → Agrees E (add p q) (suc (n + m)) (1 + (u + w)) (number (sum32 i j)) (max k l)
+  -- an operation has one result on equal numbers
+  agree-compute : {E : Environment} {op : Op} {p q : Expr} {n m u w i j x k l : ℕ}
+      → Agrees E p n u (number i) k
+      → Agrees E q m w (number j) l
+      → resultOf op i j ≡ some x
+      → Agrees E (compute op p q) (suc (n + m)) (1 + (u + w)) (number x) (max k l)
   unfolding counted
-  agree-add f g o n v (Add d₁ d₂) =
-      made-agrees (both-agree (f _ _ _ d₁) (λ same. g _ _ _ d₂)) refl (cc (f _ _ _ d₁ .value, g _ _ _ d₂ .value))
+  agree-compute f g fits o n v (Compute d₁ d₂ fits′) =
+      made-agrees (both-agree (f _ _ _ d₁) (λ same. g _ _ _ d₂)) refl (cc (f _ _ _ d₁ .value, g _ _ _ d₂ .value, fits, fits′))
 
   -- IfZero picks the same part
   agree-ifZero : {E : Environment} {t z y : Expr} {n m u w i k l : ℕ} {v : Value} → Agrees E t n u (number i) k → Agrees E (picked i z y) m w v l
@@ -207,7 +212,7 @@ module _ (program : Program) where
       (λ E xs o n before after ds. AgreesArgs E xs n (unitsInArgs ds) before after (nestingInArgs ds)) [
         | Const ↦ agree-const
         | Var named ↦ agree-var named
-        | Add (d₁ → f) (d₂ → g) ↦ agree-add f g
+        | Compute (d₁ → f) (d₂ → g) fits ↦ agree-compute f g fits
         | IfZero (d₁ → f) (d₂ → g) ↦ agree-ifZero f g
         | Let (d₁ → f) (d₂ → g) ↦ agree-let f g
         | Leaf (d → f) ↦ agree-leaf f
@@ -233,7 +238,7 @@ rebuilt {program} d =
     (o′ : ℕ) → nestingInArgs ds ≤ o′ → TakesArgs program E xs (suc o′) (countedArgs (λ units n. suc n) (λ n. n) _+_ ds) before after) [
       | Const ↦ λ o h. Const
       | Var named ↦ λ o h. Var named
-      | Add (d₁ → r₁) (d₂ → r₂) ↦ λ o h. Add (r₁ o (omega arith)) (r₂ o (omega arith))
+      | Compute (d₁ → r₁) (d₂ → r₂) fits ↦ λ o h. Compute (r₁ o (omega arith)) (r₂ o (omega arith)) fits
       | IfZero (d₁ → r₁) (d₂ → r₂) ↦ λ o h. IfZero (r₁ o (omega arith)) (r₂ o (omega arith))
       | Let (d₁ → r₁) (d₂ → r₂) ↦ λ o h. Let (r₁ o (omega arith)) (r₂ o (omega arith))
       | Leaf (d → r) ↦ λ o h. Leaf (r o h)
@@ -279,7 +284,7 @@ four-each program E e o n v d =
     elim d as (λ E e o n v d. unitsIn d ≤ 4 * n) (λ E xs o n before after ds. unitsInArgs ds ≤ 4 * n) [
       | Const ↦ omega arith
       | Var named ↦ omega arith
-      | Add (d₁ → h₁) (d₂ → h₂) ↦ omega arith
+      | Compute (d₁ → h₁) (d₂ → h₂) fits ↦ omega arith
       | IfZero {i = i} (d₁ → h₁) (d₂ → h₂) ↦ let few = ifZero-few i in omega arith
       | Let (d₁ → h₁) (d₂ → h₂) ↦ omega arith
       | Leaf (d → h) ↦ omega arith
@@ -298,9 +303,25 @@ four-each program E e o n v d =
     case-few (leaf x) = omega arith
     case-few (node l r) = omega arith
 
+-- along arguments too
+pub four-each-args :
+    {program : Program} {E : Environment} {xs : Args} {o n : ℕ} {before after : List ℕ} (ds : TakesArgs program E xs o n before after)
+    → unitsInArgs ds ≤ 4 * n
+unfolding counted
+four-each-args {program} ds =
+    by-args
+    (λ E xs o n before after ds. unitsInArgs ds ≤ 4 * n)
+    (λ E o numbers. omega arith)
+    (λ E x xs o n m i before after d ds h. let first = four-each program E x o n (number i) d in omega arith)
+    _ _ _ _ _ _ ds
+
 -- as many expressions begin as there are rules
 pub rules-begun : (program : Program) (E : Environment) (e : Expr) (o n : ℕ) (v : Value) (d : Takes program E e o n v) → rulesIn d ≡ n
 rules-begun program E e o n v d = sym (agree program d _ _ v (rebuilt d (nestingIn d) (omega arith)) .begun)
+
+-- at least one call is open
+pub takes-open : {program : Program} {E : Environment} {e : Expr} {o n : ℕ} {v : Value} → Takes program E e o n v → 1 ≤ o
+takes-open {program} d = let below = agree program d _ _ _ d .below in omega arith
 
 -- a number bounds the calls open exactly where it is above the nesting
 pub least-open :

@@ -10,7 +10,7 @@ use mathlib.Core.Option.{Option, none, some}
 use native.Mathlib.Omega.{arith}
 use Rattle.formats.specs.Tokens.{Tree, leaf, node}
 use Rattle.formats.specs.Records.{nth}
-use Rattle.formats.specs.Programs.{Expr, const, var, add, ifZero, letIn, leafOf, nodeOf, caseOf, call, Args, noArgs, arg, Function, Program}
+use Rattle.formats.specs.Programs.{Expr, const, var, compute, ifZero, letIn, leafOf, nodeOf, caseOf, call, Args, noArgs, arg, Function, Program}
 use Rattle.meaning.specs.Evaluation.{Value, number, Environment, treeNamed, resultNumber}
 use Rattle.meaning.specs.OpenCalls.{Outcome, gives, stops, begins, followedBy, treeOr, Handler, evaluate, evaluateArgs, called, evaluation}
 use Rattle.meaning.specs.Meaning.{Further, the-same, goes-on, both-begin}
@@ -60,7 +60,7 @@ module _ {h k : Handler} (handled : (r b : ℕ) (numbers : List ℕ) (t : Tree) 
     further-evaluate : (E : Environment) (r : ℕ) (e : Expr) → Further (evaluate h E r e) (evaluate k E r e)
     further-evaluate E r (const i) = the-same
     further-evaluate E r (var a) = the-same
-    further-evaluate E r (add p q) = both-begin (further-next (further-evaluate E _ p) (λ x. further-next (further-evaluate E _ q) (λ y. the-same)))
+    further-evaluate E r (compute op p q) = both-begin (further-next (further-evaluate E _ p) (λ x. further-next (further-evaluate E _ q) (λ y. the-same)))
     further-evaluate E r (ifZero t z w) =
         both-begin
         (further-next (further-evaluate E _ t) (λ x. by-number (resultNumber x) (further-evaluate E _ z) (further-evaluate E _ w)))

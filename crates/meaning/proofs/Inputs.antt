@@ -18,7 +18,7 @@ use Rattle.formats.specs.Numbers.{numberOf, numberAt}
 use Rattle.formats.specs.Refusals.{inputEnded, cannotPerform}
 use Rattle.formats.specs.Results.{refusal}
 use Rattle.formats.specs.Tokens.{labelBytes, Tag, noByte, aLeaf, aNode, other, tagOf, tagAt}
-use Rattle.meaning.specs.Instructions.{Operation, Push, Get, Add, Ifnot, Jump, Slide, Drop, LeafTag, NodeTag, WriteNumber, ReadTag, ReadNumber, Call, Return, operationOf}
+use Rattle.meaning.specs.Instructions.{Operation, Push, Get, Compute, Ifnot, Jump, Slide, Drop, LeafTag, NodeTag, WriteNumber, ReadTag, ReadNumber, Call, Return, operationOf}
 use Rattle.meaning.specs.Performing.{Setting, State, toNext, holding, reading, wordsStanding, Step, goes, ends, refuses, ifRoom, pushWord, write, onTag, takeNumber, openCall, operate, perform, step}
 use Rattle.meaning.specs.Running.{Run, afterPerforming, stopped, ended as returned, refused, run, answerOf, outcomeOf}
 use Rattle.meaning.specs.StreamRun.{lookedAt, restsOn, Runs}
@@ -130,7 +130,7 @@ module _ (m : Setting) (input : List ℕ) (s : State) where
   unfolding operate ifRoom pushWord write openCall
   operate-same (Push x) e = refl
   operate-same (Get k) e = refl
-  operate-same Add e = refl
+  operate-same (Compute op) e = refl
   operate-same (Ifnot a) e = refl
   operate-same (Jump a) e = refl
   operate-same Slide e = refl

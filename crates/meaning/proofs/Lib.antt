@@ -13,6 +13,8 @@ pub mod Evaluation
 pub mod Proper
 pub mod Sorts
 pub mod Further
+pub mod Unfinished
+pub mod OneStop
 pub mod StopRecords
 pub mod OpenCalls
 pub mod OneWay
@@ -21,6 +23,7 @@ pub mod Leads
 pub mod Simulation
 pub mod Agrees
 pub mod SourceChecks
+pub mod CheckNumbers
 pub mod SourceRun
 pub mod WorkWords
 pub mod Meaning

@@ -12,9 +12,10 @@ use mathlib.Core.Option.{some, Option·some-injective, Option·none-ne-some, map
 use mathlib.Core.Path.{_≡_, refl, sym, ap, _∙_}
 use native.Mathlib.Omega.{arith}
 use lib.ListN.{length}
+use Rattle.formats.specs.Arithmetic.{Op}
 use Rattle.formats.specs.Results.{done}
 use Rattle.formats.specs.Records.{Call, nth}
-use Rattle.formats.specs.Programs.{Expr, const, var, add, ifZero, letIn, leafOf, nodeOf, caseOf, call, Args, noArgs, arg, prefix, prefixes}
+use Rattle.formats.specs.Programs.{Expr, const, var, compute, ifZero, letIn, leafOf, nodeOf, caseOf, call, Args, noArgs, arg, prefix, prefixes}
 use Rattle.formats.specs.Programs.{countArgs, CallsComplete, ArgsComplete, Sort, numberValued, treeValued, Signature, arityOf, Function, signatureOf}
 use Rattle.formats.specs.Programs.{Program, signatures, mostParameters, InRange, Every, LawfulFunctions}
 use Rattle.formats.proofs.Records.{nth-map}
@@ -23,7 +24,7 @@ use Rattle.rules.specs.Types.{Ty, resultType}
 use Rattle.rules.specs.Scopes.{scope, startOf, entered, enteredAll}
 use Rattle.rules.specs.PassOne.{passOver, passOne}
 use Rattle.rules.proofs.PassOne.{Passes, PassesArgs, pass-left, pass-right}
-use Rattle.rules.proofs.PassOne.{pass-const, pass-var, pass-add, pass-ifZero, pass-let, pass-leaf, pass-node, pass-case, pass-call, pass-arg}
+use Rattle.rules.proofs.PassOne.{pass-const, pass-var, pass-compute, pass-ifZero, pass-let, pass-leaf, pass-node, pass-case, pass-call, pass-arg}
 use Rattle.meaning.specs.Meaning.{PassesOne}
 
 -- `Proper fs g n s e`: among functions fs, with g number names and n tree names bound, e has a
@@ -32,7 +33,11 @@ mutual
   pub data Proper (fs : List Function) : ℕ → ℕ → Sort → Expr → Type 0 where
     proper-const : {g n i : ℕ} → i < 2 ^ 32 → Proper fs g n numberValued (const i)
     proper-var : {g n a : ℕ} → a < g → Proper fs g n numberValued (var a)
-    proper-add : {g n : ℕ} {p q : Expr} → Proper fs g n numberValued p → Proper fs g n numberValued q → Proper fs g n numberValued (add p q)
+    proper-compute :
+        {g n : ℕ} {op : Op} {p q : Expr}
+        → Proper fs g n numberValued p
+        → Proper fs g n numberValued q
+        → Proper fs g n numberValued (compute op p q)
     proper-ifZero :
         {g n : ℕ} {s : Sort} {t z o : Expr}
         → Proper fs g n numberValued t
@@ -102,10 +107,10 @@ module _ (fs : List Function) where
     passing {g} {n} {s} w r (var a) h ranged applied =
         let found = pass-var _ g n w r _ a h in
         rw (sort-by-type s numberValued (found .1)) (proper-var (found .0))
-    passing {g} {n} {s} w r (add p q) h ranged applied =
-        let parts = pass-add _ g n w r _ p q h in
+    passing {g} {n} {s} w r (compute op p q) h ranged applied =
+        let parts = pass-compute _ g n w r _ op p q h in
         rw (sort-by-type s numberValued (parts .0))
-        (proper-add
+        (proper-compute
         (passing w _ p (parts .1) (every-left _ (prefix p) (prefix q) (ranged .1)) (applied .0))
         (passing (suc w) _ q (parts .2) (every-right _ (prefix p) (prefix q) (ranged .1)) (applied .1)))
     passing {g} {n} {s} w r (ifZero t z o) h ranged applied =

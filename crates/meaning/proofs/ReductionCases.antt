@@ -1,19 +1,47 @@
--- Closed cases of the reductions of 000, Figure 3: a redex for each rule, and what it becomes.
-use Rattle.formats.specs.Numbers.{sum32}
+-- Closed cases of the reductions of 000, Figure 3: a redex for each rule, and what it becomes; sums
+-- that are stuck.
+use mathlib.Core.Path.{refl}
+use Rattle.formats.specs.Numbers.{signed32}
+use Rattle.formats.specs.Arithmetic.{plus, unbounded, wordFor, resultOf}
 use Rattle.formats.specs.Records.{nth}
 use Rattle.formats.specs.Programs.{Function}
-use Rattle.rules.specs.Printed.{numberName, treeName, functionName, int, lam, name, app, plus, fix, leafTerm, nodeTerm, case, let-01, ifZero-01, termOf, applied, lams, functionTerm}
+use Rattle.rules.specs.Printed.{numberName, treeName, functionName, int, lam, name, app, computeTerm, fix, leafTerm, nodeTerm, case, let-01, ifZero-01}
+use Rattle.rules.specs.Printed.{termOf, applied, lams, functionTerm}
 use Rattle.rules.proofs.Cases.{numbered, programOf, on}
-use Rattle.meaning.specs.Reductions.{leaf-value, an-integer, sameName, only, both, without, replaced, substitute, fixOf, fixes, fixing, Redex, Es-Plus, Es-App, Es-App-let, Es-Fix, Es-Case1, Es-Case2, IfZero-zero, IfZero-other}
+use Rattle.meaning.specs.Reductions.{leaf-value, an-integer, sameName, only, both, without, replaced, substitute, fixOf, fixes, fixing}
+use Rattle.meaning.specs.Reductions.{Redex, Es-Plus, Es-App, Es-App-let, Es-Fix, Es-Case1, Es-Case2, IfZero-zero, IfZero-other, hole, plus-right, in-leaf, plug, StuckAt, at-sum}
 use Rattle.meaning.proofs.MeaningCases.{again}
 
--- The sum wraps.
-plus-reduces : Redex again (plus (int 4294967295) (int 5)) (int 4)
-unfolding sum32
-plus-reduces = Es-Plus
+-- 1 and −1 make 0: 4294967295 is the word of −1.
+plus-reduces : Redex again (computeTerm plus (int 1) (int 4294967295)) (int 0)
+unfolding resultOf unbounded wordFor signed32
+plus-reduces = Es-Plus refl
+
+-- Where the result is the largest or the least in range, the sum reduces ..
+most-reduces : Redex again (computeTerm plus (int 2147483647) (int 0)) (int 2147483647)
+unfolding resultOf unbounded wordFor signed32
+most-reduces = Es-Plus refl
+
+least-reduces : Redex again (computeTerm plus (int 2147483649) (int 4294967295)) (int 2147483648)
+unfolding resultOf unbounded wordFor signed32
+least-reduces = Es-Plus refl
+
+-- .. and where it is one more, or one less, it is stuck: 2147483648 is the word of −2147483648.
+above-stuck : StuckAt plus 2147483647 1 (computeTerm plus (int 2147483647) (int 1))
+unfolding resultOf unbounded wordFor signed32 plug
+above-stuck = at-sum hole refl
+
+below-stuck : StuckAt plus 2147483648 4294967295 (computeTerm plus (int 2147483648) (int 4294967295))
+unfolding resultOf unbounded wordFor signed32 plug
+below-stuck = at-sum hole refl
+
+-- The term around it is stuck there too.
+around-stuck : StuckAt plus 2147483647 1 (leafTerm (computeTerm plus (int 5) (computeTerm plus (int 2147483647) (int 1))))
+unfolding resultOf unbounded wordFor signed32 plug
+around-stuck = at-sum (in-leaf (plus-right plus 5 hole)) refl
 
 -- The number is put in for its own name, and for no other.
-app-reduces : Redex again (app (lam (numberName 0) (plus (name (numberName 0)) (name (treeName 0)))) (int 3)) (plus (int 3) (name (treeName 0)))
+app-reduces : Redex again (app (lam (numberName 0) (computeTerm plus (name (numberName 0)) (name (treeName 0)))) (int 3)) (computeTerm plus (int 3) (name (treeName 0)))
 unfolding substitute replaced only sameName
 app-reduces = Es-App an-integer
 

@@ -10,7 +10,7 @@ use lib.ListN.{length, length-append}
 use Rattle.formats.specs.Refusals.{fuelUsedUp}
 use Rattle.meaning.specs.Performing.{Setting, State, goes, ends, refuses, step}
 use Rattle.meaning.specs.Running.{Run, Stop, ended, refused, stopped, afterPerforming, run, unitsOf}
-use Rattle.meaning.specs.StreamRun.{StepRefusal, ended-there, not-a-tag, full, too-many, cannot, Grows, Steps, here, on, Stops, used-up, returned, stuck, afterAll, Runs}
+use Rattle.meaning.specs.StreamRun.{StepRefusal, ended-there, not-a-tag, full, too-many, cannot, out-of-range, Grows, Steps, here, on, Stops, used-up, returned, stuck, afterAll, Runs}
 use Rattle.meaning.proofs.Steps.{it-goes, it-ends, it-refuses, stepped, Follows, grows-same, follows-same, follows-on, follows-step, one-step}
 
 -- ---- a run by the outcome of its first instruction
@@ -99,6 +99,7 @@ module _ {m : Setting} {fuel : ℕ} {s : State} where
       not-fuel full e = omega arith
       not-fuel too-many e = omega arith
       not-fuel cannot e = omega arith
+      not-fuel out-of-range e = omega arith
 
   settled : {r : Run} (more : ℕ) → Stops m fuel s r → r .stop ≢ refused fuelUsedUp → fuel ≤ more → run m more s ≡ r
   settled more (used-up d h) w l = absurd (w refl)

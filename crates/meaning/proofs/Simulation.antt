@@ -1,5 +1,6 @@
 -- The reductions do what the evaluation with a bound on the open calls does: a term leads to the
--- term of the value; where the evaluation stops at a call too many, the term makes more reductions
+-- term of the value; where the evaluation stops at an operation that has no result, the term leads
+-- to one that is stuck there; where it stops at a call too many, the term makes more reductions
 -- than calls may be opened.
 --
 -- The term is an expression's, with what its names stand for put in. The proof is by recursion on
@@ -13,24 +14,24 @@ use mathlib.Core.Path.{_≡_, refl, sym, ap}
 use native.Mathlib.Nat.{zero-add, lt-suc-self}
 use native.Mathlib.Omega.{arith}
 use lib.ListN.{length}
-use Rattle.formats.specs.Refusals.{tooManyCalls}
+use Rattle.formats.specs.Arithmetic.{Op}
 use Rattle.formats.specs.Tokens.{Tree, leaf as aLeaf, node as aNode}
 use Rattle.formats.specs.Records.{nth}
 use Rattle.formats.specs.Programs.{Expr, call, Args, noArgs, arg, Sort, Function, Program}
-use Rattle.rules.specs.Printed.{numberName, treeName, functionName, Term, int, lam, name, app, case, ifZero-01, termOf, applied, lams, functionTerm}
+use Rattle.rules.specs.Printed.{numberName, treeName, functionName, Term, int, lam, name, app, computeTerm, case, ifZero-01, termOf, applied, lams, functionTerm}
 use Rattle.meaning.specs.Levels.{atLevel}
 use Rattle.meaning.specs.Evaluation.{Value, Environment, withNumber, withTrees, inCall, resultNumber}
-use Rattle.meaning.specs.OpenCalls.{Outcome, gives, stops, begins, afterBegun, followedBy, numberOr, treeOr, resultTree, Handler, evaluate, evaluateArgs}
-use Rattle.meaning.specs.OpenCalls.{called, evaluation}
+use Rattle.meaning.specs.OpenCalls.{Reason, no-call, no-result, Outcome, gives, stops, begins, afterBegun, followedBy, numberOr, treeOr, resultTree}
+use Rattle.meaning.specs.OpenCalls.{Handler, computed, evaluate, evaluateArgs, called, evaluation}
 use Rattle.meaning.specs.Reductions.{TreeValue, leaf-value, node-value, an-integer, a-tree, without, replaced, substitute, fixOf, fixes}
 use Rattle.meaning.specs.Reductions.{Redex, Es-Plus, Es-App, Es-App-let, Es-Fix, Es-Case1, Es-Case2, IfZero-zero, IfZero-other}
 use Rattle.meaning.specs.Reductions.{Context, hole, app-left, app-right, plus-left, plus-right, in-leaf, node-left, node-right, in-let, in-test}
-use Rattle.meaning.specs.Reductions.{plug, none-made, treeTerm, valueTerm, programOn as appliedTo}
-use Rattle.meaning.specs.Meaning.{CanReduceTimes, Reaches}
+use Rattle.meaning.specs.Reductions.{plug, at-sum, none-made, treeTerm, valueTerm, programOn as appliedTo}
+use Rattle.meaning.specs.Meaning.{CanReduceTimes, Reaches, GetsStuck}
 use Rattle.meaning.proofs.Levels.{level-found}
-use Rattle.meaning.proofs.Outcomes.{ComesTo, given, stopped, comes-map, comes-begins, comes-next, comes-value, comes-stop}
-use Rattle.meaning.proofs.Leads.{nothing, reaches-on, makes-more, makes-on, reaches-in, makes-in, reduces, reaches-one}
-use Rattle.meaning.proofs.Proper.{Proper, proper-const, proper-var, proper-add, proper-ifZero, proper-let, proper-leaf, proper-node, proper-case}
+use Rattle.meaning.proofs.Outcomes.{ComesTo, given, stopped, comes-map, comes-begins, comes-next, comes-computed, comes-value, comes-stop}
+use Rattle.meaning.proofs.Leads.{nothing, reaches-on, makes-more, makes-on, reaches-in, makes-in, stuck-on, stuck-in, reduces, reaches-one}
+use Rattle.meaning.proofs.Proper.{Proper, proper-const, proper-var, proper-compute, proper-ifZero, proper-let, proper-leaf, proper-node, proper-case}
 use Rattle.meaning.proofs.Proper.{proper-call, ProperArgs, proper-none, proper-arg, ProperProgram}
 use Rattle.meaning.proofs.Sorts.{valueOf, Numbers, numbersOf}
 use Rattle.meaning.proofs.Substitution.{environmentOf, bare, unfolded, put-number, put-tree, put-trees}
@@ -43,19 +44,40 @@ unfolding treeTerm
 tree-value (aLeaf x) = leaf-value
 tree-value (aNode l r) = node-value (tree-value l) (tree-value r)
 
--- M leads to the term of what the outcome gives, which is of this form, or makes k reductions where
--- the outcome is a stop.
+-- What M does where the evaluation stops for this reason: it makes k reductions, or gets stuck.
+pub data AtStop (program : Program) (k : ℕ) (M : Term) : Reason → Type 0 where
+  makes-many : CanReduceTimes program k M → AtStop program k M no-call
+  gets-stuck : {op : Op} {i j : ℕ} → GetsStuck program M op i j → AtStop program k M (no-result op i j)
+
+module _ {program : Program} where
+  -- other reductions come first
+  stop-on : {k : ℕ} {L M : Term} (why : Reason) → Reaches program L M → AtStop program k M why → AtStop program k L why
+  stop-on _ r (makes-many m) = makes-many (makes-on (r .leads) m)
+  stop-on _ r (gets-stuck s) = gets-stuck (stuck-on r s)
+
+  -- one reduction comes first, and counts
+  stop-more : {k : ℕ} {L M : Term} (why : Reason) → Redex program L M → AtStop program k M why → AtStop program (suc k) L why
+  stop-more _ r (makes-many m) = makes-many (makes-more (reduces r) m)
+  stop-more _ r (gets-stuck s) = gets-stuck (stuck-on (reaches-one r) s)
+
+  -- inside a context
+  stop-in : {k : ℕ} {M : Term} (E : Context) (why : Reason) → AtStop program k M why → AtStop program k (plug E M) why
+  stop-in E _ (makes-many m) = makes-many (makes-in E m)
+  stop-in E _ (gets-stuck s) = gets-stuck (stuck-in E s)
+
+-- M leads to the term of what the outcome gives, which is of this form, or does what it does at a
+-- stop.
 abbrev Does : {X A : Type 0} → Program → ℕ → (X → A) → (A → Term) → Term → Outcome A → Type 0
-Does program k form term M o = ComesTo form (λ n a. Reaches program M (term a)) (λ why. CanReduceTimes program k M) o
+Does program k form term M o = ComesTo form (λ n a. Reaches program M (term a)) (λ n why r. AtStop program k M why) o
 
 module _ {program : Program} {k : ℕ} {X A : Type 0} {form : X → A} {term : A → Term} where
   -- other reductions come first
   does-on : {L M : Term} {o : Outcome A} → Reaches program L M → Does program k form term M o → Does program k form term L o
-  does-on r = comes-map (λ n a. reaches-on (r .leads)) (λ why. makes-on (r .leads))
+  does-on r = comes-map (λ n a. reaches-on (r .leads)) (λ n why q. stop-on why r)
 
   -- one reduction comes first, and counts
   does-more : {L M : Term} {o : Outcome A} → Redex program L M → Does program k form term M o → Does program (suc k) form term L o
-  does-more r = comes-map (λ n a. reaches-on (reaches-one r .leads)) (λ why. makes-more (reduces r))
+  does-more r = comes-map (λ n a. reaches-on (reaches-one r .leads)) (λ n why q. stop-more why r)
 
   -- a part is reduced inside the whole term, then what comes next has its value there
   does-part :
@@ -63,7 +85,8 @@ module _ {program : Program} {k : ℕ} {X A : Type 0} {form : X → A} {term : A
       → Does program k form′ term′ M o
       → ((y : Y) → Does program k form term (plug E (term′ (form′ y))) (f (form′ y)))
       → Does program k form term (plug E M) (followedBy o f)
-  does-part f E m follows = comes-next f (comes-map (λ n b. reaches-in E) (λ why. makes-in E) m) (λ n y r. does-on r (follows y))
+  does-part f E m follows =
+      comes-next f m (λ n why r. stop-in E why) (λ n y r. does-on (reaches-in E r) (follows y))
 
   -- an IfZero goes on with the part that its number picks
   does-test :
@@ -73,6 +96,16 @@ module _ {program : Program} {k : ℕ} {X A : Type 0} {form : X → A} {term : A
       → Does program k form term (ifZero-01 (int i) M N) (elim i [ zero ↦ o | suc j ↦ p ])
   does-test zero zero-part other-part = does-on (reaches-one IfZero-zero) zero-part
   does-test (suc j) zero-part other-part = does-on (reaches-one IfZero-other) other-part
+
+-- an operation on two numbers gives its result, or is stuck
+does-compute :
+    {program : Program} {k : ℕ} (r : ℕ) (op : Op) (i j : ℕ)
+    → Does program k Value.number valueTerm (computeTerm op (int i) (int j)) (computed r op i j)
+unfolding valueTerm plug
+does-compute r op i j =
+    comes-computed r op i j
+    (λ x e. reaches-one (Es-Plus e))
+    (λ e. gets-stuck (record { last = _; reached = nothing; stuck = at-sum hole e }))
 
 -- ---- expressions
 
@@ -124,13 +157,13 @@ module _ (program : Program) (proper : ProperProgram program) where
   opens b f known = rw (← unfolded program b f known) (reaches-one Es-Fix)
 
   -- what is applied to arguments is reduced first
-  makes-applied :
-      {k : ℕ} (E : Environment) (g n : ℕ) (M : Term) (xs : Args)
-      → CanReduceTimes program k (put E M)
-      → CanReduceTimes program k (put E (applied g n M xs))
+  stop-applied :
+      {k : ℕ} (E : Environment) (g n : ℕ) (M : Term) (xs : Args) (why : Reason)
+      → AtStop program k (put E M) why
+      → AtStop program k (put E (applied g n M xs)) why
   unfolding substitute applied plug
-  makes-applied E g n M noArgs m = m
-  makes-applied E g n M (arg x xs) m = makes-applied E g n _ xs (makes-in (app-left hole (put E (termOf g n x))) m)
+  stop-applied E g n M noArgs why m = m
+  stop-applied E g n M (arg x xs) why m = stop-applied E g n _ xs why (stop-in (app-left hole (put E (termOf g n x))) why m)
 
   -- What is to hold of calls, where d may be opened.
   abbrev Handles : Handler → ℕ → Type 0
@@ -166,10 +199,10 @@ module _ (program : Program) (proper : ProperProgram program) where
       | proper-var {a} a< ↦ λ E r g-is n-is.
           let found = level-found (E .numbers) a (rw (← g-is) a<) in
           rw (found .is) (given 1 (found .entry) nothing)
-      | proper-add (p → hp) (q → hq) ↦ λ E r g-is n-is.
+      | proper-compute {op = op} (p → hp) (q → hq) ↦ λ E r g-is n-is.
           comes-begins
-          (does-part _ (plus-left hole _) (hp E (suc r) g-is n-is)
-          (λ i. does-part _ (plus-right i hole) (hq E _ g-is n-is) (λ j. given 0 _ (reaches-one Es-Plus))))
+          (does-part _ (plus-left op hole _) (hp E (suc r) g-is n-is)
+          (λ i. does-part _ (plus-right op i hole) (hq E _ g-is n-is) (λ j. does-compute r op i j)))
       | proper-ifZero (t → ht) (z → hz) (o → ho) ↦ λ E r g-is n-is.
           comes-begins (does-part _ (in-test hole _ _) (ht E (suc r) g-is n-is) (λ i. does-test i (hz E _ g-is n-is) (ho E _ g-is n-is)))
       | proper-let {g} {n} {body} (p → hp) (_ → hq) ↦ λ E r g-is n-is.
@@ -202,9 +235,8 @@ module _ (program : Program) (proper : ProperProgram program) where
       | proper-none ↦ λ E r H N before count g-is n-is all reach. given 0 (record { all = before; many = omega arith }) reach
       | proper-arg {g} {n} {k = j} {x} {xs} (p → hp) (ps → hs) ↦ λ E r H N before count g-is n-is all reach.
           let head = reaches-in (app-left hole (put E (termOf g n x))) reach in
-          comes-next _
-          (comes-map (λ begun i r. r) (λ why m. makes-applied E g n _ xs (makes-on (head .leads) (makes-in (app-right _ _ hole) m)))
-          (hp E r g-is n-is))
+          comes-next _ (hp E r g-is n-is)
+          (λ begun why q m. stop-applied E g n _ xs why (stop-on why head (stop-in (app-right _ _ hole) why m)))
           (λ begun i r.
           let takes = reaches-one (app-number (bare before) _ i (lams _ j N) refl) in
           let reach = reaches-on (head .leads) (reaches-on (reaches-in (app-right _ _ hole) r .leads) takes) in
@@ -214,7 +246,7 @@ module _ (program : Program) (proper : ProperProgram program) where
   -- calls, by recursion on how many may be opened
   handled : (d : ℕ) → Handles (called program d) d
   unfolding called afterBegun
-  handled zero r b f numbers t known = stopped 0 tooManyCalls r (record { last = _; leads = none-made })
+  handled zero r b f numbers t known = stopped 0 no-call r (makes-many (record { last = _; leads = none-made }))
   handled (suc d) r b f numbers t known =
       rw (known, called) (simulated (called program d) d (handled d) (proper .bodies b f known) (inCall (numbers .all) t) _ (sym (numbers .many)) refl)
 
@@ -237,7 +269,7 @@ module _ (program : Program) (proper : ProperProgram program) where
     unfolding afterBegun
     value-reached d n v e = comes-value (suc n) v (program-does d) (ap begins e)
 
-    -- where it stops, there are more reductions than calls may be opened
-    pub stop-makes : (d n why r : ℕ) → evaluation program d t ≡ afterBegun n (stops why r) → CanReduceTimes program (suc d) (appliedTo first t)
+    -- where it stops, there are more reductions than calls may be opened, or they get stuck
+    pub at-stop : (d n : ℕ) (why : Reason) (r : ℕ) → evaluation program d t ≡ afterBegun n (stops why r) → AtStop program (suc d) (appliedTo first t) why
     unfolding afterBegun
-    stop-makes d n why r e = comes-stop (suc n) why r (program-does d) (ap begins e)
+    at-stop d n why r e = comes-stop (suc n) why r (program-does d) (ap begins e)

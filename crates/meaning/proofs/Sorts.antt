@@ -1,12 +1,9 @@
 -- Values by their sort, and environments where every number and every label fits 32 bits.
-use Prim.Native.Nat.{ℕ, _+_, _^_, _<_}
+use Prim.Native.Nat.{ℕ, _^_, _<_}
 use mathlib.Core.List.{List}
 use mathlib.Core.Option.{some}
 use mathlib.Core.Path.{_≡_}
-use native.Mathlib.Nat.{mod-lt}
-use lib.Dec.{lit<}
 use lib.ListN.{length}
-use Rattle.formats.specs.Numbers.{sum32}
 use Rattle.formats.specs.Tokens.{Tree, node, Labelled}
 use Rattle.formats.specs.Programs.{Sort, numberValued, treeValued, Every}
 use Rattle.meaning.specs.Evaluation.{Value, number, tree, Environment, numberNamed, treeNamed, withNumber, withTrees, inCall}
@@ -36,11 +33,6 @@ numbersOf count numbers = numbers .all
 -- A number of 32 bits.
 abbrev pub Fits : ℕ → Type 0
 Fits i = i < 2 ^ 32
-
--- a sum fits
-pub sum-fits : (i j : ℕ) → Fits (sum32 i j)
-unfolding sum32
-sum-fits i j = mod-lt (i + j) (lit< tt)
 
 -- All that names stand for fits: every number, and every label of every tree.
 pub record AllFit (E : Environment) : Type 0 where

@@ -4,7 +4,8 @@ use Prim.Native.Nat.{ℕ}
 use mathlib.Core.List.{List, [], _∷_, _++_, map}
 use mathlib.Core.Path.{_≡_, refl}
 use lib.ListN.{take, replicate}
-use Rattle.formats.specs.Numbers.{bytesOf, numberOf, numberAt, sum32}
+use Rattle.formats.specs.Numbers.{bytesOf, numberOf, numberAt, signed32}
+use Rattle.formats.specs.Arithmetic.{unbounded, wordFor, resultOf}
 use Rattle.formats.specs.Results.{done, refusal, each}
 use Rattle.formats.specs.Written.{written}
 use Rattle.formats.specs.Tokens.{Tree, leaf, node, tokens, tagOf, tagAt, labelAt, branchesAt, treeByTag, treeAt, firstTree}
@@ -20,8 +21,8 @@ use Rattle.rules.proofs.Cases.{numbered, treed, programOf, on, swap}
 use Rattle.meaning.specs.Levels.{atLevel}
 use Rattle.meaning.specs.Running.{valueWords, returnWords}
 use Rattle.meaning.specs.Evaluation.{resultBytes, resultNumber}
-use Rattle.meaning.specs.OpenCalls.{followedBy, numberOr, treeOr, resultTree, evaluate, evaluateArgs, firstRecord, called, evaluation, withFuel}
-use Rattle.meaning.specs.SourceRun.{SourceRan, reported, reportFrom, checkSource, sourceRun}
+use Rattle.meaning.specs.OpenCalls.{refusalOf, followedBy, numberOr, treeOr, resultTree, computed, evaluate, evaluateArgs, firstRecord, called, evaluation, withFuel}
+use Rattle.meaning.specs.SourceRun.{SourceRan, reported, positionOf, reportFrom, checkSource, sourceRun}
 use Rattle.meaning.proofs.MeaningCases.{two-leaves, again, sum}
 
 record Row : Type 0 where
@@ -55,8 +56,7 @@ row program t fuel space gives =
     record { file = fileOf (flatOf program); input = tokens t; fuel = fuel; space = space; values = valueWords; returns = returnWords; gives = gives }
 
 -- 01, Worked programs: "Source run: fuel 14 ends, 13 gives 14." "Its source run on T gives labels
--- 7, 5." "Sum .. of leaves 2147483647 and 1: −2147483648." "Call 0 on 0 ..; fuel 1,023 gives 14,
--- 1,024 gives 18." A refusal leaves the output.
+-- 7, 5." "Call 0 on 0 ..; fuel 1,023 gives 14, 1,024 gives 18." A refusal leaves the output.
 worked : List Row
 worked =
     row grow two-leaves 14 12 (ended-with 14 11 0 (2 ∷ 1 ∷ 6 ∷ 0 ∷ 0 ∷ 0 ∷ 1 ∷ 8 ∷ 0 ∷ 0 ∷ 0 ∷ 255 ∷ []))
@@ -64,9 +64,25 @@ worked =
     ∷ row grow two-leaves 14 11 (ended-with 14 11 0 (2 ∷ 1 ∷ 6 ∷ 0 ∷ 0 ∷ 0 ∷ 1 ∷ 8 ∷ 0 ∷ 0 ∷ 0 ∷ []))
     ∷ row grow two-leaves 14 10 (refused-with 17 0 14 (blank 10))
     ∷ row swap two-leaves 10 11 (ended-with 10 11 0 (2 ∷ 1 ∷ 7 ∷ 0 ∷ 0 ∷ 0 ∷ 1 ∷ 5 ∷ 0 ∷ 0 ∷ 0 ∷ []))
-    ∷ row sum (node (leaf 2147483647) (leaf 1)) 8 3 (ended-with 8 0 2147483648 (blank 3))
     ∷ row again two-leaves 1023 2 (refused-with 14 0 1023 (blank 2))
     ∷ row again two-leaves 1024 2 (refused-with 18 0 1024 (blank 2))
+    ∷ []
+
+-- N3: "The Sum case of document 01 becomes this refusal"; "21, sum out of range, at the Add record
+-- in the source run", record 4 of Sum and record 4 of Grow, "tested when both numbers stand": with
+-- fuel for the expressions begun it is 21, with less 14. Nothing is written, though Grow's left
+-- leaf was found. At both ends of the range Sum gives its number.
+broken : List Row
+broken =
+    row sum (node (leaf 2147483647) (leaf 1)) 20 3 (refused-with 21 4 8 (blank 3))
+    ∷ row sum (node (leaf 2147483647) (leaf 1)) 8 3 (refused-with 21 4 8 (blank 3))
+    ∷ row sum (node (leaf 2147483647) (leaf 1)) 7 3 (refused-with 14 0 7 (blank 3))
+    ∷ row sum (node (leaf 2147483648) (leaf 4294967295)) 8 3 (refused-with 21 4 8 (blank 3))
+    ∷ row sum (node (leaf 2147483647) (leaf 0)) 8 3 (ended-with 8 0 2147483647 (blank 3))
+    ∷ row sum (node (leaf 2147483648) (leaf 0)) 8 3 (ended-with 8 0 2147483648 (blank 3))
+    ∷ row sum (node (leaf 2147483647) (leaf 4294967295)) 8 3 (ended-with 8 0 2147483646 (blank 3))
+    ∷ row grow (node (leaf 5) (leaf 2147483647)) 14 12 (refused-with 21 4 14 (blank 12))
+    ∷ row grow (node (leaf 5) (leaf 2147483647)) 14 0 (refused-with 21 4 14 [])
     ∷ []
 
 -- A tree-valued program that gives a number, which pass one refuses.
@@ -101,8 +117,8 @@ work-space =
     ∷ []
 
 cases : List Row
-cases = worked ++ (first-refusal ++ work-space)
+cases = worked ++ (broken ++ (first-refusal ++ work-space))
 
 as-reported : map ran cases ≡ map (λ r. r .gives) cases
-unfolding sourceRun checkSource reportFrom reported withFuel evaluation called evaluate evaluateArgs followedBy resultNumber resultBytes resultTree numberOr treeOr atLevel sum32 firstRecord written tokens firstTree treeAt treeByTag branchesAt labelAt tagAt tagOf passOne passOver atEntry hasRoom wordsTested bareNumber typeFits nameBound enteredAll entered enteredArgs inside startOf resultType isInt isOutputTree hasType programIn flatIn lengthRow blockRow blockAt usedOf fieldsFit usedFits zeros concatenated fileOf blocksFor blocksFrom blockOf blockBody checkWord wordSum readProgram headerRow headerFrom functionRow functionAt functionFrom sorts mostParameters nodeRow nodeAt nodeRecord kindOf kinds nth sameFields functionBelow fieldsOf each prefixRow bodies exactlyOne exprsOf build popArgs arityOf sumOfCounts recordAt flat bytesOfRecord bytesOf numberAt numberOf flatOf recordsOf headerRecord headerOf signatureRecord signatureOf sortNumber nodes size prefix prefixes grow swap again sum wrong numbered treed programOf on two-leaves blank ended-with refused-with ran row bare worked first-refusal work-space cases
+unfolding sourceRun checkSource reportFrom positionOf refusalOf reported withFuel evaluation called evaluate evaluateArgs followedBy resultNumber resultBytes resultTree numberOr treeOr atLevel signed32 unbounded wordFor resultOf computed firstRecord written tokens firstTree treeAt treeByTag branchesAt labelAt tagAt tagOf passOne passOver atEntry hasRoom wordsTested bareNumber typeFits nameBound enteredAll entered enteredArgs inside startOf resultType isInt isOutputTree hasType programIn flatIn lengthRow blockRow blockAt usedOf fieldsFit usedFits zeros concatenated fileOf blocksFor blocksFrom blockOf blockBody checkWord wordSum readProgram headerRow headerFrom functionRow functionAt functionFrom sorts mostParameters nodeRow nodeAt nodeRecord kindOf kinds nth sameFields functionBelow fieldsOf each prefixRow bodies exactlyOne exprsOf build popArgs arityOf sumOfCounts recordAt flat bytesOfRecord bytesOf numberAt numberOf flatOf recordsOf headerRecord headerOf signatureRecord signatureOf sortNumber nodes size prefix prefixes grow swap again sum wrong numbered treed programOf on two-leaves blank ended-with refused-with ran row bare worked broken first-refusal work-space cases
 as-reported = refl

@@ -2,10 +2,11 @@
 -- reductions.
 --
 -- What the checks before the evaluation refuse, the call refuses. Where they pass, it reports the
--- evaluation's outcome, cut by the fuel. The evaluation ends or stops at a call too many: n
--- expressions begin, then there is a value or a stop. With fuel for n expressions the value or the
--- stop is reported, with less 14. So each call has ended with a value that the evaluation itself
--- gives, or it is refused: what holds of every call is shown of both.
+-- evaluation's outcome, cut by the fuel. The evaluation ends, or stops at a sum out of range or at
+-- a call too many: n expressions begin, then there is a value or a stop. With fuel for n
+-- expressions the value or the stop is reported, with less 14. So each call has ended with a value
+-- that the evaluation itself gives, or is refused with 21 where the evaluation breaks, or is
+-- refused with another number: what holds of every call is shown of the three.
 use Prim.Native.Nat.{ℕ, zero, suc, _+_, _^_, _≤_, _<_, zero-le}
 use mathlib.Core.List.{List, _++_}
 use mathlib.Core.Logic.{inl, inr}
@@ -17,24 +18,28 @@ use borrow.Author.Tests.{le-leb, lt-leb}
 use lib.Dec.{lit<}
 use lib.ListN.{length, drop, length-append, length-drop, take-append-drop}
 use Rattle.formats.specs.Numbers.{Bytes}
-use Rattle.formats.specs.Refusals.{spaceTooShort, fuelUsedUp, outputFull, tooManyCalls}
+use Rattle.formats.specs.Arithmetic.{Op}
+use Rattle.formats.specs.Refusals.{spaceTooShort, fuelUsedUp, outputFull, tooManyCalls, outOfRange}
 use Rattle.formats.specs.Results.{done, refusal}
 use Rattle.formats.specs.Tokens.{Tree, firstTree}
 use Rattle.formats.specs.Programs.{Sort, numberValued, treeValued, Program}
-use Rattle.formats.proofs.Results.{done-injective, done-not, then-refused, byResult}
+use Rattle.formats.proofs.Results.{done-injective, refusal-injective, done-not, then-refused, byResult}
 use Rattle.formats.proofs.Reader.{tree-reader}
 use Rattle.formats.proofs.Written.{front-written, after-written}
 use Rattle.meaning.specs.Running.{mostCalls}
 use Rattle.meaning.specs.Evaluation.{Value, Ends, resultBytes, resultNumber}
-use Rattle.meaning.specs.OpenCalls.{Outcome, gives, stops, begins, begun, afterBegun, evaluation, withFuel}
-use Rattle.meaning.specs.SourceRun.{SourceRan, refusedAfter, endedAfter, reported, reportFrom, sourceRun}
-use Rattle.meaning.specs.Meaning.{OfSort, TooMany, Cut, Passed, EndedWith, RefusedWith, ByReductions, EndedFrom, SourceTooManyCalls, SourceRuns}
+use Rattle.meaning.specs.OpenCalls.{Reason, no-fuel, no-call, no-result, refusalOf, Outcome, gives, stops, begins, begun, afterBegun, evaluation, withFuel}
+use Rattle.meaning.specs.Unfinished.{Breaks}
+use Rattle.meaning.specs.SourceRun.{SourceRan, refusedAfter, endedAfter, reported, positionOf, reportFrom, sourceRun}
+use Rattle.meaning.specs.Meaning.{OfSort, TooMany, Cut, Passed, EndedWith, RefusedWith, ByReductions, EndedFrom, SourceTooManyCalls, SourceBreaks, BrokenFrom, SourceRuns}
 use Rattle.meaning.proofs.Outcomes.{begun-after}
 use Rattle.meaning.proofs.Proper.{ProperProgram, proper}
+use Rattle.meaning.proofs.StopRecords.{breaks-within}
 use Rattle.meaning.proofs.OpenCalls.{of-sort, held}
 use Rattle.meaning.proofs.Agrees.{agrees}
 use Rattle.meaning.proofs.SourceChecks.{checked, file-stops, pass-one-stops, space-stops, tree-left}
 use Rattle.meaning.proofs.SourceChecks.{passed-done, done-passed, passed-passes, checks-after}
+use Rattle.meaning.proofs.CheckNumbers.{checks-below}
 
 -- ---- fuel
 
@@ -86,8 +91,8 @@ module _ (o last : Outcome Value) (n fuel : ℕ) (output : List ℕ) (is : o ≡
 
   -- with less
   report-short : fuel < n → reportFrom 0 (withFuel fuel o) output ≡ refusedAfter fuel fuelUsedUp 0 output
-  unfolding reportFrom
-  report-short h = ap (λ p. reportFrom 0 p output) (cut o fuel .short (omega (arith, begins-all))) ∙ report-all fuel (stops fuelUsedUp 0) output
+  unfolding reportFrom positionOf refusalOf
+  report-short h = ap (λ p. reportFrom 0 p output) (cut o fuel .short (omega (arith, begins-all))) ∙ report-all fuel (stops no-fuel 0) output
 
 -- ---- answers, field by field
 
@@ -95,6 +100,14 @@ module _ {n : ℕ} {output : List ℕ} {ran : SourceRan} where
   -- of a refusal
   refused-with : {number position : ℕ} → ran ≡ refusedAfter n number position output → RefusedWith n number position output ran
   refused-with e = rw e (record { outcome = refl; expressions = refl; no-bytes = refl; no-number = refl; untouched = refl })
+
+  -- with the number and the position that it is known by
+  refused-as :
+      {number position number′ position′ : ℕ}
+      → ran .answer .outcome ≡ refusal number position
+      → RefusedWith n number′ position′ output ran
+      → RefusedWith (ran .answer .begun) number position output ran
+  refused-as e r = record { outcome = e; expressions = refl; no-bytes = r .no-bytes; no-number = r .no-number; untouched = r .untouched }
 
   -- of a value that has space
   module _ (v : Value) (space : length (resultBytes v) ≤ length output) where
@@ -175,18 +188,37 @@ module _ (file input output : List ℕ) (values returns : ℕ) (bs : Bytes file)
       unfolding begun
       call-short less = refused-with (call-reports fuel ∙ report-short _ (gives v) n fuel output value-given refl less)
 
-    -- an evaluation that stops at a call too many
-    call-stops : TooMany program t mostCalls → SourceTooManyCalls output ran
-    unfolding reportFrom begun
-    call-stops s =
-        let last : Outcome Value = stops tooManyCalls (s .position) in
+    -- an evaluation that stops: this is reported with fuel for it, and 14 with less
+    module _ (n : ℕ) (why : Reason) (q fuel : ℕ) (stopped : evaluation program mostCalls t ≡ afterBegun n (stops why q)) where
+      call-stops : n ≤ fuel → RefusedWith n (refusalOf why) (positionOf why q) output (ran fuel)
+      unfolding reportFrom begun
+      call-stops h = refused-with (call-reports fuel ∙ report-enough _ (stops why q) n fuel output stopped refl h)
+
+      stops-short : fuel < n → RefusedWith fuel fuelUsedUp 0 output (ran fuel)
+      unfolding begun
+      stops-short less = refused-with (call-reports fuel ∙ report-short _ (stops why q) n fuel output stopped refl less)
+
+    -- it breaks at a sum
+    call-breaks : (n : ℕ) (op : Op) (i j q : ℕ) → Breaks program t mostCalls n op i j q → SourceBreaks n q output ran
+    unfolding positionOf refusalOf
+    call-breaks n op i j q breaks =
+        let stopped = held program t proper-passed .stops-exactly mostCalls n (no-result op i j) q .1 breaks in
         record {
-          expressions = s .expressions;
-          enough = λ fuel h. refused-with (call-reports fuel ∙ report-enough _ last (s .expressions) fuel output (s .stopped) refl h);
-          short = λ fuel less. refused-with (call-reports fuel ∙ report-short _ last (s .expressions) fuel output (s .stopped) refl less);
+          enough = λ fuel. call-stops n (no-result op i j) q fuel stopped;
+          short = λ fuel. stops-short n (no-result op i j) q fuel stopped;
         }
 
-  -- What a call comes to: it has ended with the value of an evaluation that ends, or it is refused.
+    -- a call is one too many
+    call-too-many : TooMany program t mostCalls → SourceTooManyCalls output ran
+    unfolding positionOf refusalOf
+    call-too-many s = record {
+      expressions = s .expressions;
+      enough = λ fuel. call-stops (s .expressions) no-call (s .position) fuel (s .stopped);
+      short = λ fuel. stops-short (s .expressions) no-call (s .position) fuel (s .stopped);
+    }
+
+  -- What a call comes to: it has ended with the value of an evaluation that ends, or is refused
+  -- with 21 where the evaluation breaks, or is refused with another number.
   data Answers (fuel : ℕ) : Type 0 where
     has-ended :
         (program : Program) (t : Tree) (n : ℕ) (v : Value)
@@ -196,7 +228,14 @@ module _ (file input output : List ℕ) (values returns : ℕ) (bs : Bytes file)
         → length (resultBytes v) ≤ length output
         → EndedWith n v output (ran fuel)
         → Answers fuel
-    is-refused : (n number position : ℕ) → n ≤ fuel → RefusedWith n number position output (ran fuel) → Answers fuel
+    has-broken :
+        (program : Program) (t : Tree) (n : ℕ) (op : Op) (i j q : ℕ)
+        → Passed file input values returns program t
+        → Breaks program t mostCalls n op i j q
+        → n ≤ fuel
+        → RefusedWith n outOfRange q output (ran fuel)
+        → Answers fuel
+    is-refused : (n number position : ℕ) → number < outOfRange → n ≤ fuel → RefusedWith n number position output (ran fuel) → Answers fuel
 
   -- this holds where the checks pass ..
   answers-passed : (program : Program) (t : Tree) (fuel : ℕ) → Passed file input values returns program t → Answers fuel
@@ -207,21 +246,31 @@ module _ (file input output : List ℕ) (values returns : ℕ) (bs : Bytes file)
         by-bound n fuel
         (λ h. by-bound (length (resultBytes v)) (length output)
         (λ space. has-ended program t n v p (e .ends) h space (call-ends program t p n v fuel (e .ends) h space))
-        (λ less. is-refused n outputFull 0 h (call-full program t p n v fuel (e .ends) h less)))
-        (λ less. is-refused fuel fuelUsedUp 0 (omega arith) (call-short program t p n v fuel (e .ends) less))
-    | inr s ↦
-        let r = call-stops program t p s in
+        (λ less. is-refused n outputFull 0 (lit< tt) h (call-full program t p n v fuel (e .ends) h less)))
+        (λ less. no-more (call-short program t p n v fuel (e .ends) less))
+    | inr (inl b) ↦
+        let n : ℕ = b .expressions in
+        let r = call-breaks program t p n (b .op) (b .left) (b .right) (b .position) (b .breaks) in
+        by-bound n fuel
+        (λ h. has-broken program t n (b .op) (b .left) (b .right) (b .position) p (b .breaks) h (r .enough fuel h))
+        (λ less. no-more (r .short fuel less))
+    | inr (inr s) ↦
+        let r = call-too-many program t p s in
         by-bound (r .expressions) fuel
-        (λ h. is-refused (r .expressions) tooManyCalls 0 h (r .enough fuel h))
-        (λ less. is-refused fuel fuelUsedUp 0 (omega arith) (r .short fuel less))
+        (λ h. is-refused (r .expressions) tooManyCalls 0 (lit< tt) h (r .enough fuel h))
+        (λ less. no-more (r .short fuel less))
   ]
+    where
+      -- the fuel is used up
+      no-more : RefusedWith fuel fuelUsedUp 0 output (ran fuel) → Answers fuel
+      no-more r = is-refused fuel fuelUsedUp 0 (lit< tt) (omega arith) r
 
   -- .. and where they refuse
   answers : (fuel : ℕ) → Answers fuel
   answers fuel =
       byResult (checked file input values returns)
       (λ c e. answers-passed (c .program) (c .tree) fuel (done-passed file input values returns c e))
-      (λ number position e. is-refused 0 number position zero-le (call-refused number position fuel e))
+      (λ number position e. is-refused 0 number position (checks-below file input values returns number position e) zero-le (call-refused number position fuel e))
 
   -- a refusal leaves the output untouched
   answers-untouched :
@@ -230,8 +279,8 @@ module _ (file input output : List ℕ) (values returns : ℕ) (bs : Bytes file)
       → ran fuel .answer .outcome ≡ refusal number position
       → RefusedWith (ran fuel .answer .begun) number position output (ran fuel)
   answers-untouched number position fuel (has-ended program t n v p ends h space r) e = done-not (r .outcome) e
-  answers-untouched number position fuel (is-refused n why q h r) e =
-      record { outcome = e; expressions = refl; no-bytes = r .no-bytes; no-number = r .no-number; untouched = r .untouched }
+  answers-untouched number position fuel (has-broken program t n op i j q p b h r) e = refused-as e r
+  answers-untouched number position fuel (is-refused n why q below h r) e = refused-as e r
 
   -- a call that ended passed all, and its evaluation ended
   answers-from : (fuel : ℕ) → Answers fuel → ran fuel .answer .outcome ≡ done tt → EndedFrom file input output values returns fuel (ran fuel)
@@ -246,7 +295,27 @@ module _ (file input output : List ℕ) (values returns : ℕ) (bs : Bytes file)
     enough-space = space;
     gives = r;
   }
-  answers-from fuel (is-refused n why q h r) e = done-not e (r .outcome)
+  answers-from fuel (has-broken program t n op i j q p b h r) e = done-not e (r .outcome)
+  answers-from fuel (is-refused n why q below h r) e = done-not e (r .outcome)
+
+  -- a call refused with 21 passed all, and its evaluation broke
+  answers-broken :
+      (fuel position : ℕ)
+      → Answers fuel
+      → ran fuel .answer .outcome ≡ refusal outOfRange position
+      → BrokenFrom file input values returns fuel position
+  answers-broken fuel position (has-ended program t n v p ends h space r) e = done-not (r .outcome) e
+  answers-broken fuel position (has-broken program t n op i j q p b h r) e = record {
+    program = program;
+    input-tree = t;
+    passed = p;
+    within = breaks-within program t mostCalls n op i j q b;
+    there = refusal-injective (sym (r .outcome) ∙ e) .1;
+    enough-fuel = h;
+  }
+  answers-broken fuel position (is-refused n why q below h r) e =
+      let same : why ≡ outOfRange = refusal-injective (sym (r .outcome) ∙ e) .0 in
+      absurd (omega arith)
 
   -- the reductions lead to the value of a call that ended
   answers-reached :
@@ -268,12 +337,14 @@ module _ (file input output : List ℕ) (values returns : ℕ) (bs : Bytes file)
         is-first = ends .is-first;
         leads = agrees program (ends .first) t (proper-passed program t p) (ends .is-first) .leads mostCalls n v ends;
       }
-  answers-reached program t fuel p (is-refused n why q h r) e = done-not e (r .outcome)
+  answers-reached program t fuel p (has-broken other u n op i j q checks b h r) e = done-not e (r .outcome)
+  answers-reached program t fuel p (is-refused n why q below h r) e = done-not e (r .outcome)
 
   -- no more expressions begin than there is fuel
   answers-within : (fuel : ℕ) → Answers fuel → ran fuel .answer .begun ≤ fuel
   answers-within fuel (has-ended program t n v p ends h space r) = rw (r .expressions) h
-  answers-within fuel (is-refused n why q h r) = rw (r .expressions) h
+  answers-within fuel (has-broken program t n op i j q p b h r) = rw (r .expressions) h
+  answers-within fuel (is-refused n why q below h r) = rw (r .expressions) h
 
   -- the number is one of 32 bits, since the tree's labels are
   answers-fits : (fuel : ℕ) → Bytes input → Answers fuel → ran fuel .answer .number < 2 ^ 32
@@ -282,12 +353,14 @@ module _ (file input output : List ℕ) (values returns : ℕ) (bs : Bytes file)
       let first = ends .first in
       let fits = of-sort program t (proper-passed program t p) first mostCalls n v labelled (ends .is-first) ends in
       rw (r .number) (sort-fits (first .sort) v fits)
-  answers-fits fuel bytes (is-refused n why q h r) = rw (r .no-number) (lit< tt)
+  answers-fits fuel bytes (has-broken program t n op i j q p b h r) = rw (r .no-number) (lit< tt)
+  answers-fits fuel bytes (is-refused n why q below h r) = rw (r .no-number) (lit< tt)
 
   -- the output keeps its length
   answers-length : (fuel : ℕ) → Answers fuel → length (ran fuel .output) ≡ length output
   answers-length fuel (has-ended program t n v p ends h space r) = ended-length v space r
-  answers-length fuel (is-refused n why q h r) = ap length (r .untouched)
+  answers-length fuel (has-broken program t n op i j q p b h r) = ap length (r .untouched)
+  answers-length fuel (is-refused n why q below h r) = ap length (r .untouched)
 
   -- every answer of a call
   pub source-runs : SourceRuns file input output values returns ran
@@ -302,11 +375,14 @@ module _ (file input output : List ℕ) (values returns : ℕ) (bs : Bytes file)
         ends = λ program t n v fuel p. call-ends program t p n v fuel;
         output-short = λ program t n v fuel p. call-full program t p n v fuel;
         fuel-short = λ program t n v fuel p. call-short program t p n v fuel;
-        too-many = λ program t p none. elim (held program t (proper-passed program t p) .ends-or-stops mostCalls) [
+        breaks = λ program t n op i j q p. call-breaks program t p n op i j q;
+        too-many = λ program t p none unbroken. elim (held program t (proper-passed program t p) .ends-or-stops mostCalls) [
           | inl e ↦ absurd (none (e .expressions) (e .value) (e .ends))
-          | inr s ↦ call-stops program t p s
+          | inr (inl b) ↦ absurd (unbroken (b .expressions) (b .op) (b .left) (b .right) (b .position) (b .breaks))
+          | inr (inr s) ↦ call-too-many program t p s
         ];
         ended-from = λ fuel. answers-from fuel (answers fuel);
+        broken-from = λ fuel position. answers-broken fuel position (answers fuel);
         untouched = λ number position fuel. answers-untouched number position fuel (answers fuel);
         by-reductions = λ program t fuel p. answers-reached program t fuel p (answers fuel);
         within-fuel = λ fuel. answers-within fuel (answers fuel);

@@ -10,15 +10,16 @@ use native.Mathlib.Nat.{le-refl, le-trans}
 use native.Mathlib.Omega.{arith}
 use borrow.Author.Tests.{ltb-true, leb-true}
 use lib.ListN.{length, take, drop, length-append, length-take, length-drop}
-use Rattle.formats.specs.Numbers.{numberAt, sum32}
+use Rattle.formats.specs.Numbers.{numberAt}
+use Rattle.formats.specs.Arithmetic.{resultOf}
 use Rattle.formats.specs.Refusals.{cannotPerform}
 use Rattle.formats.specs.Tokens.{labelBytes, Tag, noByte, aLeaf, aNode, other}
 use Rattle.formats.proofs.Tokens.{Look, at-leaf, at-node, look}
-use Rattle.meaning.specs.Instructions.{Instruction, Operation, Push, Get, Add, Ifnot, Jump, Slide, Drop, LeafTag, NodeTag, WriteNumber, ReadTag, ReadNumber, Call, Return, operationOf}
+use Rattle.meaning.specs.Instructions.{Instruction, Operation, Push, Get, Compute, Ifnot, Jump, Slide, Drop, LeafTag, NodeTag, WriteNumber, ReadTag, ReadNumber, Call, Return, operationOf}
 use Rattle.meaning.specs.Levels.{atLevel}
 use Rattle.meaning.specs.Performing.{Setting, Caller, State, wordsBelow, wordsStanding, callsOpen, Step, goes, ends, refuses, goTo, holding, reading, writing}
-use Rattle.meaning.specs.Performing.{popOne, popTwo, ifRoom, pushWord, write, onTag, takeNumber, openCall, kept, leave, operate, perform, step}
-use Rattle.meaning.specs.StreamRun.{StepRefusal, ended-there, not-a-tag, full, too-many, cannot, Within, Grows, OneStep}
+use Rattle.meaning.specs.Performing.{popOne, popTwo, ifRoom, pushWord, pushResult, write, onTag, takeNumber, openCall, kept, leave, operate, perform, step}
+use Rattle.meaning.specs.StreamRun.{StepRefusal, ended-there, not-a-tag, full, too-many, cannot, out-of-range, Within, Grows, OneStep}
 use Rattle.meaning.proofs.CannotPerform.{cannot-first}
 use Rattle.meaning.proofs.Stopping.{refused-exactly, ends-exactly}
 
@@ -135,7 +136,7 @@ module _ (P : Step → Type 0) where
   unfolding popTwo
   holds-two words f g h = holds-one words _ g (λ x under e. holds-one under _ g (λ y rest d. h x y rest (e ∙ ap suc d)))
 
--- ---- the outcome of an instruction is sound: the next state follows, a refusal is one of the five
+-- ---- the outcome of an instruction is sound: the next state follows, a refusal is one of the six
 
 abbrev Sound : Setting → State → Step → Type 0
 Sound m s (goes t) = Follows m s t
@@ -151,6 +152,12 @@ module _ (m : Setting) (s : State) where
   sound-push : (x : ℕ) → Sound m s (pushWord m x s)
   unfolding pushWord wordsStanding
   sound-push x = sound-room _ (λ h. follows-holding m s _ (x ∷ s .frame) (λ w. omega arith))
+
+  -- a result in place of two words
+  sound-result : (found : Option ℕ) (rest : List ℕ) → suc (length rest) ≤ length (s .frame) → Sound m s (pushResult found rest s)
+  unfolding pushResult
+  sound-result (some x) rest h = follows-fewer m s _ (x ∷ rest) h
+  sound-result none rest h = out-of-range
 
   -- bytes written, with no more words in the frame
   sound-write : (words bytes : List ℕ) → length words ≤ length (s .frame) → Sound m s (write m bytes (holding words s))
@@ -210,7 +217,7 @@ module _ (m : Setting) (s : State) where
   unfolding operate
   sound-operate (Push x) = sound-push x
   sound-operate (Get k) = holds-some (Sound m s) (atLevel (s .frame) k) _ cannot sound-push
-  sound-operate Add = holds-two (Sound m s) _ _ cannot (λ q p rest h. follows-fewer m s _ (sum32 p q ∷ rest) (omega arith))
+  sound-operate (Compute op) = holds-two (Sound m s) _ _ cannot (λ q p rest h. sound-result (resultOf op p q) rest (omega arith))
   sound-operate (Ifnot a) = holds-one (Sound m s) _ _ cannot (λ x rest h. follows-fewer m s _ rest (omega arith))
   sound-operate (Jump a) = follows-fewer m s a (s .frame) (le-refl _)
   sound-operate Slide = holds-two (Sound m s) _ _ cannot (λ x under rest h. follows-fewer m s _ (x ∷ rest) (omega arith))

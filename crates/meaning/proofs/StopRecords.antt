@@ -1,25 +1,28 @@
--- Where an evaluation stops: at the record of a Call among the program's nodes, or at 0 where no
--- call may be open at all.
+-- Where an evaluation stops: at a call too many at the record of a Call among the program's nodes,
+-- or at 0 where no call may be open at all; for want of a result at the record of its operation.
 --
--- Only `called` stops, at the record that it is given, and `evaluate` gives it that of a Call. This
--- is shown for any property P of records that each Call's has (`CallsAt`): what holds of the Calls
--- among the program's nodes holds of those in a function's body and in each part of an expression,
--- at the records that `evaluate` gives them. So a body stops only at records with P, by recursion
--- on the calls that may be open and, in a body, on the expression.
+-- The rules stop at two kinds of record (`StopsAtKind`). This is shown for any property P of
+-- reasons and records that each record of such a kind has (`Have`): what holds of the program's
+-- nodes holds of those of a function's body and of each part of an expression, at the records that
+-- the rules give them. So the record of a stop has P, by induction along the rules.
 use Prim.Native.Nat.{ℕ, zero, suc, _+_}
 use mathlib.Core.List.{List, [], _∷_, _++_, map}
-use mathlib.Core.Option.{Option, none, some, Option·some-injective, Option·none-ne-some}
-use mathlib.Core.Path.{_≡_, refl, subst, _∙_}
+use mathlib.Core.Option.{some, Option·some-injective, Option·none-ne-some}
+use mathlib.Core.Path.{_≡_, refl, _∙_}
 use native.Mathlib.Nat.{add-zero, zero-add, add-suc, suc-add, add-assoc}
+use native.Mathlib.Omega.{arith}
 use lib.ListN.{length, take}
+use Rattle.formats.specs.Arithmetic.{Op}
 use Rattle.formats.specs.Tokens.{Tree, leaf, node}
-use Rattle.formats.specs.Records.{Kind, Call, nth}
-use Rattle.formats.specs.Programs.{Expr, const, var, add, ifZero, letIn, leafOf, nodeOf, caseOf, call, Args, noArgs, arg, prefix, prefixes, size, sumOfCounts}
-use Rattle.formats.specs.Programs.{Function, signatureOf, Program, nodes}
-use Rattle.meaning.specs.Evaluation.{Value, number, Environment, treeNamed, inCall, resultNumber}
-use Rattle.meaning.specs.OpenCalls.{Outcome, gives, stops, begins, afterBegun, followedBy, treeOr, Handler, evaluate, evaluateArgs}
-use Rattle.meaning.specs.OpenCalls.{firstRecord, called, evaluation}
-use Rattle.meaning.specs.Meaning.{AtCall, none-open, a-call}
+use Rattle.formats.specs.Records.{Kind, Compute, Call, nth}
+use Rattle.formats.specs.Programs.{Expr, prefix, prefixes, size, sumOfCounts, Function, signatureOf, Program, nodes}
+use Rattle.meaning.specs.Evaluation.{Environment, picked, branch}
+use Rattle.meaning.specs.OpenCalls.{Reason, no-fuel, no-call, no-result, firstRecord}
+use Rattle.meaning.specs.Unfinished.{StopsIn, out-of-range, in-first, in-second, in-test, in-picked, in-named, in-body, in-label, in-left, in-right}
+use Rattle.meaning.specs.Unfinished.{in-branch, in-arguments, too-many, in-call, in-this, in-later, StopsOn, none-open, in-first-call, Breaks}
+use Rattle.meaning.specs.Unfinished.{pickedRecord, branchRecord}
+use Rattle.meaning.specs.Meaning.{AtCall, a-call, AtOperation, an-operation, BreaksWithin}
+use Rattle.meaning.proofs.Unfinished.{stops-open}
 
 -- ---- entries of joined lists
 
@@ -36,152 +39,138 @@ unfolding nth
 nth-right [] ys k = rw zero-add
 nth-right (x ∷ xs) ys k = rw suc-add (nth-right xs ys k)
 
-module _ (P : ℕ → Type 0) where
-  -- ---- records of Calls
+-- Why an evaluation may stop at a record of this kind.
+data StopsAtKind : Kind → Reason → Type 0 where
+  at-a-call : {a b : ℕ} → StopsAtKind (Call a b) no-call
+  at-an-operation : {op : Op} {i j : ℕ} → StopsAtKind (Compute op) (no-result op i j)
 
-  -- Each Call among these has a record with the property, where the first of them is record r.
-  record CallsAt (r : ℕ) (ks : List Kind) : Type 0 where
-    each : (k a b : ℕ) → nth ks k ≡ some (Call a b) → P (r + k)
+module _ (P : Reason → ℕ → Type 0) where
+  -- ---- records at which an evaluation may stop
 
-  -- the first has, where it is a Call ..
-  calls-first : {r a b : ℕ} {ks : List Kind} → CallsAt r (Call a b ∷ ks) → P r
+  -- Each of these has the property, where the first of them is record r.
+  record Have (r : ℕ) (ks : List Kind) : Type 0 where
+    each : (k : ℕ) (kind : Kind) (why : Reason) → nth ks k ≡ some kind → StopsAtKind kind why → P why (r + k)
+
+  -- the first has ..
+  first-has : {r : ℕ} {kind : Kind} {ks : List Kind} {why : Reason} → Have r (kind ∷ ks) → StopsAtKind kind why → P why r
   unfolding nth
-  calls-first {r} {a} {b} c = rw add-zero at (c .each 0 a b refl)
+  first-has {kind = kind} {why = why} h stop = rw add-zero at (h .each 0 kind why refl stop)
 
-  -- .. so has each Call after the first ..
-  calls-after : {r : ℕ} {kind : Kind} {ks : List Kind} → CallsAt r (kind ∷ ks) → CallsAt (suc r) ks
+  -- .. so has each after the first ..
+  others-have : {r : ℕ} {kind : Kind} {ks : List Kind} → Have r (kind ∷ ks) → Have (suc r) ks
   unfolding nth
-  calls-after c = record { each = λ k a b e. rw (suc-add, ← add-suc) (c .each (suc k) a b e) }
+  others-have h = record { each = λ k kind why e stop. rw (suc-add, ← add-suc) (h .each (suc k) kind why e stop) }
 
   -- .. each in a part of them ..
-  calls-parts : {r : ℕ} (us vs : List Kind) → CallsAt r (us ++ vs) → CallsAt r us × CallsAt (r + length us) vs
-  calls-parts us vs c = (
-    record { each = λ k a b e. c .each k a b (nth-left us vs k e) },
-    record { each = λ k a b e. rw add-assoc (c .each (length us + k) a b (nth-right us vs k ∙ e)) },
+  parts-have : {r : ℕ} (us vs : List Kind) → Have r (us ++ vs) → Have r us × Have (r + length us) vs
+  parts-have us vs h = (
+    record { each = λ k kind why e stop. h .each k kind why (nth-left us vs k e) stop },
+    record { each = λ k kind why e stop. rw add-assoc (h .each (length us + k) kind why (nth-right us vs k ∙ e) stop) },
   )
 
   -- .. and each in a function's body, where it is so for the nodes
-  calls-body :
+  body-has :
       {r : ℕ} (fs : List Function) (b : ℕ) {f : Function}
       → nth fs b ≡ some f
-      → CallsAt r (nodes fs)
-      → CallsAt (r + sumOfCounts (take b (map signatureOf fs))) (prefix (f .body))
+      → Have r (nodes fs)
+      → Have (r + sumOfCounts (take b (map signatureOf fs))) (prefix (f .body))
   unfolding nth nodes sumOfCounts signatureOf size
-  calls-body [] b {f} e c = absurd (Option·none-ne-some f e)
-  calls-body (g ∷ fs) zero {f} e c = rw (← Option·some-injective g f e, add-zero) (calls-parts (prefix (g .body)) (nodes fs) c .0)
-  calls-body (g ∷ fs) (suc b) e c = rw (← add-assoc) (calls-body fs b e (calls-parts (prefix (g .body)) (nodes fs) c .1))
+  body-has [] b {f} e h = absurd (Option·none-ne-some f e)
+  body-has (g ∷ fs) zero {f} e h = rw (← Option·some-injective g f e, add-zero) (parts-have (prefix (g .body)) (nodes fs) h .0)
+  body-has (g ∷ fs) (suc b) e h = rw (← add-assoc) (body-has fs b e (parts-have (prefix (g .body)) (nodes fs) h .1))
 
-  -- ---- where an outcome stops
+  -- ---- where an expression stops
 
-  -- If it stops, then at a record with the property.
-  data StopsAt {A : Type 0} : Outcome A → Type 0 where
-    no-stop : {x : A} → StopsAt (gives x)
-    at-stop : {why r : ℕ} → P r → StopsAt (stops why r)
-    later : {o : Outcome A} → StopsAt o → StopsAt (begins o)
+  -- the part that IfZero picks, and that which Case takes
+  picked-has : (i r : ℕ) (t z w : Expr) → Have (suc r) (prefix t ++ (prefix z ++ prefix w)) → Have (pickedRecord i r t z) (prefix (picked i z w))
+  unfolding picked pickedRecord size
+  picked-has zero r t z w h = parts-have (prefix z) (prefix w) (parts-have (prefix t) _ h .1) .0
+  picked-has (suc i) r t z w h = parts-have (prefix z) (prefix w) (parts-have (prefix t) _ h .1) .1
 
-  -- the record at which it stops has the property
-  stop-has : (n why r : ℕ) → StopsAt {A = Value} (afterBegun n (stops why r)) → P r
-  unfolding afterBegun
-  stop-has zero why r (at-stop h) = h
-  stop-has (suc n) why r (later h) = stop-has n why r h
+  branch-has : (t : Tree) (r : ℕ) (p q : Expr) → Have (suc r) (prefix p ++ prefix q) → Have (branchRecord t r p) (prefix (branch t p q))
+  unfolding branch branchRecord size
+  branch-has (leaf x) r p q h = parts-have (prefix p) (prefix q) h .0
+  branch-has (node left right) r p q h = parts-have (prefix p) (prefix q) h .1
 
-  -- what follows a value stops likewise ..
-  stops-next : {A B : Type 0} {o : Outcome A} {f : A → Outcome B} → StopsAt o → ((x : A) → StopsAt (f x)) → StopsAt (followedBy o f)
-  unfolding followedBy
-  stops-next (no-stop {x = x}) g = g x
-  stops-next (at-stop h) g = at-stop h
-  stops-next (later h) g = later (stops-next h g)
+  -- where the program's nodes have the property, and the expression's own, so has the record at
+  -- which it stops
+  stop-has :
+      {program : Program} {E : Environment} {r : ℕ} {e : Expr} {o n : ℕ} {why : Reason} {x : ℕ}
+      → Have (suc (length (program .functions))) (nodes (program .functions))
+      → StopsIn program E r e o n why x
+      → Have r (prefix e)
+      → P why x
+  unfolding prefix size firstRecord
+  stop-has {program} all s =
+      elim s as (λ E r e o n why x s. Have r (prefix e) → P why x) (λ E r xs o n before why x s. Have r (prefixes xs) → P why x) [
+        | out-of-range d₁ d₂ missing ↦ λ h. first-has h at-an-operation
+        | in-first {p = p} {q = q} (s → has) ↦ λ h. has (parts-have (prefix p) (prefix q) (others-have h) .0)
+        | in-second {p = p} {q = q} d (s → has) ↦ λ h. has (parts-have (prefix p) (prefix q) (others-have h) .1)
+        | in-test {t = t} (s → has) ↦ λ h. has (parts-have (prefix t) _ (others-have h) .0)
+        | in-picked {r = r} {t = t} {z = z} {w = w} {i = i} d (s → has) ↦ λ h. has (picked-has i r t z w (others-have h))
+        | in-named {p = p} {body = body} (s → has) ↦ λ h. has (parts-have (prefix p) (prefix body) (others-have h) .0)
+        | in-body {p = p} {body = body} d (s → has) ↦ λ h. has (parts-have (prefix p) (prefix body) (others-have h) .1)
+        | in-label (s → has) ↦ λ h. has (others-have h)
+        | in-left {p = p} {q = q} (s → has) ↦ λ h. has (parts-have (prefix p) (prefix q) (others-have h) .0)
+        | in-right {p = p} {q = q} d (s → has) ↦ λ h. has (parts-have (prefix p) (prefix q) (others-have h) .1)
+        | in-branch {r = r} {p = p} {q = q} {t = t} named (s → has) ↦ λ h. has (branch-has t r p q (others-have h))
+        | in-arguments (s → has) ↦ λ h. has (others-have h)
+        | too-many ds ↦ λ h. first-has h at-a-call
+        | in-call {b = b} ds named known (s → has) ↦ λ h. has (body-has (program .functions) b known all)
+        | in-this {y = y} {xs = xs} (s → has) ↦ λ h. has (parts-have (prefix y) (prefixes xs) h .0)
+        | in-later {y = y} {xs = xs} d (s → has) ↦ λ h. has (parts-have (prefix y) (prefixes xs) h .1)
+      ]
 
-  -- .. so do two parts whose values are combined ..
-  stops-both : {o p : Outcome Value} (f : Value → Value → Value) → StopsAt o → StopsAt p → StopsAt (followedBy o (λ x. followedBy p (λ y. gives (f x y))))
-  stops-both f h g = stops-next h (λ x. stops-next g (λ y. no-stop))
+-- ---- where an evaluation stops
 
-  -- .. the part that a number picks ..
-  stops-picked : (i : ℕ) {o p : Outcome Value} → StopsAt o → StopsAt p → StopsAt {A = Value} (elim i [ zero ↦ o | suc j ↦ p ])
-  stops-picked zero h g = h
-  stops-picked (suc j) h g = g
+-- A record among the program's nodes, of a kind at which an evaluation stops for this reason.
+data AtNode (program : Program) : Reason → ℕ → Type 0 where
+  at-node :
+      {why : Reason} (k : ℕ) (kind : Kind)
+      → nth (nodes (program .functions)) k ≡ some kind
+      → StopsAtKind kind why
+      → AtNode program why (suc (length (program .functions)) + k)
 
-  -- .. and that which a tree picks
-  stops-branch :
-      (t : Tree) {f : ℕ → Outcome Value} {g : Tree → Tree → Outcome Value}
-      → ((x : ℕ) → StopsAt (f x))
-      → ((left right : Tree) → StopsAt (g left right))
-      → StopsAt {A = Value} (elim t [ leaf x ↦ f x | node left right ↦ g left right ])
-  stops-branch (leaf x) h g = h x
-  stops-branch (node left right) h g = g left right
+module _ (program : Program) where
+  -- a body stops at such a record
+  body-stops :
+      {E : Environment} {o n : ℕ} {why : Reason} {q : ℕ} (b : ℕ) {f : Function}
+      → nth (program .functions) b ≡ some f
+      → StopsIn program E (firstRecord program b) (f .body) o n why q
+      → AtNode program why q
+  unfolding firstRecord
+  body-stops b known s =
+      let all : Have (AtNode program) (suc (length (program .functions))) (nodes (program .functions)) =
+      record { each = λ k kind why is stop. at-node k kind is stop } in
+      stop-has (AtNode program) all s (body-has (AtNode program) (program .functions) b known all)
 
-  -- Given a record with the property, a call stops at none without it.
-  abbrev Held : Handler → Type 0
-  Held h = (r b : ℕ) (numbers : List ℕ) (t : Tree) → P r → StopsAt (h r b numbers t)
+  -- a call too many is at the record of a Call, or at 0 where no call may be open ..
+  pub at-call : (t : Tree) (o n q : ℕ) → StopsOn program t o n no-call q → AtCall program o q
+  at-call t o n q none-open = AtCall.none-open
+  at-call t zero n q (in-first-call known s) = absurd (let open-call = stops-open s in omega arith)
+  at-call t (suc o) n q (in-first-call known s) = of-node (body-stops 0 known s)
+    where
+      of-node : {q : ℕ} → AtNode program no-call q → AtCall program (suc o) q
+      of-node (at-node k _ is (at-a-call {a = a} {b = b})) = a-call k a b is
 
-  module _ (h : Handler) (held : Held h) where
-    mutual
-      unfolding evaluate prefix size
+  -- .. an evaluation breaks at the record of its operation ..
+  pub at-operation : (t : Tree) (o n : ℕ) (op : Op) (i j q : ℕ) → Breaks program t o n op i j q → AtOperation program op q
+  at-operation t o n op i j q (in-first-call known s) = of-node (body-stops 0 known s)
+    where
+      of-node : {q : ℕ} → AtNode program (no-result op i j) q → AtOperation program op q
+      of-node (at-node k _ is at-an-operation) = an-operation k is
 
-      -- an expression whose Calls have the property
-      evaluate-stops : (E : Environment) (r : ℕ) (e : Expr) → CallsAt r (prefix e) → StopsAt (evaluate h E r e)
-      evaluate-stops E r (const i) c = later no-stop
-      evaluate-stops E r (var a) c = later no-stop
-      evaluate-stops E r (add p q) c =
-          let parts = calls-parts (prefix p) (prefix q) (calls-after c) in
-          later (stops-both _ (evaluate-stops E _ p (parts .0)) (evaluate-stops E _ q (parts .1)))
-      evaluate-stops E r (ifZero t z o) c =
-          let parts = calls-parts (prefix t) (prefix z ++ prefix o) (calls-after c) in
-          let others = calls-parts (prefix z) (prefix o) (parts .1) in
-          later
-          (stops-next (evaluate-stops E _ t (parts .0))
-          (λ x. stops-picked (resultNumber x) (evaluate-stops E _ z (others .0)) (evaluate-stops E _ o (others .1))))
-      evaluate-stops E r (letIn p body) c =
-          let parts = calls-parts (prefix p) (prefix body) (calls-after c) in
-          later (stops-next (evaluate-stops E _ p (parts .0)) (λ x. evaluate-stops _ _ body (parts .1)))
-      evaluate-stops E r (leafOf p) c = later (stops-next (evaluate-stops E _ p (calls-after c)) (λ x. no-stop))
-      evaluate-stops E r (nodeOf p q) c =
-          let parts = calls-parts (prefix p) (prefix q) (calls-after c) in
-          later (stops-both _ (evaluate-stops E _ p (parts .0)) (evaluate-stops E _ q (parts .1)))
-      evaluate-stops E r (caseOf a p q) c =
-          let parts = calls-parts (prefix p) (prefix q) (calls-after c) in
-          later (stops-branch (treeOr (treeNamed E a)) (λ x. evaluate-stops _ _ p (parts .0)) (λ left right. evaluate-stops _ _ q (parts .1)))
-      evaluate-stops E r (call a b xs) c =
-          later (stops-next (args-stop E _ xs [] (calls-after c)) (λ numbers. held r b numbers _ (calls-first c)))
+  -- .. and none stops for want of fuel, which the rules do not know
+  pub not-for-fuel : (t : Tree) (o n q : ℕ) → StopsOn program t o n no-fuel q → ⊥
+  not-for-fuel t o n q (in-first-call known s) = of-node (body-stops 0 known s)
+    where
+      no-kind : (kind : Kind) → StopsAtKind kind no-fuel → ⊥
+      no-kind kind = elim [ ]
 
-      -- arguments whose Calls have it
-      args-stop : (E : Environment) (r : ℕ) (xs : Args) (numbers : List ℕ) → CallsAt r (prefixes xs) → StopsAt (evaluateArgs h E r xs numbers)
-      args-stop E r noArgs numbers c = no-stop
-      args-stop E r (arg x xs) numbers c =
-          let parts = calls-parts (prefix x) (prefixes xs) c in
-          stops-next (evaluate-stops E r x (parts .0)) (λ v. args-stop E _ xs _ (parts .1))
+      of-node : {q : ℕ} → AtNode program no-fuel q → ⊥
+      of-node (at-node k kind is stop) = no-kind kind stop
 
-  module _ (program : Program) (all : CallsAt (suc (length (program .functions))) (nodes (program .functions))) where
-    -- a call that may be opened stops only in its body
-    body-stops :
-        (calls : ℕ)
-        → Held (called program calls)
-        → (r b : ℕ) (numbers : List ℕ) (t : Tree)
-        → StopsAt (called program (suc calls) r b numbers t)
-    unfolding called firstRecord
-    body-stops calls held r b numbers t = by-function (nth (program .functions) b) refl
-      where
-        by-function :
-            (o : Option Function)
-            → nth (program .functions) b ≡ o
-            → StopsAt {A = Value} (elim o [
-              | none ↦ gives (number 0)
-              | some f ↦ evaluate (called program calls) (inCall numbers t) (firstRecord program b) (f .body)
-            ])
-        by-function none e = no-stop
-        by-function (some f) e = evaluate-stops (called program calls) held (inCall numbers t) _ (f .body) (calls-body (program .functions) b e all)
-
-    -- one that may not be opened stops at the record that it is given
-    calls-held : (calls : ℕ) → Held (called program calls)
-    unfolding called
-    calls-held zero r b numbers t here = at-stop here
-    calls-held (suc calls) r b numbers t here = body-stops calls (calls-held calls) r b numbers t
-
--- the record of a stop is that of a Call, or 0 where no call may be open
-pub at-call : (program : Program) (t : Tree) (o n why r : ℕ) → evaluation program o t ≡ afterBegun n (stops why r) → AtCall program o r
-unfolding evaluation called
-at-call program t zero n why r e = stop-has (AtCall program 0) n why r (subst (StopsAt (AtCall program 0)) e (at-stop none-open))
-at-call program t (suc o) n why r e =
-    let P : ℕ → Type 0 = AtCall program (suc o) in
-    let all : CallsAt P (suc (length (program .functions))) (nodes (program .functions)) = record { each = λ k a b is. a-call k a b is } in
-    stop-has P n why r (subst (StopsAt P) e (body-stops P program all o (calls-held P program all o) 0 0 [] t))
+-- so an evaluation that breaks does so at the record of its operation
+abbrev pub breaks-within : (program : Program) (t : Tree) (o n : ℕ) (op : Op) (i j q : ℕ) → Breaks program t o n op i j q → BreaksWithin program t o
+breaks-within program t o n op i j q b =
+    record { expressions = n; op = op; left = i; right = j; position = q; breaks = b; is-operation = at-operation program t o n op i j q b }

@@ -4,25 +4,26 @@
 -- be performed.
 use Prim.Native.Nat.{ℕ, suc}
 use mathlib.Core.Bool.{Bool, true, false}
-use mathlib.Core.List.{List, [], _∷_}
+use mathlib.Core.List.{List, [], _∷_, map}
 use mathlib.Core.Logic.{_↔_}
 use mathlib.Core.Path.{_≡_, refl, ap, subst, _∙_}
 use native.Mathlib.Omega.{arith}
 use borrow.Author.Tests.{le-ltb, lt-leb}
 use lib.Dec.{leb, ltb}
 use lib.ListN.{length}
-use Rattle.formats.specs.Refusals.{inputEnded, notATag, outputFull, tooManyCalls, cannotPerform}
+use Rattle.formats.specs.Refusals.{inputEnded, notATag, outputFull, tooManyCalls, cannotPerform, outOfRange}
 use Rattle.formats.specs.Tokens.{labelBytes, tagOf, tagAt}
-use Rattle.formats.specs.Numbers.{bytesOf, numberOf, numberAt}
+use Rattle.formats.specs.Numbers.{bytesOf, numberOf, numberAt, signed32}
+use Rattle.formats.specs.Arithmetic.{unbounded, wordFor, resultOf}
 use Rattle.formats.specs.Records.{nth, bytesOfRecord, recordAt}
 use Rattle.formats.proofs.Numbers.{length-bytesOf}
 use Rattle.formats.proofs.Tokens.{past, at-other, tag-is}
-use Rattle.meaning.specs.Instructions.{Operation, LeafTag, NodeTag, WriteNumber, ReadTag, ReadNumber, Call, Return, heldBy, operations, operationOf, instructionOf}
+use Rattle.meaning.specs.Instructions.{Operation, Add, LeafTag, NodeTag, WriteNumber, ReadTag, ReadNumber, Call, Return, heldBy, operations, operationOf, instructionOf}
 use Rattle.meaning.specs.Performing.{Setting, State, wordsBelow, wordsStanding, callsOpen, Step, goes, ends, refuses}
-use Rattle.meaning.specs.Performing.{popOne, ifRoom, write, onTag, takeNumber, openCall, kept, numberKept, leave, operate, perform, step}
+use Rattle.meaning.specs.Performing.{popOne, popTwo, ifRoom, pushResult, write, onTag, takeNumber, openCall, kept, numberKept, leave, operate, perform, step}
 use Rattle.meaning.specs.Running.{ofCode}
 use Rattle.meaning.specs.CannotPerform.{Fetches, fetched, CannotPerform}
-use Rattle.meaning.specs.Stopping.{Prevented, no-tag, no-label, no-such-tag, no-room-for-leaf, no-room-for-node, no-room-for-number, all-open, Refused, cannot, prevented, ReturnsFirst, none-kept, one-kept}
+use Rattle.meaning.specs.Stopping.{Prevented, no-tag, no-label, no-such-tag, no-room-for-leaf, no-room-for-node, no-room-for-number, all-open, no-result, Refused, cannot, prevented, ReturnsFirst, none-kept, one-kept}
 use Rattle.meaning.proofs.CannotPerform.{Exactly, stuck, going, ending, refused, exactly-step, cannot-first, numberIn, zero-words, waiting, standing-at}
 
 module _ (m : Setting) (s : State) where
@@ -37,7 +38,7 @@ module _ (m : Setting) (s : State) where
   by-rule (stuck c) = cannot c
   by-rule (going h) = tt
   by-rule (ending x h) = x
-  by-rule (refused x below h) = x
+  by-rule (refused x differs h) = x
 
   -- ---- from a rule to the outcome of the instruction
 
@@ -66,7 +67,7 @@ module _ (m : Setting) (s : State) where
   finished-one (x ∷ rest) f can e is = e ∙ is x rest
 
   stops : {op : Operation} {number : ℕ} → (CannotPerform m s → ⊥) → Fetches m s op → Prevented m s op number → step m s ≡ refuses number
-  unfolding operate ifRoom write onTag takeNumber openCall
+  unfolding operate popOne popTwo pushResult ifRoom write onTag takeNumber openCall
   stops can f (no-tag h) = step-fetched f ∙ simp (operate, onTag, tag-is {s = m .input} {p = s .read} (past h))
   stops can f (no-such-tag there no-leaf no-node) = step-fetched f ∙ simp (operate, onTag, tag-is {s = m .input} {p = s .read} (at-other there no-leaf no-node))
   stops can f (no-label h) = passed-test (ltb (wordsStanding s) (m .mostWords)) (takeNumber m s) can (step-fetched f) (simp (takeNumber, lt-leb _ _ h))
@@ -76,6 +77,7 @@ module _ (m : Setting) (s : State) where
       finished-one (s .frame) _ can (step-fetched f) (λ x rest. simp (write, length-bytesOf labelBytes x, lt-leb _ _ h))
   stops can f (all-open {entry = entry} {n = n} h) =
       passed-test (leb n (length (s .frame))) (openCall m entry n s) can (step-fetched f) (simp (openCall, le-ltb _ _ h))
+  stops can f (no-result is missing) = step-fetched f ∙ simp (operate, is, missing)
 
   stops-so : {number : ℕ} → Refused m s number → step m s ≡ refuses number
   stops-so (cannot c) = cannot-first m s .1 c
@@ -136,6 +138,24 @@ derivations = (
   refused-exactly _ _ _ .0 refl,
   refused-exactly _ _ _ .0 refl,
 )
+
+-- At address 0 in the first frame, with these words.
+holding-words : List ℕ → State
+holding-words words = record { address = 0; frame = words; callers = []; read = 0; output = [] }
+
+-- An add at the limits of 32 bits: what it is refused with, and 0 where it is not. 4294967295 is
+-- −1. Where a word is missing it is 19, whatever the other is.
+sum-limits :
+    map (λ words. numberIn (step (alone-with Add [] 0) (holding-words words)))
+    ((0 ∷ 2147483647 ∷ []) ∷ (1 ∷ 2147483647 ∷ []) ∷ (2147483647 ∷ 1 ∷ []) ∷ (0 ∷ 2147483648 ∷ []) ∷ (4294967295 ∷ 2147483648 ∷ [])
+    ∷ (4294967295 ∷ 1 ∷ []) ∷ (2147483647 ∷ []) ∷ [] ∷ [])
+    ≡ 0 ∷ 21 ∷ 21 ∷ 0 ∷ 21 ∷ 0 ∷ 19 ∷ 19 ∷ []
+unfolding alone-with holding-words numberIn step perform operate heldBy operationOf operations instructionOf nth recordAt bytesOfRecord bytesOf numberOf numberAt popOne popTwo pushResult resultOf unbounded wordFor signed32
+sum-limits = refl
+
+sum-refused : Refused (alone-with Add [] 0) (holding-words (1 ∷ 2147483647 ∷ [])) outOfRange
+unfolding alone-with holding-words step perform operate heldBy operationOf operations instructionOf nth recordAt bytesOfRecord bytesOf numberOf numberAt popOne popTwo pushResult resultOf unbounded wordFor signed32
+sum-refused = refused-exactly _ _ _ .0 refl
 
 -- At address 0 in the first frame, with two words.
 first-frame : State

@@ -3,9 +3,10 @@ use Prim.Native.Nat.{ℕ}
 use mathlib.Core.List.{[], _∷_, map}
 use mathlib.Core.Option.{Option, none, some}
 use mathlib.Core.Path.{_≡_, refl, sym, ap, _∙_}
+use Rattle.formats.specs.Arithmetic.{plus}
 use Rattle.formats.specs.Records.{fields, nth}
 use Rattle.formats.proofs.Records.{nth-mapped, none-past}
-use Rattle.meaning.specs.Instructions.{Instruction, Operation, Push, Get, Add, Ifnot, Jump, Slide, Drop, LeafTag, NodeTag, WriteNumber, ReadTag, ReadNumber, Call, Return, operations, operationOf, instructionOf, usedFields, unusedZeroed}
+use Rattle.meaning.specs.Instructions.{Instruction, Operation, Push, Get, Compute, Ifnot, Jump, Slide, Drop, LeafTag, NodeTag, WriteNumber, ReadTag, ReadNumber, Call, Return, operations, operationOf, instructionOf, usedFields, unusedZeroed}
 use Rattle.meaning.specs.StreamRun.{StreamRun}
 use Rattle.meaning.proofs.CannotPerform.{past-end}
 use Rattle.meaning.proofs.Steps.{one-step}
@@ -17,7 +18,7 @@ pub reads-back : (op : Operation) → operationOf (instructionOf op) ≡ some op
 unfolding operationOf instructionOf operations nth
 reads-back (Push n) = refl
 reads-back (Get k) = refl
-reads-back Add = refl
+reads-back (Compute plus) = refl
 reads-back (Ifnot a) = refl
 reads-back (Jump a) = refl
 reads-back Slide = refl

@@ -17,13 +17,13 @@ use borrow.Author.Tests.{eqb-true, eqb-false}
 use Rattle.formats.specs.Tokens.{Tree, leaf as aLeaf, node as aNode}
 use Rattle.formats.specs.Records.{nth}
 use Rattle.formats.specs.Programs.{Expr, Sort, Function, Program}
-use Rattle.rules.specs.Printed.{Name, numberName, treeName, functionName, Term, int, lam, name, app, plus, fix, leafTerm, nodeTerm, case, let-01, ifZero-01}
+use Rattle.rules.specs.Printed.{Name, numberName, treeName, functionName, Term, int, lam, name, app, computeTerm, fix, leafTerm, nodeTerm, case, let-01, ifZero-01}
 use Rattle.rules.specs.Printed.{termOf, applied, lams, functionTerm}
 use Rattle.meaning.specs.Levels.{atLevel}
 use Rattle.meaning.specs.Evaluation.{Environment, withNumber, withTrees, inCall}
 use Rattle.meaning.specs.Reductions.{Substitution, sameName, only, both, without, replaced, substitute, fixOf, fixes, fixing, treeTerm}
 use Rattle.meaning.proofs.Levels.{level-newest, level-older}
-use Rattle.meaning.proofs.Proper.{Proper, proper-const, proper-var, proper-add, proper-ifZero, proper-let, proper-leaf, proper-node, proper-case}
+use Rattle.meaning.proofs.Proper.{Proper, proper-const, proper-var, proper-compute, proper-ifZero, proper-let, proper-leaf, proper-node, proper-case}
 use Rattle.meaning.proofs.Proper.{proper-call, proper-none, proper-arg, ProperProgram}
 
 -- ---- names that are not replaced
@@ -87,7 +87,7 @@ unfolding substitute termOf replaced
 scoped d = elim d as (λ g n s e d. Scoped g n (termOf g n e)) (λ g n j xs d. (M : Term) → Scoped g n M → Scoped g n (applied g n M xs)) [
   | proper-const i ↦ λ τ k. refl
   | proper-var {a} a< ↦ λ τ k. rw (k .numbers a a<)
-  | proper-add (d₁ → h₁) (d₂ → h₂) ↦ λ τ k. ap₂ plus (h₁ τ k) (h₂ τ k)
+  | proper-compute {op = op} (d₁ → h₁) (d₂ → h₂) ↦ λ τ k. ap₂ (computeTerm op) (h₁ τ k) (h₂ τ k)
   | proper-ifZero (d₁ → h₁) (d₂ → h₂) (d₃ → h₃) ↦ λ τ k. rw (h₁ τ k, h₂ τ k, h₃ τ k)
   | proper-let {g} (d₁ → h₁) (d₂ → h₂) ↦ λ τ k. ap₂ (let-01 (numberName g)) (h₁ τ k) (h₂ _ (keeps-number k))
   | proper-leaf (d → h) ↦ λ τ k. ap leafTerm (h τ k)
@@ -163,7 +163,7 @@ joined (name x) {σ} {τ} {ρ} j = in-the-end (j .names x) refl
     in-the-end (by-first closed) e = closed τ (j .functions)
     in-the-end by-second e = ap (replaced x) e
 joined (app M N) j = ap₂ app (joined M j) (joined N j)
-joined (plus M N) j = ap₂ plus (joined M j) (joined N j)
+joined (computeTerm op M N) j = ap₂ (computeTerm op) (joined M j) (joined N j)
 joined (fix f M) j = ap (fix f) (joined M (joins-under f j))
 joined (leafTerm M) j = ap leafTerm (joined M j)
 joined (nodeTerm M N) j = ap₂ nodeTerm (joined M j) (joined N j)

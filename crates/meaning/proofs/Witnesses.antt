@@ -1,13 +1,15 @@
--- Witnesses: programs that pass pass one, in and out of order, whose evaluation ends, and one whose
--- evaluation is endless. So what is proved of such programs (Meaning) is not empty.
+-- Witnesses: programs that pass pass one, in and out of order, whose evaluation ends, one whose
+-- evaluation breaks at a sum, and one whose evaluation is endless. So what is proved of such
+-- programs (Meaning) is not empty.
 use Prim.Native.Nat.{ℕ, zero, suc}
-use mathlib.Core.List.{[]}
+use mathlib.Core.List.{[], _∷_}
 use mathlib.Core.Option.{some}
 use mathlib.Core.Path.{_≡_, refl, sym, ap, _∙_}
+use native.Mathlib.Omega.{arith}
 use lib.Dec.{lit<, lit≤}
-use Rattle.formats.specs.Numbers.{sum32}
-use Rattle.formats.specs.Refusals.{tooManyCalls}
-use Rattle.formats.specs.Tokens.{Tree, leaf, node}
+use Rattle.formats.specs.Numbers.{bytesOf, signed32}
+use Rattle.formats.specs.Arithmetic.{Op, plus, unbounded, wordFor, resultOf}
+use Rattle.formats.specs.Tokens.{Tree, leaf, node, tokens}
 use Rattle.formats.specs.Records.{nth}
 use Rattle.formats.specs.Programs.{prefix, prefixes, size, arityOf, countArgs, signatureOf, sumOfCounts, Function, Program, mostParameters}
 use Rattle.formats.proofs.Results.{then-inv}
@@ -18,11 +20,12 @@ use Rattle.rules.specs.PassOne.{nameBound, typeFits, bareNumber, wordsTested, h
 use Rattle.rules.specs.PassTwo.{bothPasses}
 use Rattle.rules.proofs.Cases.{numbered, treed, programOf, on, grow-passes, swap, swap-lawful, swap-verdicts}
 use Rattle.meaning.specs.Levels.{atLevel}
-use Rattle.meaning.specs.Evaluation.{Value, tree, Ends, resultNumber}
-use Rattle.meaning.specs.OpenCalls.{gives, stops, begins, afterBegun, followedBy, numberOr, treeOr, resultTree, evaluate, evaluateArgs, firstRecord, called, evaluation}
+use Rattle.meaning.specs.Evaluation.{Value, tree, Const, Var, Compute, Leaf, Case, Call, no-more, Ends, branch, inBranch, resultNumber, caseUnits, counted}
+use Rattle.meaning.specs.OpenCalls.{no-call, no-result, refusalOf, gives, stops, begins, afterBegun, followedBy, numberOr, treeOr, resultTree, computed, evaluate, evaluateArgs, firstRecord, called, evaluation}
+use Rattle.meaning.specs.Unfinished.{branchRecord, out-of-range, in-label, in-right, in-branch, in-call, in-first-call, Breaks, branchUnits, unitsUntil, bytesUntil, stopUnits, stopBytes}
 use Rattle.meaning.specs.Reductions.{valueTerm, programOn}
-use Rattle.meaning.specs.Meaning.{PassesOne, Endless, Reaches}
-use Rattle.meaning.proofs.Outcomes.{gives-not}
+use Rattle.meaning.specs.Meaning.{PassesOne, Endless, Reaches, GetsStuck}
+use Rattle.meaning.proofs.Outcomes.{gives-not, one-stop}
 use Rattle.meaning.proofs.Meaning.{meaning}
 use Rattle.meaning.proofs.MeaningCases.{two-leaves, again}
 
@@ -53,15 +56,44 @@ witness program calls begun v first passes is-first gives-it =
     }
 
 -- Grow, which passes both passes
+grow-checked : PassesOne grow
+unfolding bothPasses
+grow-checked = record { lawful = grow-lawful; passes = then-inv (passOne grow) _ tt grow-passes .first }
+
 grow-witness : Witness grow 2 14 (tree (node (leaf 6) (leaf 8)))
-unfolding bothPasses evaluation called evaluate evaluateArgs followedBy afterBegun resultNumber resultTree numberOr treeOr atLevel sum32 nth firstRecord sumOfCounts signatureOf size prefix prefixes grow two-leaves
-grow-witness =
-    witness grow 2 14 _ _ (record { lawful = grow-lawful; passes = then-inv (passOne grow) _ tt grow-passes .first }) refl refl
+unfolding evaluation called evaluate evaluateArgs followedBy afterBegun resultNumber resultTree numberOr treeOr atLevel signed32 unbounded wordFor resultOf computed nth firstRecord sumOfCounts signatureOf size prefix prefixes grow two-leaves
+grow-witness = witness grow 2 14 _ _ grow-checked refl refl
 
 -- its parts exchanged, which pass two refuses
 swap-witness : Witness swap 2 10 (tree (node (leaf 7) (leaf 5)))
 unfolding evaluation called evaluate evaluateArgs followedBy afterBegun resultNumber resultTree numberOr treeOr atLevel nth firstRecord sumOfCounts signatureOf size prefix prefixes swap treed programOf on two-leaves
 swap-witness = witness swap 2 10 _ _ (record { lawful = swap-lawful; passes = swap-verdicts .0 }) refl refl
+
+-- ---- one that breaks
+
+-- Grow where the right leaf's label is the largest number.
+full : Tree
+full = node (leaf 5) (leaf 2147483647)
+
+-- the left leaf is given, the Add for the right one breaks, after all 14 expressions
+grow-breaks : Breaks grow full 2 14 plus 2147483647 1 4
+unfolding signed32 unbounded wordFor resultOf atLevel nth branch branchRecord inBranch firstRecord sumOfCounts signatureOf size prefix prefixes grow full
+grow-breaks =
+    in-first-call refl
+    (in-branch refl
+    (in-right
+    (Call no-more refl refl (Case refl (Leaf (Compute (Var refl) Const refl))))
+    (in-call no-more refl refl (in-branch refl (in-label (out-of-range (Var refl) Const refl))))))
+
+-- What Grow's code has done by then: the units and bytes that its stream run reports (Cases:
+-- summed).
+grow-broken : (stopUnits grow-breaks ≡ 19) × (stopBytes grow-breaks ≡ 2 ∷ 1 ∷ 6 ∷ 0 ∷ 0 ∷ 0 ∷ 1 ∷ [])
+unfolding stopUnits stopBytes unitsUntil bytesUntil branchUnits caseUnits counted tokens bytesOf grow-breaks
+grow-broken = (refl, refl)
+
+-- the reductions get stuck there
+grow-stuck : (first : Function) → nth (grow .functions) 0 ≡ some first → GetsStuck grow (programOn first full) plus 2147483647 1
+grow-stuck first is-first = meaning .reductions grow .agrees first full grow-checked is-first .gets-stuck 2 14 plus 2147483647 1 4 grow-breaks
 
 -- ---- one that is endless
 
@@ -82,7 +114,7 @@ again-passes = record {
 -- A call of it where so many may be open stops.
 record Stopped (calls r : ℕ) (t : Tree) : Type 0 where
   at-call : ℕ
-  stopped : called again calls r 0 [] t ≡ afterBegun calls (stops tooManyCalls at-call)
+  stopped : called again calls r 0 [] t ≡ afterBegun calls (stops no-call at-call)
 
 -- it stops, however many may be open
 again-stops : (calls r : ℕ) (t : Tree) → Stopped calls r t
@@ -92,9 +124,17 @@ again-stops (suc calls) r t =
     let deeper = again-stops calls _ t in
     record { at-call = deeper .at-call; stopped = ap begins (deeper .stopped) }
 
--- so its evaluation does not end, on any tree
+-- so its evaluation neither ends nor breaks, on any tree
 pub again-endless : (t : Tree) → Endless again t
-unfolding evaluation
-again-endless t o n v ends =
-    let given = meaning .held again t again-passes .gives-value o n v .1 ends in
-    gives-not n o tooManyCalls _ v (sym given ∙ again-stops o 0 t .stopped)
+unfolding evaluation refusalOf
+again-endless t =
+    let held = meaning .held again t again-passes in
+    record {
+      never-ends = λ o n v ends. gives-not n o no-call _ v (sym (held .gives-value o n v .1 ends) ∙ again-stops o 0 t .stopped);
+      never-breaks = λ o n op i j q breaks.
+          let same = one-stop n o (no-result op i j) no-call q _ (sym (held .stops-exactly o n (no-result op i j) q .1 breaks) ∙ again-stops o 0 t .stopped) in
+          another-reason (same .1 .0);
+    }
+  where
+    another-reason : {op : Op} {i j : ℕ} → no-result op i j ≡ no-call → ⊥
+    another-reason e = let z : _≡_ {A = ℕ} 21 18 = ap refusalOf e in absurd (omega arith)

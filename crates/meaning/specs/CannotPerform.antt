@@ -10,7 +10,7 @@ use mathlib.Core.Option.{none, some}
 use mathlib.Core.Path.{_≡_}
 use lib.ListN.{length}
 use Rattle.formats.specs.Records.{fields}
-use Rattle.meaning.specs.Instructions.{Instruction, Operation, Push, Get, Add, Ifnot, Jump, Slide, Drop, LeafTag, NodeTag, WriteNumber, ReadTag, ReadNumber, Call, Return, operationOf}
+use Rattle.meaning.specs.Instructions.{Instruction, Operation, Push, Get, Compute, Ifnot, Jump, Slide, Drop, LeafTag, NodeTag, WriteNumber, ReadTag, ReadNumber, Call, Return, operationOf}
 use Rattle.meaning.specs.Performing.{Setting, State, wordsStanding}
 
 -- 01, Opcodes: "opcodes 0 to 13".
@@ -21,7 +21,7 @@ lastOpcode = 13
 unfoldable pub wordsNeeded : Operation → ℕ
 wordsNeeded (Push x) = 0
 wordsNeeded (Get k) = suc k
-wordsNeeded Add = 2
+wordsNeeded (Compute op) = 2
 wordsNeeded (Ifnot a) = 1
 wordsNeeded (Jump a) = 0
 wordsNeeded Slide = 2
@@ -39,7 +39,7 @@ wordsNeeded (Return k) = k
 unfoldable pub wordsAdded : Operation → ℕ
 wordsAdded (Push x) = 1
 wordsAdded (Get k) = 1
-wordsAdded Add = 0
+wordsAdded (Compute op) = 0
 wordsAdded (Ifnot a) = 0
 wordsAdded (Jump a) = 0
 wordsAdded Slide = 0

@@ -1,5 +1,6 @@
 -- 01, The source evaluation: what a program means. "This is document 000's, without fuel or limits;
--- it is fed a program's records and a tree." "Nothing is refused."
+-- it is fed a program's records and a tree." "Nothing is refused." N3: an evaluation with a sum out
+-- of range "has no result": no rule gives it one. Unfinished.antt says where it stops.
 --
 -- What is proved of it is stated in Meaning.antt: among other things that it gives the value that
 -- the reductions of 000, Figure 3 (Reductions.antt) lead to.
@@ -7,10 +8,10 @@ use Prim.Native.Nat.{ℕ, zero, suc, _+_, max}
 use mathlib.Core.List.{List, [], _∷_}
 use mathlib.Core.Option.{Option, some}
 use mathlib.Core.Path.{_≡_}
-use Rattle.formats.specs.Numbers.{sum32}
+use Rattle.formats.specs.Arithmetic.{Op, resultOf}
 use Rattle.formats.specs.Tokens.{Tree, leaf, node, tokens}
 use Rattle.formats.specs.Records.{nth}
-use Rattle.formats.specs.Programs.{Expr, const, var, add, ifZero, letIn, leafOf, nodeOf, caseOf, call, Args, noArgs, arg, Function, Program}
+use Rattle.formats.specs.Programs.{Expr, const, var, compute, ifZero, letIn, leafOf, nodeOf, caseOf, call, Args, noArgs, arg, Function, Program}
 use Rattle.meaning.specs.Levels.{atLevel}
 
 -- A value: a number or a tree.
@@ -68,12 +69,14 @@ mutual
     Const : {E : Environment} {i o : ℕ} → Takes program E (const i) (suc o) 1 (number i)
     -- "Var its name's number."
     Var : {E : Environment} {a i o : ℕ} → numberNamed E a ≡ some i → Takes program E (var a) (suc o) 1 (number i)
-    -- "Add takes its parts in order and gives their sum modulo 2^32."
-    Add :
-        {E : Environment} {p q : Expr} {o n m i j : ℕ}
+    -- "Add takes its parts in order and gives their sum"; N3: there is no value "where the exact
+    -- sum lies outside −2147483648 to 2147483647"
+    Compute :
+        {E : Environment} {op : Op} {p q : Expr} {o n m i j x : ℕ}
         → Takes program E p o n (number i)
         → Takes program E q o m (number j)
-        → Takes program E (add p q) o (suc (n + m)) (number (sum32 i j))
+        → resultOf op i j ≡ some x
+        → Takes program E (compute op p q) o (suc (n + m)) (number x)
     -- "IfZero takes its test, then the part it picks."
     IfZero :
         {E : Environment} {t zero-part other-part : Expr} {o n m i : ℕ} {v : Value}
@@ -162,7 +165,27 @@ unfoldable pub counted :
 counted begin enter join d = elim d as (λ E e o n v d. ℕ) (λ E xs o n before after ds. ℕ) [
   | Const ↦ begin 1 0
   | Var named ↦ begin 1 0
-  | Add (d₁ → n) (d₂ → m) ↦ begin 1 (join n m)
+  | Compute (d₁ → n) (d₂ → m) fits ↦ begin 1 (join n m)
+  | IfZero {i = i} (d₁ → n) (d₂ → m) ↦ begin (ifZeroUnits i) (join n m)
+  | Let (d₁ → n) (d₂ → m) ↦ begin 1 (join n m)
+  | Leaf (d → n) ↦ begin 2 n
+  | Node (d₁ → n) (d₂ → m) ↦ begin 1 (join n m)
+  | Case {t = t} named (d → n) ↦ begin (caseUnits t) n
+  | Call (ds → n) named known (d → m) ↦ begin 2 (join n (enter m))
+  | no-more ↦ 0
+  | one-more (d → n) (ds → m) ↦ join n m
+]
+
+-- What `counted` counts along arguments. (The clauses are those of `counted`, so that the two agree
+-- by computation.)
+abbrev pub countedArgs :
+    {program : Program} {E : Environment} {xs : Args} {o n : ℕ} {before after : List ℕ} (begin : ℕ → ℕ → ℕ) (enter : ℕ → ℕ) (join : ℕ → ℕ → ℕ)
+    → TakesArgs program E xs o n before after
+    → ℕ
+countedArgs begin enter join ds = elim ds as (λ E e o n v d. ℕ) (λ E xs o n before after ds. ℕ) [
+  | Const ↦ begin 1 0
+  | Var named ↦ begin 1 0
+  | Compute (d₁ → n) (d₂ → m) fits ↦ begin 1 (join n m)
   | IfZero {i = i} (d₁ → n) (d₂ → m) ↦ begin (ifZeroUnits i) (join n m)
   | Let (d₁ → n) (d₂ → m) ↦ begin 1 (join n m)
   | Leaf (d → n) ↦ begin 2 n
@@ -180,6 +203,10 @@ rulesIn d = counted (λ units n. suc n) (λ m. m) _+_ d
 -- The units column summed over the expressions begun.
 abbrev pub unitsIn : {program : Program} {E : Environment} {e : Expr} {o n : ℕ} {v : Value} → Takes program E e o n v → ℕ
 unitsIn d = counted _+_ (λ m. m) _+_ d
+
+-- The units column summed along arguments.
+abbrev pub unitsInArgs : {program : Program} {E : Environment} {xs : Args} {o n : ℕ} {before after : List ℕ} → TakesArgs program E xs o n before after → ℕ
+unitsInArgs ds = countedArgs _+_ (λ n. n) _+_ ds
 
 -- How deep a derivation's Call rules are nested: a call is open while its body is taken, and no
 -- longer.

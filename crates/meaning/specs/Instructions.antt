@@ -5,6 +5,7 @@ use mathlib.Core.List.{List, [], _∷_}
 use mathlib.Core.Option.{Option, none, some}
 use lib.ListN.{length}
 use lib.Dec.{ltb, leb}
+use Rattle.formats.specs.Arithmetic.{Op, plus}
 use Rattle.formats.specs.Records.{Record, fields, recordAt, nth}
 
 -- 01, Instructions: "An instruction has 8 bytes: opcode; byte 1; operand in 2–3; number in 4–7."
@@ -33,7 +34,8 @@ pub data Operation : Type 0 where
   Push : (number : ℕ) → Operation
   -- a word above the base
   Get : (word : ℕ) → Operation
-  Add : Operation
+  -- an operation on the two top words: add
+  Compute : (op : Op) → Operation
   Ifnot : (address : ℕ) → Operation
   Jump : (address : ℕ) → Operation
   Slide : Operation
@@ -47,6 +49,10 @@ pub data Operation : Type 0 where
   Call : (entry arguments : ℕ) → Operation
   -- how many words are kept
   Return : (kept : ℕ) → Operation
+
+-- 01, Opcodes: "2 add".
+abbrev pub Add : Operation
+Add = Compute plus
 
 -- 01, Opcodes: "0 push, 1 get (operand: word above the base), 2 add .., 3 ifnot (.. goes to
 -- operand), 4 jump, 5 slide .., 6 drop, 7 leaf tag, 8 node tag, 9 write number .., 10 read tag (..
@@ -66,7 +72,7 @@ operationOf (fields opcode byte1 operand number) = nth (operations byte1 operand
 unfoldable pub instructionOf : Operation → Instruction
 instructionOf (Push n) = fields 0 0 0 n
 instructionOf (Get k) = fields 1 0 k 0
-instructionOf Add = fields 2 0 0 0
+instructionOf (Compute plus) = fields 2 0 0 0
 instructionOf (Ifnot a) = fields 3 0 a 0
 instructionOf (Jump a) = fields 4 0 a 0
 instructionOf Slide = fields 5 0 0 0

@@ -8,6 +8,7 @@ pub mod Stopping
 pub mod StreamRun
 pub mod Evaluation
 pub mod OpenCalls
+pub mod Unfinished
 pub mod Reductions
 pub mod SourceRun
 pub mod WorkWords

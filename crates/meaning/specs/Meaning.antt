@@ -1,6 +1,8 @@
 -- What holds of a program's meaning: the statements. They are proved in proofs/Meaning.antt.
 --
--- Demand 2: "the source run gives what document 000's reductions give, with sums modulo 2^32".
+-- Demand 2: "the source run gives what document 000's reductions give, with sums modulo 2^32". In
+-- place of these there are exact sums. N3: "Add now refuses where the exact sum lies outside
+-- −2147483648 to 2147483647".
 use Prim.Native.Nat.{ℕ, suc, _+_, _*_, _^_, _≤_, _<_}
 use mathlib.Core.List.{List, [], _∷_, _++_}
 use mathlib.Core.Logic.{_↔_, _⊎_}
@@ -8,19 +10,21 @@ use mathlib.Core.Option.{some}
 use mathlib.Core.Path.{_≡_}
 use lib.ListN.{length, take, drop}
 use Rattle.formats.specs.Numbers.{Bytes}
-use Rattle.formats.specs.Refusals.{spaceTooShort, fuelUsedUp, outputFull, tooManyCalls}
+use Rattle.formats.specs.Arithmetic.{Op}
+use Rattle.formats.specs.Refusals.{spaceTooShort, fuelUsedUp, outputFull, tooManyCalls, outOfRange}
 use Rattle.formats.specs.Results.{done, refusal}
 use Rattle.formats.specs.Tokens.{Tree, Labelled, firstTree}
-use Rattle.formats.specs.Records.{Call, nth}
+use Rattle.formats.specs.Records.{Compute, Call, nth}
 use Rattle.formats.specs.Programs.{Expr, Sort, numberValued, treeValued, Function, Program, nodes, Lawful}
 use Rattle.formats.specs.Blocks.{programIn}
 use Rattle.rules.specs.Printed.{Term, fix, functionName}
 use Rattle.rules.specs.PassOne.{passOne}
 use Rattle.meaning.specs.Running.{valueWords, returnWords, mostCalls}
 use Rattle.meaning.specs.Evaluation.{Value, number, tree, Environment, Takes, Ends, resultBytes, resultNumber, rulesIn, unitsIn, nestingIn}
-use Rattle.meaning.specs.OpenCalls.{Outcome, gives, stops, begins, begun, afterBegun, evaluation, withFuel}
+use Rattle.meaning.specs.OpenCalls.{Reason, no-fuel, no-call, no-result, Outcome, gives, stops, begins, begun, afterBegun, evaluation, withFuel}
+use Rattle.meaning.specs.Unfinished.{StopsOn, Breaks, stopUnits, stopBytes}
 use Rattle.meaning.specs.SourceRun.{SourceRan, sourceRun}
-use Rattle.meaning.specs.Reductions.{IsValue, only, substitute, Redex, Reduces, Leads, valueTerm, programOn}
+use Rattle.meaning.specs.Reductions.{IsValue, only, substitute, Redex, Reduces, StuckAt, Leads, valueTerm, programOn}
 
 -- A program within the limits of 01, Lawful programs, that passes pass one. Pass two is not asked
 -- for.
@@ -28,9 +32,10 @@ pub record PassesOne (program : Program) : Type 0 where
   pub lawful : Lawful program
   pub passes : passOne program ≡ done tt
 
--- The evaluation is endless: there is no derivation, under any bound.
-abbrev pub Endless : Program → Tree → Type 0
-Endless program t = (o n : ℕ) (v : Value) → Ends program t o n v → ⊥
+-- The evaluation is endless: under no bound does it end, nor does it break at a sum.
+pub record Endless (program : Program) (t : Tree) : Type 0 where
+  pub never-ends : (o n : ℕ) (v : Value) → Ends program t o n v → ⊥
+  pub never-breaks : (o n : ℕ) (op : Op) (i j q : ℕ) → Breaks program t o n op i j q → ⊥
 
 -- ---- the evaluation
 
@@ -60,6 +65,10 @@ pub record Evaluations (program : Program) : Type 0 where
       (E : Environment) (e : Expr) (o n o′ n′ : ℕ) (v v′ : Value) (d : Takes program E e o n v) (d′ : Takes program E e o′ n′ v′)
       → unitsIn d ≡ unitsIn d′
   pub four-each : (E : Environment) (e : Expr) (o n : ℕ) (v : Value) (d : Takes program E e o n v) → unitsIn d ≤ 4 * n
+  -- where it stops under one bound, what its code has done by then is determined, too
+  pub same-stop :
+      (t : Tree) (o n n′ : ℕ) (why why′ : Reason) (q q′ : ℕ) (s : StopsOn program t o n why q) (s′ : StopsOn program t o n′ why′ q′)
+      → (stopUnits s ≡ stopUnits s′) × (stopBytes s ≡ stopBytes s′)
   -- n is the number of rules, one for each expression
   pub rules-begun : (E : Environment) (e : Expr) (o n : ℕ) (v : Value) (d : Takes program E e o n v) → rulesIn d ≡ n
   -- o′ bounds the calls open exactly where it is above the nesting of Call rules: the least bound
@@ -97,31 +106,69 @@ pub data AtCall (program : Program) : ℕ → ℕ → Type 0 where
 pub record TooMany (program : Program) (t : Tree) (o : ℕ) : Type 0 where
   pub expressions : ℕ
   pub position : ℕ
-  pub stopped : evaluation program o t ≡ afterBegun expressions (stops tooManyCalls position)
+  pub stopped : evaluation program o t ≡ afterBegun expressions (stops no-call position)
   pub is-call : AtCall program o position
+
+-- The record at which an operation has no result: one that has this operation.
+pub data AtOperation (program : Program) (op : Op) : ℕ → Type 0 where
+  an-operation :
+      (k : ℕ)
+      → nth (nodes (program .functions)) k ≡ some (Compute op)
+      → AtOperation program op (suc (length (program .functions)) + k)
+
+-- An evaluation that breaks within the bound: after so many expressions, the operation at this
+-- record has no result on these two numbers.
+pub record BreaksWithin (program : Program) (t : Tree) (o : ℕ) : Type 0 where
+  pub expressions : ℕ
+  pub op : Op
+  pub left : ℕ
+  pub right : ℕ
+  pub position : ℕ
+  pub breaks : Breaks program t o expressions op left right position
+  pub is-operation : AtOperation program op position
 
 -- The second is the first, or goes on where the first stops at a call too many.
 pub data Further {A : Type 0} : Outcome A → Outcome A → Type 0 where
   the-same : {o : Outcome A} → Further o o
-  goes-on : {r : ℕ} {p : Outcome A} → Further (stops tooManyCalls r) p
+  goes-on : {r : ℕ} {p : Outcome A} → Further (stops no-call r) p
   both-begin : {o p : Outcome A} → Further o p → Further (begins o) (begins p)
 
 -- What holds of a program's evaluation on a tree when the number of open calls is bounded.
 pub record HeldTo (program : Program) (t : Tree) : Type 0 where
   -- the function `evaluation` gives a value exactly where the rules give it within the bound
   pub gives-value : (o n : ℕ) (v : Value) → (evaluation program o t ≡ afterBegun n (gives v)) ↔ Ends program t o n v
-  -- the evaluation ends within the bound, or a call is one too many, and never both
-  pub ends-or-stops : (o : ℕ) → EndsWithin program t o ⊎ TooMany program t o
+  -- and it stops exactly where the rules say so
+  pub stops-exactly : (o n : ℕ) (why : Reason) (q : ℕ) → (evaluation program o t ≡ afterBegun n (stops why q)) ↔ StopsOn program t o n why q
+  -- the evaluation ends within the bound, or breaks at a sum, or a call is one too many ..
+  pub ends-or-stops : (o : ℕ) → EndsWithin program t o ⊎ (BreaksWithin program t o ⊎ TooMany program t o)
+  -- .. and never two of these; an evaluation that ends under one bound breaks under none
   pub never-both : (o n : ℕ) (v : Value) → Ends program t o n v → TooMany program t o → ⊥
-  -- an endless evaluation opens more than any number of calls
+  pub broken-not-deep : (o n : ℕ) (op : Op) (i j q : ℕ) → Breaks program t o n op i j q → TooMany program t o → ⊥
+  pub ended-not-broken : (o n : ℕ) (v : Value) (o′ n′ : ℕ) (op : Op) (i j q : ℕ) → Ends program t o n v → Breaks program t o′ n′ op i j q → ⊥
+  -- where it breaks is determined, under all bounds: the expressions begun, the operation and its
+  -- numbers, the record; and what its code has done by then
+  pub one-break :
+      (o n : ℕ) (op : Op) (i j q o′ n′ : ℕ) (op′ : Op) (i′ j′ q′ : ℕ)
+      → Breaks program t o n op i j q
+      → Breaks program t o′ n′ op′ i′ j′ q′
+      → (n ≡ n′) × ((no-result op i j ≡ no-result op′ i′ j′) × (q ≡ q′))
+  pub same-break :
+      (o n : ℕ) (op : Op) (i j q o′ n′ : ℕ) (op′ : Op) (i′ j′ q′ : ℕ) (b : Breaks program t o n op i j q) (b′ : Breaks program t o′ n′ op′ i′ j′ q′)
+      → (stopUnits b ≡ stopUnits b′) × (stopBytes b ≡ stopBytes b′)
+  -- it breaks at the record of its operation
+  pub at-operation : (o n : ℕ) (op : Op) (i j q : ℕ) → Breaks program t o n op i j q → AtOperation program op q
+  -- at most four units for each expression begun before it stops
+  pub four-each-stopped : (o n : ℕ) (why : Reason) (q : ℕ) (s : StopsOn program t o n why q) → stopUnits s ≤ 4 * n
+  -- an endless evaluation opens more than any number of calls, and no other does
   pub endless : Endless program t → (o : ℕ) → TooMany program t o
+  pub only-endless : ((o : ℕ) → TooMany program t o) → Endless program t
   -- under a larger bound the same expressions begin, and it goes on
   pub further : (o o′ : ℕ) → o ≤ o′ → Further (evaluation program o t) (evaluation program o′ t)
 
 -- Fuel looked at before each expression cuts an evaluation short, and does nothing else.
 pub record Cut (o : Outcome Value) (fuel : ℕ) : Type 0 where
   pub enough : begun o ≤ fuel → withFuel fuel o ≡ o
-  pub short : fuel < begun o → withFuel fuel o ≡ afterBegun fuel (stops fuelUsedUp 0)
+  pub short : fuel < begun o → withFuel fuel o ≡ afterBegun fuel (stops no-fuel 0)
 
 -- ---- the reductions
 
@@ -146,6 +193,26 @@ pub record EndsWithValue (program : Program) (t : Tree) (v : Value) : Type 0 whe
   pub expressions : ℕ
   pub ends : Ends program t calls expressions v
 
+-- An evaluation that breaks at this operation on these two numbers.
+pub record BreaksAtSum (program : Program) (t : Tree) (op : Op) (i j : ℕ) : Type 0 where
+  pub calls : ℕ
+  pub expressions : ℕ
+  pub position : ℕ
+  pub breaks : Breaks program t calls expressions op i j position
+
+-- The reductions lead from this term to one that is stuck at this operation on these two numbers.
+pub record GetsStuck (program : Program) (M : Term) (op : Op) (i j : ℕ) : Type 0 where
+  pub last : Term
+  pub reached : Reaches program M last
+  pub stuck : StuckAt op i j last
+
+-- The term is stuck at a sum.
+pub record Stuck (M : Term) : Type 0 where
+  pub op : Op
+  pub left : ℕ
+  pub right : ℕ
+  pub stuck : StuckAt op left right M
+
 -- The term of a number or of a tree.
 pub record ValueReached (M : Term) : Type 0 where
   pub value : Value
@@ -158,8 +225,11 @@ pub record Agrees (program : Program) (first : Function) (t : Tree) : Type 0 whe
   pub taken : (v : Value) → Reaches program (programOn first t) (valueTerm v) → EndsWithValue program t v
   -- the reductions lead to no other values than numbers and trees
   pub values : (k : ℕ) (M : Term) → Leads program k (programOn first t) M → IsValue M → ValueReached M
-  -- each term that they lead to is a value or reduces
-  pub progress : (k : ℕ) (M : Term) → Leads program k (programOn first t) M → IsValue M ⊎ CanReduce program M
+  -- the evaluation breaks at a sum exactly where the reductions get stuck, at the same sum
+  pub gets-stuck : (o n : ℕ) (op : Op) (i j q : ℕ) → Breaks program t o n op i j q → GetsStuck program (programOn first t) op i j
+  pub breaks : (op : Op) (i j : ℕ) → GetsStuck program (programOn first t) op i j → BreaksAtSum program t op i j
+  -- each term that they lead to is a value, or reduces, or is stuck at a sum
+  pub progress : (k : ℕ) (M : Term) → Leads program k (programOn first t) M → IsValue M ⊎ (CanReduce program M ⊎ Stuck M)
   -- where the evaluation is endless, so are the reductions
   pub endless : Endless program t → (k : ℕ) → CanReduceTimes program k (programOn first t)
 
@@ -169,6 +239,9 @@ pub record ReductionsHold (program : Program) : Type 0 where
   pub one-way : (M N N′ : Term) → Reduces program M N → Reduces program M N′ → N ≡ N′
   -- a value does not reduce
   pub at-end : (M N : Term) → IsValue M → Reduces program M N → ⊥
+  -- a term that is stuck at a sum does not reduce, and is no value
+  pub stuck-there : (M N : Term) → Stuck M → Reduces program M N → ⊥
+  pub stuck-no-value : (M : Term) → Stuck M → IsValue M → ⊥
   -- where there is one function, Es-Fix is the paper's own: fix f.M ⟶ [fix f.M/f]M
   pub one-function :
       (f : Function) (M : Term)
@@ -233,6 +306,22 @@ pub record SourceTooManyCalls (output : List ℕ) (call : ℕ → SourceRan) : T
   pub enough : (fuel : ℕ) → expressions ≤ fuel → RefusedWith expressions tooManyCalls 0 output (call fuel)
   pub short : (fuel : ℕ) → fuel < expressions → RefusedWith fuel fuelUsedUp 0 output (call fuel)
 
+-- With fuel for this number of expressions or more, the call is refused with 21 at this record;
+-- with less, with 14.
+pub record SourceBreaks (expressions position : ℕ) (output : List ℕ) (call : ℕ → SourceRan) : Type 0 where
+  pub enough : (fuel : ℕ) → expressions ≤ fuel → RefusedWith expressions outOfRange position output (call fuel)
+  pub short : (fuel : ℕ) → fuel < expressions → RefusedWith fuel fuelUsedUp 0 output (call fuel)
+
+-- What a call that was refused with 21 came from: every check before the evaluation passed, and the
+-- evaluation broke there, with the fuel for it.
+pub record BrokenFrom (file input : List ℕ) (values returns fuel position : ℕ) : Type 0 where
+  pub program : Program
+  pub input-tree : Tree
+  pub passed : Passed file input values returns program input-tree
+  pub within : BreaksWithin program input-tree mostCalls
+  pub there : within .position ≡ position
+  pub enough-fuel : within .expressions ≤ fuel
+
 -- What holds of calls of the source run that differ in their fuel alone: file, input, output and
 -- work space are the same.
 pub record SourceRuns (file input output : List ℕ) (values returns : ℕ) (call : ℕ → SourceRan) : Type 0 where
@@ -279,15 +368,24 @@ pub record SourceRuns (file input output : List ℕ) (values returns : ℕ) (cal
       → Ends program t mostCalls n v
       → fuel < n
       → RefusedWith fuel fuelUsedUp 0 output (call fuel)
+  -- N3: the evaluation breaks at a sum within 1,024 open calls: 21 at its record, or 14 before that
+  pub breaks :
+      (program : Program) (t : Tree) (n : ℕ) (op : Op) (i j q : ℕ)
+      → Passed file input values returns program t
+      → Breaks program t mostCalls n op i j q
+      → SourceBreaks n q output call
   -- any other evaluation: 18, or 14 before that
   pub too-many :
       (program : Program) (t : Tree)
       → Passed file input values returns program t
       → ((n : ℕ) (v : Value) → Ends program t mostCalls n v → ⊥)
+      → ((n : ℕ) (op : Op) (i j q : ℕ) → Breaks program t mostCalls n op i j q → ⊥)
       → SourceTooManyCalls output call
   -- a call ends in no other case than that of `ends`: every check before the evaluation passed, and
   -- the evaluation ended
   pub ended-from : (fuel : ℕ) → call fuel .answer .outcome ≡ done tt → EndedFrom file input output values returns fuel (call fuel)
+  -- and it is refused with 21 in no other case than that of `breaks`
+  pub broken-from : (fuel position : ℕ) → call fuel .answer .outcome ≡ refusal outOfRange position → BrokenFrom file input values returns fuel position
   -- every refusal leaves the output untouched, and reports neither bytes nor a number
   pub untouched :
       (number position fuel : ℕ)

@@ -1,22 +1,38 @@
 -- The source evaluation with a bound on the open calls. A body has no loop, so the evaluation
--- always comes to an end: with a value, or at a call too many. It is a function, by recursion on
--- the calls that may still be opened and, inside a body, on the expression.
+-- always comes to an end: with a value, at a sum out of range, or at a call too many. It is a
+-- function, by recursion on the calls that may still be opened and, inside a body, on the
+-- expression.
 use Prim.Native.Nat.{ℕ, zero, suc, _+_}
 use mathlib.Core.List.{List, [], _∷_}
 use mathlib.Core.Option.{Option, none, some}
 use lib.ListN.{length, take}
-use Rattle.formats.specs.Numbers.{sum32}
-use Rattle.formats.specs.Refusals.{fuelUsedUp, tooManyCalls}
+use Rattle.formats.specs.Arithmetic.{Op, resultOf}
+use Rattle.formats.specs.Refusals.{fuelUsedUp, tooManyCalls, outOfRange}
 use Rattle.formats.specs.Tokens.{Tree, leaf, node}
 use Rattle.formats.specs.Records.{nth}
-use Rattle.formats.specs.Programs.{Expr, const, var, add, ifZero, letIn, leafOf, nodeOf, caseOf, call, Args, noArgs, arg, size, sumOfCounts, Program, signatures}
+use Rattle.formats.specs.Programs.{Expr, const, var, compute, ifZero, letIn, leafOf, nodeOf, caseOf, call, Args, noArgs, arg, size, sumOfCounts, Program, signatures}
 use Rattle.meaning.specs.Evaluation.{Value, number, tree, Environment, numberNamed, treeNamed, withNumber, withTrees, inCall, resultNumber}
 
--- What an evaluation comes to: a mark for each expression begun, then its value, or the number of a
--- refusal with its record (0 where it has none).
+-- Why an evaluation stops before it has a value.
+pub data Reason : Type 0 where
+  -- no fuel for the next expression
+  no-fuel : Reason
+  -- a call too many
+  no-call : Reason
+  -- N3: an operation whose exact result is out of range, and its two numbers
+  no-result : (op : Op) (i j : ℕ) → Reason
+
+-- The number of its refusal.
+unfoldable pub refusalOf : Reason → ℕ
+refusalOf no-fuel = fuelUsedUp
+refusalOf no-call = tooManyCalls
+refusalOf (no-result op i j) = outOfRange
+
+-- What an evaluation comes to: a mark for each expression begun, then its value, or why it stops,
+-- with the record (0 where there is none).
 pub data Outcome (A : Type 0) : Type 0 where
   gives : (value : A) → Outcome A
-  stops : (number at-record : ℕ) → Outcome A
+  stops : (why : Reason) (at-record : ℕ) → Outcome A
   begins : (rest : Outcome A) → Outcome A
 
 -- How many expressions begin.
@@ -54,15 +70,19 @@ resultTree (tree t) = t
 abbrev pub Handler : Type 0
 Handler = ℕ → ℕ → List ℕ → Tree → Outcome Value
 
+-- The operation at record r on these numbers. N3: "tested when both numbers stand".
+unfoldable pub computed : ℕ → Op → ℕ → ℕ → Outcome Value
+computed r op i j = elim (resultOf op i j) [ some x ↦ gives (number x) | none ↦ stops (no-result op i j) r ]
+
 -- The expression at record r, by kind. 01, The source run: "a call's depth is tested after its
 -- arguments".
 unfoldable mutual
   pub evaluate : Handler → Environment → ℕ → Expr → Outcome Value
   evaluate h E r (const i) = begins (gives (number i))
   evaluate h E r (var a) = begins (gives (number (numberOr (numberNamed E a))))
-  evaluate h E r (add p q) =
+  evaluate h E r (compute op p q) =
       begins
-      (followedBy (evaluate h E (suc r) p) (λ x. followedBy (evaluate h E (suc r + size p) q) (λ y. gives (number (sum32 (resultNumber x) (resultNumber y))))))
+      (followedBy (evaluate h E (suc r) p) (λ x. followedBy (evaluate h E (suc r + size p) q) (λ y. computed r op (resultNumber x) (resultNumber y))))
   evaluate h E r (ifZero t z o) =
       begins
       (followedBy (evaluate h E (suc r) t) (λ x. elim (resultNumber x) [
@@ -95,7 +115,7 @@ firstRecord program b = suc (length (program .functions)) + sumOfCounts (take b 
 -- A call where this many may be open, itself among them. 01, The table of refusals: "18 a call with
 -- 1,024 open (the first frame counts)".
 unfoldable pub called : Program → ℕ → Handler
-called program zero r b numbers t = stops tooManyCalls r
+called program zero r b numbers t = stops no-call r
 called program (suc calls) r b numbers t =
     elim (nth (program .functions) b) [
       | none ↦ gives (number 0)
@@ -111,5 +131,5 @@ evaluation program calls t = called program calls 0 0 [] t
 unfoldable pub withFuel : {A : Type 0} → ℕ → Outcome A → Outcome A
 withFuel fuel (gives x) = gives x
 withFuel fuel (stops why r) = stops why r
-withFuel zero (begins o) = stops fuelUsedUp 0
+withFuel zero (begins o) = stops no-fuel 0
 withFuel (suc fuel) (begins o) = begins (withFuel fuel o)

@@ -5,11 +5,12 @@ use mathlib.Core.List.{List, [], _∷_, _++_}
 use mathlib.Core.Option.{Option, none, some}
 use lib.ListN.{length, take, drop}
 use lib.Dec.{leb, ltb, eqb}
-use Rattle.formats.specs.Numbers.{bytesOf, numberAt, sum32}
-use Rattle.formats.specs.Refusals.{inputEnded, notATag, outputFull, tooManyCalls, cannotPerform}
+use Rattle.formats.specs.Numbers.{bytesOf, numberAt}
+use Rattle.formats.specs.Arithmetic.{resultOf}
+use Rattle.formats.specs.Refusals.{inputEnded, notATag, outputFull, tooManyCalls, cannotPerform, outOfRange}
 use Rattle.formats.specs.Tokens.{leafTag, nodeTag, labelBytes, Tag, noByte, aLeaf, aNode, other, tagAt}
 use Rattle.meaning.specs.Levels.{atLevel}
-use Rattle.meaning.specs.Instructions.{Instruction, Operation, Push, Get, Add, Ifnot, Jump, Slide, Drop, LeafTag, NodeTag, WriteNumber, ReadTag, ReadNumber, Call, Return, operationOf}
+use Rattle.meaning.specs.Instructions.{Instruction, Operation, Push, Get, Compute, Ifnot, Jump, Slide, Drop, LeafTag, NodeTag, WriteNumber, ReadTag, ReadNumber, Call, Return, operationOf}
 
 -- What a run is given: what each address holds, the input, the output's length; and its limits.
 pub record Setting : Type 0 where
@@ -115,6 +116,12 @@ ifRoom m s then = elim (ltb (wordsStanding s) (m .mostWords)) [ true ↦ then | 
 unfoldable pub pushWord : Setting → ℕ → State → Step
 pushWord m x s = ifRoom m s (goes (toNext (holding (x ∷ s .frame) s)))
 
+-- The result of two words taken, in their place. N3: "21, sum out of range, .. tested when both
+-- numbers stand."
+unfoldable pub pushResult : Option ℕ → List ℕ → State → Step
+pushResult (some x) rest s = goes (toNext (holding (x ∷ rest) s))
+pushResult none rest s = refuses outOfRange
+
 -- 01, Opcodes: "17 output full". 01, Notation: "Four bytes are read or written together or none."
 unfoldable pub write : Setting → List ℕ → State → Step
 write m bytes s = elim (leb (length (s .output) + length bytes) (m .space)) [ true ↦ goes (toNext (writing bytes s)) | false ↦ refuses outputFull ]
@@ -163,11 +170,11 @@ leave (c ∷ cs) words s = goes (returning words c cs s)
 -- ---- one instruction
 
 -- One line for each opcode, 0 to 13. 01, Instructions that cannot be performed: "At one instruction
--- 19 comes before 15 to 18".
+-- 19 comes before 15 to 18", and before 21.
 unfoldable pub operate : Setting → State → Operation → Step
 operate m s (Push x) = pushWord m x s
 operate m s (Get k) = elim (atLevel (s .frame) k) [ some x ↦ pushWord m x s | none ↦ refuses cannotPerform ]
-operate m s Add = popTwo (s .frame) (λ q p rest. goes (toNext (holding (sum32 p q ∷ rest) s)))
+operate m s (Compute op) = popTwo (s .frame) (λ q p rest. pushResult (resultOf op p q) rest s)
 operate m s (Ifnot a) = popOne (s .frame) (λ x rest. goes (goTo (elim (eqb x 0) [ true ↦ suc (s .address) | false ↦ a ]) (holding rest s)))
 operate m s (Jump a) = goes (goTo a s)
 operate m s Slide = popTwo (s .frame) (λ x under rest. goes (toNext (holding (x ∷ rest) s)))

@@ -4,12 +4,13 @@
 use Prim.Native.Nat.{ℕ, zero, suc}
 use mathlib.Core.Bool.{Bool, true, false}
 use mathlib.Core.Option.{Option, none, some}
+use mathlib.Core.Path.{_≡_}
 use lib.Dec.{eqb}
-use Rattle.formats.specs.Numbers.{sum32}
+use Rattle.formats.specs.Arithmetic.{Op, resultOf}
 use Rattle.formats.specs.Tokens.{Tree, leaf as aLeaf, node as aNode}
 use Rattle.formats.specs.Records.{nth}
 use Rattle.formats.specs.Programs.{Function, Program}
-use Rattle.rules.specs.Printed.{Name, numberName, treeName, functionName, Term, int, lam, name, app, plus, fix, leafTerm, nodeTerm, case, let-01, ifZero-01, functionTerm}
+use Rattle.rules.specs.Printed.{Name, numberName, treeName, functionName, Term, int, lam, name, app, computeTerm, fix, leafTerm, nodeTerm, case, let-01, ifZero-01, functionTerm}
 use Rattle.meaning.specs.Evaluation.{Value}
 
 -- ---- values
@@ -66,7 +67,7 @@ substitute σ (int i) = int i
 substitute σ (lam x M) = lam x (substitute (without x σ) M)
 substitute σ (name x) = replaced x (σ x)
 substitute σ (app M₁ M₂) = app (substitute σ M₁) (substitute σ M₂)
-substitute σ (plus M₁ M₂) = plus (substitute σ M₁) (substitute σ M₂)
+substitute σ (computeTerm op M₁ M₂) = computeTerm op (substitute σ M₁) (substitute σ M₂)
 substitute σ (fix f M) = fix f (substitute (without f σ) M)
 substitute σ (leafTerm M) = leafTerm (substitute σ M)
 substitute σ (nodeTerm M₁ M₂) = nodeTerm (substitute σ M₁) (substitute σ M₂)
@@ -96,8 +97,8 @@ fixing program f M z = elim (sameName f z) [ true ↦ some (fix f M) | false ↦
 
 -- The term in the hole of a context, and what it becomes.
 pub data Redex (program : Program) : Term → Term → Type 0 where
-  -- i₁ + i₂ ⟶ plus(i₁, i₂), modulo 2^32
-  Es-Plus : {i₁ i₂ : ℕ} → Redex program (plus (int i₁) (int i₂)) (int (sum32 i₁ i₂))
+  -- i₁ + i₂ ⟶ plus(i₁, i₂); N3: where it is in range
+  Es-Plus : {op : Op} {i₁ i₂ i : ℕ} → resultOf op i₁ i₂ ≡ some i → Redex program (computeTerm op (int i₁) (int i₂)) (int i)
   -- (λx.M) W ⟶ [W/x]M
   Es-App : {x : Name} {M W : Term} → IsValue W → Redex program (app (lam x M) W) (substitute (only x W) M)
   -- 000, section 2.1: "We write let x = M₁ in M₂ for (λx.M₂) M₁."
@@ -127,9 +128,9 @@ pub data Context : Type 0 where
   -- (λx.M) E_s
   app-right : Name → Term → Context → Context
   -- E_s + M
-  plus-left : Context → Term → Context
+  plus-left : Op → Context → Term → Context
   -- i + E_s
-  plus-right : ℕ → Context → Context
+  plus-right : Op → ℕ → Context → Context
   -- leaf E_s
   in-leaf : Context → Context
   -- node E_s M
@@ -148,8 +149,8 @@ unfoldable pub plug : Context → Term → Term
 plug hole M = M
 plug (app-left E N) M = app (plug E M) N
 plug (app-right x N E) M = app (lam x N) (plug E M)
-plug (plus-left E N) M = plus (plug E M) N
-plug (plus-right i E) M = plus (int i) (plug E M)
+plug (plus-left op E N) M = computeTerm op (plug E M) N
+plug (plus-right op i E) M = computeTerm op (int i) (plug E M)
 plug (in-leaf E) M = leafTerm (plug E M)
 plug (node-left E N) M = nodeTerm (plug E M) N
 plug (node-right {V₁ = V₁} v E) M = nodeTerm V₁ (plug E M)
@@ -160,6 +161,11 @@ plug (in-test E M₁ M₂) M = ifZero-01 (plug E M) M₁ M₂
 -- M ⟶ N
 pub data Reduces (program : Program) : Term → Term → Type 0 where
   in-context : {M N : Term} (E : Context) → Redex program M N → Reduces program (plug E M) (plug E N)
+
+-- N3: "Such an evaluation has no result". The term is stuck: in the hole stands an operation on two
+-- numbers, and its exact result is out of range.
+pub data StuckAt (op : Op) (i j : ℕ) : Term → Type 0 where
+  at-sum : (E : Context) → resultOf op i j ≡ none → StuckAt op i j (plug E (computeTerm op (int i) (int j)))
 
 -- This many reductions lead from the first term to the second.
 pub data Leads (program : Program) : ℕ → Term → Term → Type 0 where

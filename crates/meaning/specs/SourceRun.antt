@@ -13,7 +13,7 @@ use Rattle.formats.specs.Written.{written}
 use Rattle.rules.specs.PassOne.{passOne}
 use Rattle.meaning.specs.Running.{valueWords, returnWords, mostCalls}
 use Rattle.meaning.specs.Evaluation.{Value, resultBytes, resultNumber}
-use Rattle.meaning.specs.OpenCalls.{Outcome, gives, stops, begins, evaluation, withFuel}
+use Rattle.meaning.specs.OpenCalls.{Reason, no-fuel, no-call, no-result, refusalOf, Outcome, gives, stops, begins, evaluation, withFuel}
 
 -- 01, The source run: "The source run's gives expressions begun, bytes written and the number".
 pub record SourceAnswer : Type 0 where
@@ -51,11 +51,17 @@ reported begun v output =
       | false ↦ refusedAfter begun outputFull 0 output
     ]
 
--- What an evaluation's outcome is reported as, where so many expressions have begun before. 01, The
--- table of refusals: "14 fuel used up, 18 a call with 1,024 open ..", the position: "source run 0".
+-- The position of an evaluation's refusal. 01, The table of refusals: "14 fuel used up, 18 a call
+-- with 1,024 open ..": "source run 0". N3: 21 is "at the Add record in the source run".
+unfoldable pub positionOf : Reason → ℕ → ℕ
+positionOf no-fuel r = 0
+positionOf no-call r = 0
+positionOf (no-result op i j) r = r
+
+-- What an evaluation's outcome is reported as, where so many expressions have begun before.
 unfoldable pub reportFrom : ℕ → Outcome Value → List ℕ → SourceRan
 reportFrom begun (gives v) output = reported begun v output
-reportFrom begun (stops why r) output = refusedAfter begun why 0 output
+reportFrom begun (stops why r) output = refusedAfter begun (refusalOf why) (positionOf why r) output
 reportFrom begun (begins o) output = reportFrom (suc begun) o output
 
 -- What the checks give: a program that passes pass one, and a tree.

@@ -9,7 +9,7 @@ use mathlib.Core.Bool.{true, false}
 use lib.Dec.{eqb}
 use lib.ListN.{length, take}
 use Rattle.formats.specs.Buffers.{Opens}
-use Rattle.formats.specs.Refusals.{fuelUsedUp, inputEnded, notATag, outputFull, tooManyCalls, cannotPerform}
+use Rattle.formats.specs.Refusals.{fuelUsedUp, inputEnded, notATag, outputFull, tooManyCalls, cannotPerform, outOfRange}
 use Rattle.formats.specs.Results.{Result, done, refusal}
 use Rattle.formats.specs.Tokens.{labelBytes}
 use Rattle.meaning.specs.Instructions.{Instruction, Operation, operationOf, instructionOf, unusedZeroed}
@@ -28,6 +28,7 @@ pub data StepRefusal : ℕ → Type 0 where
   full : StepRefusal outputFull
   too-many : StepRefusal tooManyCalls
   cannot : StepRefusal cannotPerform
+  out-of-range : StepRefusal outOfRange
 
 -- A state within the limits, the input and the output.
 pub record Within (m : Setting) (s : State) : Type 0 where
@@ -45,11 +46,11 @@ pub record Grows (s t : State) : Type 0 where
 pub record OneStep (m : Setting) (s : State) : Type 0 where
   pub refusals : (number : ℕ) → step m s ≡ refuses number → StepRefusal number
   -- 01, Instructions that cannot be performed: "At one instruction 19 comes before 15 to 18". It is
-  -- 19 exactly where the instruction can't be performed, whatever the input, the output and the
-  -- open calls are.
+  -- 19 exactly where the instruction can't be performed, whatever the input, the output, the open
+  -- calls and the numbers are.
   pub cannot-first : (step m s ≡ refuses cannotPerform) ↔ CannotPerform m s
-  -- It is refused with 15 to 19 exactly where a rule says so, and the run ends there exactly at the
-  -- return of the first frame.
+  -- It is refused with 15 to 19 or 21 exactly where a rule says so, and the run ends there exactly
+  -- at the return of the first frame.
   pub refused-exactly : (number : ℕ) → (step m s ≡ refuses number) ↔ Refused m s number
   pub ends-exactly : (number : ℕ) → (step m s ≡ ends number) ↔ ReturnsFirst m s number
   pub grows : (t : State) → step m s ≡ goes t → Grows s t

@@ -1,2 +1,3 @@
--- The laws of a word's sign.
+-- The laws of a word's sign, and of the sum of two words.
 pub mod Sign
+pub mod Sums

@@ -24,7 +24,7 @@ use Rattle.records.specs.declared.Part.the-variants.{Number, Tree, Whole, Under
 use Rattle.records.specs.declared.Record.{Record}
 use Rattle.records.specs.declared.Record.the-variants.{Const, Var, Add, IfZero, Let, Leaf, Node, Case, Call}
 use Rattle.records.specs.declared.Called.{Called}
-use Rattle.stepwise.specs.Inner.Rows.{kept, lastArgument, lastWord, roleOf, slotOf}
+use Rattle.stepwise.specs.Inner.Rows.{kept, secondOf, lastArgument, lastWord, roleOf, slotOf}
 use Rattle.part_locations.specs.declared.Location.{Location}
 use Rattle.part_locations.specs.Inner.Locations.{largest, capped, namesInside, keepsInside, depthInside, partIn, argumentIn, noted}
 
@@ -168,7 +168,7 @@ module _ (part : Part) (node : Record) (r i count : ℕ) (p q : Location) (names
   pub inside-add-second : (slot more : ℕ) → node ≡ Add → i ≢ 0 → slot ≡ lastWord - p .keeps → more ≡ capped (p .keeps + 1)
       → q ≡ placed 2 r slot names more depth
       → q ≡ partIn (partOf part) (meant node) r i count p
-  unfolding partIn roleOf slotOf keepsInside
+  unfolding partIn secondOf roleOf slotOf keepsInside
   inside-add-second slot more case other es em e =
       at-part anAdd (suc (i - 1)) 2 slot more (ap meant case) (later other) e (ap₂ (named 2) es em)
 

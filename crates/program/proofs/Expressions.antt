@@ -13,7 +13,7 @@ use lib.Dec.{eqb}
 use lib.ListN.{take, drop, take-append-drop}
 use Rattle.formats.specs.Refusals.{prefixForm}
 use Rattle.formats.specs.Results.{Result, done, valueIf, verdict, each}
-use Rattle.formats.specs.Records.{Kind, Const, Var, Add, IfZero, Let, Leaf, Node, Case, Call, functionBelow, partsOf, partCount}
+use Rattle.formats.specs.Records.{Kind, Const, Var, Compute, IfZero, Let, Leaf, Node, Case, Call, functionBelow, partsOf, partCount}
 use Rattle.formats.specs.Rows.{exprsOf, exactlyOne}
 use Rattle.formats.specs.Inner.Fields.{headerIn, arityIn, nodeIn}
 use Rattle.formats.proofs.Results.{each-inv, each-none, each-after}
@@ -28,7 +28,7 @@ parts-agree : (s : List ℕ) (arity : ℕ → ℕ) (kind : Kind) → Arities s a
 unfolding functionBelow partsOf partCount
 parts-agree s arity (Const i) a e = refl
 parts-agree s arity (Var v) a e = refl
-parts-agree s arity Add a e = refl
+parts-agree s arity (Compute op) a e = refl
 parts-agree s arity IfZero a e = refl
 parts-agree s arity Let a e = refl
 parts-agree s arity Leaf a e = refl

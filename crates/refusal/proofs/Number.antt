@@ -8,14 +8,14 @@ use lib.Dec.{lit≤}
 use lib.ListN.{length, getD}
 use Rattle.refusal.specs.declared.Refusal.{Refusal}
 use Rattle.refusal.specs.declared.Refusal.the-variants.{FileLength, BlockCheck, BlockField, HeaderField, FunctionField, NodeField, PrefixForm, WrongType, NotBound, TooManyWords}
-use Rattle.refusal.specs.declared.Refusal.the-variants.{OutOfOrder, TooManyPending, SpaceTooShort, FuelUsedUp, InputEnded, NotATag, OutputFull, TooManyCalls, CannotPerform, TooDeep}
+use Rattle.refusal.specs.declared.Refusal.the-variants.{OutOfOrder, TooManyPending, SpaceTooShort, FuelUsedUp, InputEnded, NotATag, OutputFull, TooManyCalls, CannotPerform, TooDeep, OutOfRange}
 use Rattle.refusal.specs.Inner.Numbers.{number}
 
 -- the refusals in the order of their numbers
 abbrev inOrder : List Refusal
 inOrder =
     FileLength ∷ BlockCheck ∷ BlockField ∷ HeaderField ∷ FunctionField ∷ NodeField ∷ PrefixForm ∷ WrongType ∷ NotBound ∷ TooManyWords
-    ∷ OutOfOrder ∷ TooManyPending ∷ SpaceTooShort ∷ FuelUsedUp ∷ InputEnded ∷ NotATag ∷ OutputFull ∷ TooManyCalls ∷ CannotPerform ∷ TooDeep ∷ []
+    ∷ OutOfOrder ∷ TooManyPending ∷ SpaceTooShort ∷ FuelUsedUp ∷ InputEnded ∷ NotATag ∷ OutputFull ∷ TooManyCalls ∷ CannotPerform ∷ TooDeep ∷ OutOfRange ∷ []
 
 -- the refusal of a number
 abbrev numbered : ℕ → Refusal
@@ -43,9 +43,10 @@ placed OutputFull = (lit≤ tt, lit≤ tt, refl)
 placed TooManyCalls = (lit≤ tt, lit≤ tt, refl)
 placed CannotPerform = (lit≤ tt, lit≤ tt, refl)
 placed TooDeep = (lit≤ tt, lit≤ tt, refl)
+placed OutOfRange = (lit≤ tt, lit≤ tt, refl)
 
--- the numbers are 1 to 20
-pub number-range : (r : Refusal) → (1 ≤ number r) × (number r ≤ 20)
+-- the numbers are 1 to 21
+pub number-range : (r : Refusal) → (1 ≤ number r) × (number r ≤ 21)
 number-range r = (placed r .0, placed r .1)
 
 -- a number belongs to one refusal only

@@ -45,6 +45,8 @@ pub enum Refusal {
     CannotPerform,
     // 20: a node tag under 1,024 others
     TooDeep,
+    // 21: the exact sum lies outside −2147483648 to 2147483647
+    OutOfRange,
 }
 
 // What a check answers: passed, or the first refusal and its position. What a run answers: passed
@@ -86,5 +88,6 @@ pub fn number_of(r: Refusal) -> u32
         Refusal::TooManyCalls => 18,
         Refusal::CannotPerform => 19,
         Refusal::TooDeep => 20,
+        Refusal::OutOfRange => 21,
     }
 }

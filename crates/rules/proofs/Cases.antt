@@ -7,7 +7,8 @@ use mathlib.Core.Path.{_≡_, refl}
 use lib.Dec.{lit<, lit≤}
 use Rattle.formats.specs.Results.{Result, done, refusal}
 use Rattle.formats.specs.Records.{Kind, Var, Leaf, Node, Case, Part, aNumber, aTree, asWhole, underNumber, underTrees, nth, partsOf, nthPart}
-use Rattle.formats.specs.Programs.{Expr, const, var, add, ifZero, letIn, leafOf, nodeOf, caseOf, call, noArgs, arg, prefix, prefixes, size, numberValued, treeValued, Signature, signatureOf, Function, Program, signatures}
+use Rattle.formats.specs.Programs.{Expr, const, var, ifZero, letIn, leafOf, nodeOf, caseOf, call, noArgs, arg, prefix, prefixes, size, numberValued, treeValued, Signature, signatureOf, Function, Program, signatures}
+use Rattle.formats.specs.Inner.Expressions.{add}
 use Rattle.formats.specs.Programs.{Lawful, arityOf, countArgs, mostParameters, sumOfCounts}
 use Rattle.formats.proofs.ProgramCases.{grow, grow-lawful}
 use Rattle.rules.specs.Types.{Int, Tree⁺, resultType, arrows, functionType, isInt, isOutputTree, hasType}

@@ -7,8 +7,8 @@ use native.Mathlib.Nat.{add-zero, add-suc, suc-add}
 use native.Mathlib.Numerals.{add-one}
 use native.Mathlib.Omega.{arith}
 use lib.ListN.{length, length-map}
-use Rattle.formats.specs.Records.{Kind, Const, Var, Add, IfZero, Let, Leaf, Node, Case, Call, nth, aNumber, aTree, asWhole, underNumber, underTrees, partsOf, nthPart, partCount}
-use Rattle.formats.specs.Programs.{Expr, const, var, add, ifZero, letIn, leafOf, nodeOf, caseOf, call, Args, noArgs, arg}
+use Rattle.formats.specs.Records.{Kind, Const, Var, Compute, IfZero, Let, Leaf, Node, Case, Call, nth, aNumber, aTree, asWhole, underNumber, underTrees, partsOf, nthPart, partCount}
+use Rattle.formats.specs.Programs.{Expr, const, var, compute, ifZero, letIn, leafOf, nodeOf, caseOf, call, Args, noArgs, arg}
 use Rattle.formats.specs.Programs.{prefix, prefixes, size, Function, Program, nodes}
 use Rattle.rules.specs.Types.{Int}
 use Rattle.rules.specs.Scopes.{Scope, scope, inside, partScope, expectedIn, partType, PartTyped, one-of-these, none-of-these, an-argument}
@@ -24,7 +24,7 @@ mutual
   pub kinds-entered : (e : Expr) (sc : Scope) (r : ℕ) → map kindIn (entered sc r e) ≡ prefix e
   kinds-entered (const i) sc r = refl
   kinds-entered (var a) sc r = refl
-  kinds-entered (add p q) sc r = simp (map-append, kinds-entered p, kinds-entered q)
+  kinds-entered (compute op p q) sc r = simp (map-append, kinds-entered p, kinds-entered q)
   kinds-entered (ifZero t z o) sc r = simp (map-append, kinds-entered t, kinds-entered z, kinds-entered o)
   kinds-entered (letIn p body) sc r = simp (map-append, kinds-entered p, kinds-entered body)
   kinds-entered (leafOf p) sc r = simp (kinds-entered p)
@@ -65,7 +65,7 @@ mutual
   pub numbered : (e : Expr) (sc : Scope) (r : ℕ) → Numbered r (entered sc r e)
   numbered (const i) sc r = (refl, tt)
   numbered (var a) sc r = (refl, tt)
-  numbered (add p q) sc r = (refl, numbered-after _ (suc r) p _ (numbered p _ _) (numbered q _ _))
+  numbered (compute op p q) sc r = (refl, numbered-after _ (suc r) p _ (numbered p _ _) (numbered q _ _))
   numbered (ifZero t z o) sc r =
       (refl, numbered-after _ (suc r) t _ (numbered t _ _) (numbered-after _ _ z _ (numbered z _ _) (numbered o _ _)))
   numbered (letIn p body) sc r = (refl, numbered-after _ (suc r) p _ (numbered p _ _) (numbered body _ _))
@@ -93,9 +93,9 @@ pub part-types : (kind : Kind) (i : ℕ) (sc : Scope) → PartTyped (partsOf kin
 unfolding partsOf inside expectedIn partType nth
 part-types (Const c) i sc = none-of-these refl
 part-types (Var a) i sc = none-of-these refl
-part-types Add zero (scope g n w τ) = one-of-these aNumber refl
-part-types Add (suc zero) (scope g n w τ) = one-of-these aNumber refl
-part-types Add (suc (suc i)) (scope g n w τ) = none-of-these refl
+part-types (Compute op) zero (scope g n w τ) = one-of-these aNumber refl
+part-types (Compute op) (suc zero) (scope g n w τ) = one-of-these aNumber refl
+part-types (Compute op) (suc (suc i)) (scope g n w τ) = none-of-these refl
 part-types IfZero zero (scope g n w τ) = one-of-these aNumber refl
 part-types IfZero (suc zero) (scope g n w τ) = one-of-these asWhole refl
 part-types IfZero (suc (suc zero)) (scope g n w τ) = one-of-these asWhole refl
@@ -126,9 +126,9 @@ pub part-scopes : (arity : ℕ → ℕ) (kind : Kind) (i : ℕ) (sc : Scope) →
 unfolding partsOf partCount nthPart inside partScope nth
 part-scopes arity (Const c) i (scope g n w τ) h = absurd (omega arith)
 part-scopes arity (Var a) i (scope g n w τ) h = absurd (omega arith)
-part-scopes arity Add zero (scope g n w τ) h = first-number g n w
-part-scopes arity Add (suc zero) (scope g n w τ) h = second-number g n w
-part-scopes arity Add (suc (suc i)) (scope g n w τ) h = absurd (omega arith)
+part-scopes arity (Compute op) zero (scope g n w τ) h = first-number g n w
+part-scopes arity (Compute op) (suc zero) (scope g n w τ) h = second-number g n w
+part-scopes arity (Compute op) (suc (suc i)) (scope g n w τ) h = absurd (omega arith)
 part-scopes arity IfZero zero (scope g n w τ) h = first-number g n w
 part-scopes arity IfZero (suc zero) (scope g n w τ) h = refl
 part-scopes arity IfZero (suc (suc zero)) (scope g n w τ) h = refl

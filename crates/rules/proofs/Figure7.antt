@@ -6,7 +6,8 @@ use native.Mathlib.Omega.{arith}
 use lib.Dec.{lit<}
 use lib.ListN.{getD}
 use Rattle.formats.specs.Records.{nth}
-use Rattle.formats.specs.Programs.{Expr, const, var, add, leafOf, nodeOf, caseOf, call, noArgs, treeValued, Signature, Function}
+use Rattle.formats.specs.Programs.{Expr, const, var, leafOf, nodeOf, caseOf, call, noArgs, treeValued, Signature, Function}
+use Rattle.formats.specs.Inner.Expressions.{add}
 use Rattle.rules.specs.Types.{Ty, Tree⁻, Tree⁺, arrow, resultType, arrows, functionType}
 use Rattle.rules.specs.Typing.{TypesName, Types, Applies, to-tree, TypedFunction}
 use Rattle.rules.specs.Printed.{treeName, functionName, fix, here, Judges, termOf, lams, functionTerm}

@@ -15,7 +15,8 @@ use lib.ListN.{length}
 use Rattle.formats.specs.Refusals.{tooManyWords}
 use Rattle.formats.specs.Results.{done, refusal}
 use Rattle.formats.specs.Records.{Kind, Call, nth}
-use Rattle.formats.specs.Programs.{Expr, const, var, add, ifZero, letIn, leafOf, nodeOf, caseOf, call, Args, noArgs, arg, prefix, size, Sort, numberValued, treeValued, Signature, signatureOf, Program, signatures}
+use Rattle.formats.specs.Programs.{Expr, const, var, compute, ifZero, letIn, leafOf, nodeOf, caseOf, call, Args, noArgs, arg, prefix, size, Sort, numberValued, treeValued, Signature, signatureOf, Program, signatures}
+use Rattle.formats.specs.Inner.Expressions.{add}
 use Rattle.rules.specs.Types.{Ty, Int, Tree⁺, resultType, isInt}
 use Rattle.rules.specs.Scopes.{Scope, scope, startOf, inside, Entry, entry, entered, enteredArgs, enteredAll}
 use Rattle.rules.specs.PassOne.{nameBound, typeFits, bareNumber, wordsTested, hasRoom, atEntry, passOver, passOne, wordsWithValue, wordsOf, wordsOfArgs}
@@ -100,7 +101,7 @@ module _ (gs : List Signature) where
     overfull : (g n w q : ℕ) (τ : Ty) (e : Expr) {r : ℕ} → FirstFails gs (entered (scope g n w τ) q e) tooManyWords r → mostFrameWords < wordsOf gs w e
     overfull g n w q τ (const i) f = elim (which f) [ at-first h ↦ one-more h | after-it t h ↦ absurd (nowhere [] refl h) ]
     overfull g n w q τ (var a) f = elim (which f) [ at-first h ↦ one-more h | after-it t h ↦ absurd (nowhere [] refl h) ]
-    overfull g n w q τ (add p o) f = elim (which f) [
+    overfull g n w q τ (compute op p o) f = elim (which f) [
       | at-first h ↦ not-tested refl h
       | after-it t h ↦ elim (fails-split gs (entered (scope g n w Int) (suc q) p) _ h) [
         | inl k ↦ omega (arith, overfull g n w (suc q) Int p k)

@@ -7,10 +7,11 @@ use mathlib.Core.Logic.{_↔_}
 use mathlib.Core.Option.{Option, none, some}
 use mathlib.Core.Path.{_≡_, refl, sym, _∙_}
 use borrow.Author.Tests.{ltb-true}
+use Rattle.formats.specs.Arithmetic.{Op}
 use Rattle.formats.specs.Refusals.{wrongType, notBound, tooManyWords}
 use Rattle.formats.specs.Results.{Result, done, refusal, andThen}
-use Rattle.formats.specs.Records.{Kind, Const, Var, Add, IfZero, Let, Leaf, Node, Case, Call, nth}
-use Rattle.formats.specs.Programs.{Expr, const, var, add, ifZero, letIn, leafOf, nodeOf, caseOf, call, Args, arg, size}
+use Rattle.formats.specs.Records.{Kind, Const, Var, Compute, IfZero, Let, Leaf, Node, Case, Call, nth}
+use Rattle.formats.specs.Programs.{Expr, const, var, compute, ifZero, letIn, leafOf, nodeOf, caseOf, call, Args, arg, size}
 use Rattle.formats.specs.Programs.{Sort, numberValued, treeValued, Signature, Program, signatures}
 use Rattle.formats.proofs.Results.{done-not, then-done, then-refused, then-inv, check-inv}
 use Rattle.rules.specs.Types.{Ty, Int, Tree⁻, Tree⁺, arrow, resultType, isInt, isOutputTree, hasType}
@@ -180,11 +181,11 @@ module _ (gs : List Signature) (g n w r : ℕ) (τ : Ty) where
       let h = pass-inv gs (scope g n w τ) r (Var a) [] e in
       (ltb-true a g (h .bound), int-is τ (h .right))
 
-  pub pass-add : (p q : Expr) → Passes gs (scope g n w τ) r (add p q)
+  pub pass-compute : (op : Op) (p q : Expr) → Passes gs (scope g n w τ) r (compute op p q)
       → (τ ≡ Int) × Passes gs (scope g n w Int) (suc r) p × Passes gs (scope g n (suc w) Int) (suc r + size p) q
   unfolding entered inside typeFits
-  pass-add p q e =
-      let h = pass-inv gs (scope g n w τ) r Add _ e in
+  pass-compute op p q e =
+      let h = pass-inv gs (scope g n w τ) r (Compute op) _ e in
       let first = entered (scope g n w Int) (suc r) p in
       (int-is τ (h .right), pass-left gs first _ (h .rest), pass-right gs first _ (h .rest))
 

@@ -14,7 +14,7 @@ use lib.ListN.{length}
 use Rattle.formats.specs.Refusals.{outOfOrder, tooManyPending}
 use Rattle.formats.specs.Results.{Result, done, refusal, andThen, valueIf}
 use Rattle.formats.specs.Records.{Call}
-use Rattle.formats.specs.Programs.{Expr, const, var, add, ifZero, letIn, leafOf, nodeOf, caseOf, call, Args, noArgs, arg, size, countArgs, CallsComplete, ArgsComplete, Every}
+use Rattle.formats.specs.Programs.{Expr, const, var, compute, ifZero, letIn, leafOf, nodeOf, caseOf, call, Args, noArgs, arg, size, countArgs, CallsComplete, ArgsComplete, Every}
 use Rattle.formats.specs.Programs.{Signature, arityOf, Function, Program, signatures}
 use Rattle.formats.proofs.Results.{done-injective, done-not, then-done, then-refused, both-held}
 use Rattle.formats.proofs.Programs.{every-append, every-left, every-right}
@@ -30,7 +30,7 @@ use Rattle.rules.specs.FirstFault.{Spot, spot, ArgsInOrder, finished, on
 use Rattle.rules.specs.FirstFault.{add-left, add-right, if-test, if-zero, if-other, let-number, let-body, leaf-number, node-left, node-right, case-leaf, case-node, call-number}
 use Rattle.rules.specs.FirstFault.{case-not-head, call-not-head, case-unequal, if-unequal, case-full}
 use Rattle.rules.proofs.Splits.{types-checks}
-use Rattle.rules.proofs.PassOne.{Passes, PassesArgs, Called, pass-const, pass-var, pass-add, pass-ifZero, pass-let, pass-leaf, pass-node, pass-case, pass-call, pass-arg}
+use Rattle.rules.proofs.PassOne.{Passes, PassesArgs, Called, pass-const, pass-var, pass-compute, pass-ifZero, pass-let, pass-leaf, pass-node, pass-case, pass-call, pass-arg}
 
 -- ---- what is said of a result
 
@@ -381,8 +381,8 @@ module _ (gs : List Signature) where
     reported g n w r Δ τ (var x) a p =
         let h = pass-var gs g n w r τ x p in
         rw (h .1) (good (record { derivation = T-Var2 (h .0); few = (tt, tt) }))
-    reported g n w r Δ τ (add p q) a passed =
-        let h = pass-add gs g n w r τ p q passed in
+    reported g n w r Δ τ (compute op p q) a passed =
+        let h = pass-compute gs g n w r τ op p q passed in
         rw (h .0) (reported-two
         (reported g n w (suc r) Δ Int p (a .0) (h .1))
         (λ Δ′. reported g n (suc w) (suc r + size p) Δ′ Int q (a .1) (h .2))

@@ -7,7 +7,7 @@ use lib.ListN.{length, length-append}
 use lib.Dec.{ltb, eqb}
 use Rattle.formats.specs.Refusals.{outOfOrder, tooManyPending}
 use Rattle.formats.specs.Results.{Result, done, refusal, andThen}
-use Rattle.formats.specs.Programs.{Expr, const, var, add, ifZero, letIn, leafOf, nodeOf, caseOf, call, Args, noArgs, arg, prefix, prefixes, size, Signature, Function, Program, signatures}
+use Rattle.formats.specs.Programs.{Expr, const, var, compute, ifZero, letIn, leafOf, nodeOf, caseOf, call, Args, noArgs, arg, prefix, prefixes, size, Signature, Function, Program, signatures}
 use Rattle.formats.proofs.Results.{Outcome, gave, stopped, outcome, done-not, then-done, then-refused}
 use Rattle.formats.proofs.Programs.{some-record}
 use Rattle.rules.specs.Typing.{TypedFunction}
@@ -67,7 +67,7 @@ mutual
   among : (e : Expr) (n r : ℕ) (Δ : List ℕ) → In r (size e) (walk n r Δ e)
   among (const i) n r Δ = good tt
   among (var a) n r Δ = good tt
-  among (add p q) n r Δ = in-two p q r _ _ (among p n (suc r) Δ) (λ Δ′. among q n (suc r + size p) Δ′)
+  among (compute op p q) n r Δ = in-two p q r _ _ (among p n (suc r) Δ) (λ Δ′. among q n (suc r + size p) Δ′)
   among (ifZero t z o) n r Δ =
       let s = length-append (prefix t) (prefix z ++ prefix o) in
       let s′ = two-sizes z o in

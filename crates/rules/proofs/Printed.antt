@@ -16,7 +16,7 @@ use native.Mathlib.Decide.{decLt}
 use native.Mathlib.Nat.{add-zero, zero-add, lt-suc-self}
 use native.Mathlib.Omega.{arith}
 use Rattle.formats.specs.Records.{nth}
-use Rattle.formats.specs.Programs.{Expr, const, var, add, ifZero, letIn, leafOf, nodeOf, caseOf, call, Args, noArgs, arg}
+use Rattle.formats.specs.Programs.{Expr, const, var, compute, ifZero, letIn, leafOf, nodeOf, caseOf, call, Args, noArgs, arg}
 use Rattle.formats.specs.Programs.{Sort, numberValued, treeValued, Signature, signatureOf, Function}
 use Rattle.formats.proofs.Programs.{every-left, every-right}
 use Rattle.rules.specs.Types.{Ty, Int, Tree⁻, arrow, resultType, arrows, functionType}
@@ -245,7 +245,7 @@ mutual
       → Types gs g n Δ e τ
   typed (const i) Judges.T-Int none = Types.T-Int
   typed {gs} {g} (var a) (Judges.T-Var2 i) none = var-typed (known gs g i)
-  typed (add p q) (Judges.T-Plus j k) t = split t (λ Θ₁ Θ₂ l r. Types.T-Plus (typed p j l) (typed q k r))
+  typed (compute op p q) (Judges.T-Plus j k) t = split t (λ Θ₁ Θ₂ l r. Types.T-Plus (typed p j l) (typed q k r))
   typed (ifZero x p q) (Judges.IfZero-01 i j k) t = split t (λ Θ₁ Θ₂ l r. Types.IfZero-01 (typed x i l) (typed p j r) (typed q k r))
   typed (letIn p q) (Judges.Let-01 j k) t = split t (λ Θ₁ Θ₂ l r. Types.Let-01 (typed p j l) (typed q k r))
   typed (leafOf p) (Judges.T-Leaf j) t = Types.T-Leaf (typed p j t)

@@ -9,8 +9,8 @@ use native.Mathlib.Omega.{arith}
 use lib.Dec.{ltb}
 use borrow.Author.Tests.{lt-ltb}
 use Rattle.formats.specs.Results.{done}
-use Rattle.formats.specs.Records.{Const, Var, Add, IfZero, Let, Leaf, Node, Case, Call, nth}
-use Rattle.formats.specs.Programs.{Expr, const, var, add, ifZero, letIn, leafOf, nodeOf, caseOf, call, Args, Every, Sort, numberValued, treeValued, Signature}
+use Rattle.formats.specs.Records.{Const, Var, Compute, IfZero, Let, Leaf, Node, Case, Call, nth}
+use Rattle.formats.specs.Programs.{Expr, const, var, compute, ifZero, letIn, leafOf, nodeOf, caseOf, call, Args, Every, Sort, numberValued, treeValued, Signature}
 use Rattle.formats.proofs.Programs.{every-left, every-right}
 use Rattle.rules.specs.Types.{Ty, Int, Tree⁺, resultType, arrows, functionType, isInt, isOutputTree, hasType}
 use Rattle.rules.specs.Typing.{TypesName, T-Var1, Types, T-Var2, T-Int, T-App, T-Plus, T-Leaf, T-Node, T-Case, Let-01, IfZero-01, Applies, to-number, to-tree}
@@ -35,7 +35,7 @@ no-fewer : (gs : List Signature) (w : ℕ) (e : Expr) → w ≤ wordsOf gs w e
 unfolding wordsOf wordsWithValue
 no-fewer gs w (const i) = omega arith
 no-fewer gs w (var a) = omega arith
-no-fewer gs w (add p q) = let h = no-fewer gs w p in omega arith
+no-fewer gs w (compute op p q) = let h = no-fewer gs w p in omega arith
 no-fewer gs w (ifZero t z o) = let h = no-fewer gs w t in omega arith
 no-fewer gs w (letIn p body) = let h = no-fewer gs w p in omega arith
 no-fewer gs w (leafOf p) = no-fewer gs w p
@@ -119,7 +119,7 @@ module _ (gs : List Signature) where
         let same : τ ≡ resultType (s .sort) = applied-type applied (s .parameters) _ refl in
         rw same (call-passes gs g n w r a b xs s known (args .0) (omega arith) (rw same at (args .1)))
     | T-Plus {g = g} {n = n} {Δ₁ = Δ₁} {Δ₂ = Δ₂} (d₁ → h₁) (d₂ → h₂) ↦ λ w r below few.
-        pass-more gs (scope g n w Int) r Add _ refl refl refl
+        pass-more gs (scope g n w Int) r (Compute _) _ refl refl refl
         (pass-both gs _ _ (h₁ w (suc r) (every-left _ Δ₁ Δ₂ below) (omega arith)) (h₂ (suc w) _ (every-right _ Δ₁ Δ₂ below) (omega arith)))
     | T-Leaf {g = g} {n = n} (d → h) ↦ λ w r below few. pass-more gs (scope g n w Tree⁺) r Leaf _ refl refl refl (h w (suc r) below few)
     | T-Node {g = g} {n = n} {Δ₁ = Δ₁} {Δ₂ = Δ₂} (d₁ → h₁) (d₂ → h₂) ↦ λ w r below few.

@@ -9,13 +9,13 @@ use native.Mathlib.Omega.{arith}
 use borrow.Author.Tests.{ltb-true}
 use Rattle.formats.specs.Results.{done}
 use Rattle.formats.specs.Records.{Kind, Const, Var, Case, Call, nth}
-use Rattle.formats.specs.Programs.{Expr, const, var, add, ifZero, letIn, leafOf, nodeOf, caseOf, call, Args, noArgs, arg, size, countArgs}
+use Rattle.formats.specs.Programs.{Expr, const, var, compute, ifZero, letIn, leafOf, nodeOf, caseOf, call, Args, noArgs, arg, size, countArgs}
 use Rattle.formats.specs.Programs.{CallsComplete, ArgsComplete, Sort, numberValued, treeValued, Signature, arityOf, Function, mostParameters, LawfulFunction}
 use Rattle.rules.specs.Types.{Ty, Int, Tree⁺, resultType, isInt}
 use Rattle.rules.specs.Scopes.{scope, Entry, entry, entered}
 use Rattle.rules.specs.PassOne.{bareNumber, wordsTested, hasRoom, passOver, wordsWithValue, wordsOf, wordsOfArgs}
 use Rattle.rules.specs.Limits.{mostFrameWords}
-use Rattle.rules.proofs.PassOne.{Passes, PassesArgs, pass-inv, pass-add, pass-ifZero, pass-let, pass-leaf, pass-node, pass-case, pass-call, pass-arg}
+use Rattle.rules.proofs.PassOne.{Passes, PassesArgs, pass-inv, pass-compute, pass-ifZero, pass-let, pass-leaf, pass-node, pass-case, pass-call, pass-arg}
 
 -- ---- a number needs a word
 
@@ -53,7 +53,7 @@ mutual
   pub room : (gs : List Signature) (g n w r : ℕ) (e : Expr) → CallsComplete (arityOf gs) e → Passes gs (scope g n w Int) r e → w < mostFrameWords
   room gs g n w r (const i) a e = tested gs g n w r Int (Const i) _ refl e
   room gs g n w r (var v) a e = tested gs g n w r Int (Var v) _ refl e
-  room gs g n w r (add p q) a e = room gs g n w _ p (a .0) (pass-add gs g n w r Int p q e .1)
+  room gs g n w r (compute op p q) a e = room gs g n w _ p (a .0) (pass-compute gs g n w r Int op p q e .1)
   room gs g n w r (ifZero t z o) a e = room gs g n w _ t (a .0) (pass-ifZero gs g n w r Int t z o e .0)
   room gs g n w r (letIn p body) a e = room gs g n w _ p (a .0) (pass-let gs g n w r Int p body e .0)
   room gs g n w r (leafOf p) a e = no-number (pass-leaf gs g n w r Int p e .0)
@@ -89,7 +89,7 @@ mutual
   pub words-least : (gs : List Signature) (w : ℕ) (e : Expr) → w ≤ wordsOf gs w e
   words-least gs w (const i) = omega arith
   words-least gs w (var a) = omega arith
-  words-least gs w (add p q) = omega (arith, words-least gs w p)
+  words-least gs w (compute op p q) = omega (arith, words-least gs w p)
   words-least gs w (ifZero t z o) = omega (arith, words-least gs w t)
   words-least gs w (letIn p body) = omega (arith, words-least gs w p)
   words-least gs w (leafOf p) = words-least gs w p
@@ -113,8 +113,8 @@ mutual
       → wordsOf gs w e ≤ mostFrameWords
   few-words gs g n w r τ (const i) a h e = tested gs g n w r τ (Const i) _ refl e
   few-words gs g n w r τ (var v) a h e = tested gs g n w r τ (Var v) _ refl e
-  few-words gs g n w r τ (add p q) a h e =
-      let c = pass-add gs g n w r τ p q e in
+  few-words gs g n w r τ (compute op p q) a h e =
+      let c = pass-compute gs g n w r τ op p q e in
       max-le (few-words gs g n w _ Int p (a .0) h (c .1)) (few-words gs g n (suc w) _ Int q (a .1) (room gs g n w _ p (a .0) (c .1)) (c .2))
   few-words gs g n w r τ (ifZero t z o) a h e =
       let c = pass-ifZero gs g n w r τ t z o e in

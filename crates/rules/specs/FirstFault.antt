@@ -4,8 +4,9 @@ use Prim.Native.Nat.{ℕ, suc, _+_, _≤_, _<_}
 use mathlib.Core.List.{List, [], _∷_}
 use mathlib.Core.Logic.{_≢_}
 use lib.ListN.{length}
+use Rattle.formats.specs.Arithmetic.{Op}
 use Rattle.formats.specs.Refusals.{outOfOrder, tooManyPending}
-use Rattle.formats.specs.Programs.{Expr, add, ifZero, letIn, leafOf, nodeOf, caseOf, call, Args, noArgs, arg, size, Signature, Function}
+use Rattle.formats.specs.Programs.{Expr, compute, ifZero, letIn, leafOf, nodeOf, caseOf, call, Args, noArgs, arg, size, Signature, Function}
 use Rattle.rules.specs.Types.{Ty, Int, Tree⁺, resultType}
 use Rattle.rules.specs.Leftover.{InOrder}
 use Rattle.rules.specs.Limits.{mostPending}
@@ -36,12 +37,12 @@ pub data EntersArg (gs : List Signature) (g n : ℕ) : ℕ → List ℕ → Args
 -- From an expression the walk enters one of its parts, the parts before it being in order.
 pub data Enters (gs : List Signature) : Spot → Spot → Type 0 where
   add-left :
-      {g n r : ℕ} {Δ : List ℕ} {p q : Expr}
-      → Enters gs (spot g n r Δ (add p q) Int) (spot g n (suc r) Δ p Int)
+      {g n r : ℕ} {Δ : List ℕ} {op : Op} {p q : Expr}
+      → Enters gs (spot g n r Δ (compute op p q) Int) (spot g n (suc r) Δ p Int)
   add-right :
-      {g n r : ℕ} {Δ Δ′ : List ℕ} {p q : Expr}
+      {g n r : ℕ} {Δ Δ′ : List ℕ} {op : Op} {p q : Expr}
       → InOrder gs g n (suc r) Δ p Int Δ′
-      → Enters gs (spot g n r Δ (add p q) Int) (spot g n (suc r + size p) Δ′ q Int)
+      → Enters gs (spot g n r Δ (compute op p q) Int) (spot g n (suc r + size p) Δ′ q Int)
   if-test :
       {g n r : ℕ} {Δ : List ℕ} {t z o : Expr} {τ : Ty}
       → Enters gs (spot g n r Δ (ifZero t z o) τ) (spot g n (suc r) Δ t Int)

@@ -8,8 +8,9 @@ use mathlib.Core.List.{List, [], _∷_, _++_}
 use mathlib.Core.Option.{some}
 use mathlib.Core.Path.{_≡_}
 use lib.ListN.{length}
-use Rattle.formats.specs.Records.{Kind, Const, Var, Add, IfZero, Let, Leaf, Node, Case, Call, nth}
-use Rattle.formats.specs.Programs.{Expr, const, var, add, ifZero, letIn, leafOf, nodeOf, caseOf, call, Args, noArgs, arg, size, Every, Signature}
+use Rattle.formats.specs.Arithmetic.{Op}
+use Rattle.formats.specs.Records.{Kind, Const, Var, Compute, IfZero, Let, Leaf, Node, Case, Call, nth}
+use Rattle.formats.specs.Programs.{Expr, const, var, compute, ifZero, letIn, leafOf, nodeOf, caseOf, call, Args, noArgs, arg, size, Every, Signature}
 use Rattle.rules.specs.Types.{Ty, Int, Tree⁻, Tree⁺, arrow, functionType}
 use Rattle.rules.specs.Limits.{mostPending}
 
@@ -32,10 +33,10 @@ mutual
         → Checks gs g n r Δ (call a b xs) τ Δ′
     -- Γ | Δ ⊢ M₁ : Int ↗ Δ′ and Γ | Δ′ ⊢ M₂ : Int ↗ Δ″ give Γ | Δ ⊢ M₁ + M₂ : Int ↗ Δ″
     T-Plus :
-        {g n r : ℕ} {Δ Δ′ Δ″ : List ℕ} {p q : Expr}
+        {g n r : ℕ} {Δ Δ′ Δ″ : List ℕ} {op : Op} {p q : Expr}
         → Checks gs g n (suc r) Δ p Int Δ′
         → Checks gs g n (suc r + size p) Δ′ q Int Δ″
-        → Checks gs g n r Δ (add p q) Int Δ″
+        → Checks gs g n r Δ (compute op p q) Int Δ″
     -- Γ | Δ ⊢ M : Int ↗ Δ′ gives Γ | Δ ⊢ leaf M : Tree⁺ ↗ Δ′
     T-Leaf : {g n r : ℕ} {Δ Δ′ : List ℕ} {p : Expr} → Checks gs g n (suc r) Δ p Int Δ′ → Checks gs g n r Δ (leafOf p) Tree⁺ Δ′
     -- Γ | Δ ⊢ M₁ : Tree⁺ ↗ Δ′ and Γ | Δ′ ⊢ M₂ : Tree⁺ ↗ Δ″ give Γ | Δ ⊢ node M₁ M₂ : Tree⁺ ↗ Δ″
@@ -93,7 +94,7 @@ unfoldable mutual
   lines (T-Var2 {r = r} {x = x} {Δ = Δ} bound) = line r (Var x) Δ Δ ∷ []
   lines (T-Int {r = r} {i = i} {Δ = Δ}) = line r (Const i) Δ Δ ∷ []
   lines (T-App {r = r} {a = a} {b = b} {Δ = Δ} {Δ′ = Δ′} known applied) = linesApplied applied ++ (line r (Call a b) Δ Δ′ ∷ [])
-  lines (T-Plus {r = r} {Δ = Δ} {Δ″ = Δ″} d₁ d₂) = lines d₁ ++ (lines d₂ ++ (line r Add Δ Δ″ ∷ []))
+  lines (T-Plus {r = r} {Δ = Δ} {Δ″ = Δ″} {op = op} d₁ d₂) = lines d₁ ++ (lines d₂ ++ (line r (Compute op) Δ Δ″ ∷ []))
   lines (T-Leaf {r = r} {Δ = Δ} {Δ′ = Δ′} d) = lines d ++ (line r Leaf Δ Δ′ ∷ [])
   lines (T-Node {r = r} {Δ = Δ} {Δ″ = Δ″} d₁ d₂) = lines d₁ ++ (lines d₂ ++ (line r Node Δ Δ″ ∷ []))
   lines (T-Case {r = r} {a = a} {Δ = Δ} {Δ″ = Δ″} name d₁ d₂) = lines d₁ ++ (lines d₂ ++ (line r (Case a) Δ Δ″ ∷ []))
@@ -114,7 +115,7 @@ abbrev pub FewAtCase : Line → Type 0
 FewAtCase (line r (Case a) before after) = length before < mostPending
 FewAtCase (line r (Const i) before after) = Unit {0}
 FewAtCase (line r (Var x) before after) = Unit {0}
-FewAtCase (line r Add before after) = Unit {0}
+FewAtCase (line r (Compute op) before after) = Unit {0}
 FewAtCase (line r IfZero before after) = Unit {0}
 FewAtCase (line r Let before after) = Unit {0}
 FewAtCase (line r Leaf before after) = Unit {0}

@@ -9,8 +9,8 @@ use lib.Dec.{ltb}
 use lib.ListN.{length}
 use Rattle.formats.specs.Refusals.{wrongType, notBound, tooManyWords}
 use Rattle.formats.specs.Results.{Result, done, andThen, valueIf}
-use Rattle.formats.specs.Records.{Kind, Const, Var, Add, IfZero, Let, Leaf, Node, Case, Call, nth}
-use Rattle.formats.specs.Programs.{Expr, const, var, add, ifZero, letIn, leafOf, nodeOf, caseOf, call, Args, noArgs, arg, Sort, numberValued, treeValued, Signature, Program, signatures}
+use Rattle.formats.specs.Records.{Kind, Const, Var, Compute, IfZero, Let, Leaf, Node, Case, Call, nth}
+use Rattle.formats.specs.Programs.{Expr, const, var, compute, ifZero, letIn, leafOf, nodeOf, caseOf, call, Args, noArgs, arg, Sort, numberValued, treeValued, Signature, Program, signatures}
 use Rattle.rules.specs.Types.{isInt, isOutputTree, hasType}
 use Rattle.rules.specs.Scopes.{Scope, scope, Entry, entry, enteredAll}
 use Rattle.rules.specs.Limits.{mostFrameWords}
@@ -19,7 +19,7 @@ use Rattle.rules.specs.Limits.{mostFrameWords}
 unfoldable pub nameBound : Scope → Kind → Bool
 nameBound (scope g n w τ) (Const i) = true
 nameBound (scope g n w τ) (Var a) = ltb a g
-nameBound (scope g n w τ) Add = true
+nameBound (scope g n w τ) (Compute op) = true
 nameBound (scope g n w τ) IfZero = true
 nameBound (scope g n w τ) Let = true
 nameBound (scope g n w τ) Leaf = true
@@ -32,7 +32,7 @@ nameBound (scope g n w τ) (Call a b) = ltb a n
 unfoldable pub typeFits : List Signature → Scope → Kind → Bool
 typeFits gs (scope g n w τ) (Const i) = isInt τ
 typeFits gs (scope g n w τ) (Var a) = isInt τ
-typeFits gs (scope g n w τ) Add = isInt τ
+typeFits gs (scope g n w τ) (Compute op) = isInt τ
 typeFits gs (scope g n w τ) IfZero = true
 typeFits gs (scope g n w τ) Let = true
 typeFits gs (scope g n w τ) Leaf = isOutputTree τ
@@ -49,7 +49,7 @@ bareNumber s = elim (s .sort) [ treeValued ↦ false | numberValued ↦ elim (s 
 unfoldable pub wordsTested : List Signature → Kind → Bool
 wordsTested gs (Const i) = true
 wordsTested gs (Var a) = true
-wordsTested gs Add = false
+wordsTested gs (Compute op) = false
 wordsTested gs IfZero = false
 wordsTested gs Let = false
 wordsTested gs Leaf = false
@@ -116,7 +116,7 @@ unfoldable mutual
   pub wordsOf : List Signature → ℕ → Expr → ℕ
   wordsOf gs w (const i) = suc w
   wordsOf gs w (var a) = suc w
-  wordsOf gs w (add p q) = max (wordsOf gs w p) (wordsOf gs (suc w) q)
+  wordsOf gs w (compute op p q) = max (wordsOf gs w p) (wordsOf gs (suc w) q)
   wordsOf gs w (ifZero t z o) = max (wordsOf gs w t) (max (wordsOf gs w z) (wordsOf gs w o))
   wordsOf gs w (letIn p body) = max (wordsOf gs w p) (wordsOf gs (suc w) body)
   wordsOf gs w (leafOf p) = wordsOf gs w p

@@ -7,7 +7,7 @@ use lib.Dec.{ltb, eqb}
 use lib.ListN.{length}
 use Rattle.formats.specs.Refusals.{outOfOrder, tooManyPending}
 use Rattle.formats.specs.Results.{Result, done, refusal, andThen, valueIf}
-use Rattle.formats.specs.Programs.{Expr, const, var, add, ifZero, letIn, leafOf, nodeOf, caseOf, call, Args, noArgs, arg, size, Function, Program}
+use Rattle.formats.specs.Programs.{Expr, const, var, compute, ifZero, letIn, leafOf, nodeOf, caseOf, call, Args, noArgs, arg, size, Function, Program}
 use Rattle.formats.specs.Rows.{readProgram}
 use Rattle.formats.specs.Blocks.{flatIn}
 use Rattle.rules.specs.Limits.{mostPending}
@@ -37,7 +37,7 @@ unfoldable mutual
   pub walk : ℕ → ℕ → List ℕ → Expr → Result (List ℕ)
   walk n r Δ (const i) = done Δ
   walk n r Δ (var a) = done Δ
-  walk n r Δ (add p q) = andThen (walk n (suc r) Δ p) (λ Δ′. walk n (suc r + size p) Δ′ q)
+  walk n r Δ (compute op p q) = andThen (walk n (suc r) Δ p) (λ Δ′. walk n (suc r + size p) Δ′ q)
   walk n r Δ (ifZero t z o) =
       andThen (walk n (suc r) Δ t) (λ Δ′. equalBranches r (walk n (suc r + size t) Δ′ z) (walk n (suc r + size t + size z) Δ′ o))
   walk n r Δ (letIn p body) = andThen (walk n (suc r) Δ p) (λ Δ′. walk n (suc r + size p) Δ′ body)

@@ -3,7 +3,8 @@
 use Prim.Native.Nat.{ℕ, zero, suc}
 use mathlib.Core.List.{List, [], _∷_, _++_}
 use mathlib.Core.Logic.{_≢_}
-use Rattle.formats.specs.Programs.{Expr, const, var, add, ifZero, letIn, leafOf, nodeOf, caseOf, call, Args, noArgs, arg, Every, Signature, Function}
+use Rattle.formats.specs.Arithmetic.{Op}
+use Rattle.formats.specs.Programs.{Expr, const, var, compute, ifZero, letIn, leafOf, nodeOf, caseOf, call, Args, noArgs, arg, Every, Signature, Function}
 use Rattle.rules.specs.Types.{Ty, Int, Tree⁻, Tree⁺, arrow, functionType}
 
 -- Variables. 000, section 2.1: "bound variables are always different from each other and free
@@ -23,8 +24,8 @@ pub data Term : Type 0 where
   name : Name → Term
   -- M₁ M₂
   app : Term → Term → Term
-  -- M₁ + M₂
-  plus : Term → Term → Term
+  -- M₁ + M₂, and so of each operation
+  computeTerm : Op → Term → Term → Term
   -- fix f.M
   fix : Name → Term → Term
   -- leaf M
@@ -74,10 +75,10 @@ pub data Judges : List Binding → List Name → Term → Ty → Type 0 where
       → Judges Γ Δ₂ N σ
       → Judges Γ (Δ₁ ++ Δ₂) (app M N) τ
   T-Plus :
-      {Γ : List Binding} {Δ₁ Δ₂ : List Name} {M N : Term}
+      {Γ : List Binding} {Δ₁ Δ₂ : List Name} {op : Op} {M N : Term}
       → Judges Γ Δ₁ M Int
       → Judges Γ Δ₂ N Int
-      → Judges Γ (Δ₁ ++ Δ₂) (plus M N) Int
+      → Judges Γ (Δ₁ ++ Δ₂) (computeTerm op M N) Int
   T-Fix :
       {Γ : List Binding} {f : Name} {M : Term} {σ τ : Ty}
       → Judges (has f (arrow σ τ) ∷ Γ) [] M (arrow σ τ)
@@ -116,7 +117,7 @@ unfoldable mutual
   pub termOf : ℕ → ℕ → Expr → Term
   termOf g n (const i) = int i
   termOf g n (var a) = name (numberName a)
-  termOf g n (add p q) = plus (termOf g n p) (termOf g n q)
+  termOf g n (compute op p q) = computeTerm op (termOf g n p) (termOf g n q)
   termOf g n (ifZero t z o) = ifZero-01 (termOf g n t) (termOf g n z) (termOf g n o)
   termOf g n (letIn p body) = let-01 (numberName g) (termOf g n p) (termOf (suc g) n body)
   termOf g n (leafOf p) = leafTerm (termOf g n p)

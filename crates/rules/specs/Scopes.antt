@@ -4,8 +4,8 @@ use Prim.Native.Nat.{ℕ, zero, suc, _+_}
 use mathlib.Core.List.{List, [], _∷_, _++_}
 use mathlib.Core.Option.{none, some}
 use mathlib.Core.Path.{_≡_}
-use Rattle.formats.specs.Records.{Kind, Const, Var, Add, IfZero, Let, Leaf, Node, Case, Call, nth, Part, aNumber, aTree, asWhole, underNumber, underTrees, Parts, these, argumentsOf}
-use Rattle.formats.specs.Programs.{Expr, const, var, add, ifZero, letIn, leafOf, nodeOf, caseOf, call, Args, noArgs, arg, size, Function}
+use Rattle.formats.specs.Records.{Kind, Const, Var, Compute, IfZero, Let, Leaf, Node, Case, Call, nth, Part, aNumber, aTree, asWhole, underNumber, underTrees, Parts, these, argumentsOf}
+use Rattle.formats.specs.Programs.{Expr, const, var, compute, ifZero, letIn, leafOf, nodeOf, caseOf, call, Args, noArgs, arg, size, Function}
 use Rattle.rules.specs.Types.{Ty, Int, Tree⁺, resultType}
 
 -- How many number names and tree names are bound, how many words stand above the frame's base, and
@@ -26,8 +26,8 @@ startOf f = scope (f .parameters) 1 (f .parameters) (resultType (f .sort))
 unfoldable pub inside : Kind → ℕ → Scope → Scope
 inside (Const c) i sc = sc
 inside (Var a) i sc = sc
-inside Add zero (scope g n w τ) = scope g n w Int
-inside Add (suc i) (scope g n w τ) = scope g n (suc w) Int
+inside (Compute op) zero (scope g n w τ) = scope g n w Int
+inside (Compute op) (suc i) (scope g n w τ) = scope g n (suc w) Int
 inside IfZero zero (scope g n w τ) = scope g n w Int
 inside IfZero (suc i) (scope g n w τ) = scope g n w τ
 inside Let zero (scope g n w τ) = scope g n w Int
@@ -73,7 +73,7 @@ unfoldable mutual
   pub entered : Scope → ℕ → Expr → List Entry
   entered sc r (const i) = entry sc r (Const i) ∷ []
   entered sc r (var a) = entry sc r (Var a) ∷ []
-  entered sc r (add p q) = entry sc r Add ∷ (entered (inside Add 0 sc) (suc r) p ++ entered (inside Add 1 sc) (suc r + size p) q)
+  entered sc r (compute op p q) = entry sc r (Compute op) ∷ (entered (inside (Compute op) 0 sc) (suc r) p ++ entered (inside (Compute op) 1 sc) (suc r + size p) q)
   entered sc r (ifZero t z o) =
       entry sc r IfZero
       ∷ (entered (inside IfZero 0 sc) (suc r) t

@@ -13,8 +13,9 @@ use Prim.Native.Nat.{ℕ, suc, _<_}
 use mathlib.Core.List.{List, [], _∷_, _++_}
 use mathlib.Core.Option.{some}
 use mathlib.Core.Path.{_≡_}
+use Rattle.formats.specs.Arithmetic.{Op}
 use Rattle.formats.specs.Records.{nth}
-use Rattle.formats.specs.Programs.{Expr, const, var, add, ifZero, letIn, leafOf, nodeOf, caseOf, call, Args, noArgs, arg, Signature, Function}
+use Rattle.formats.specs.Programs.{Expr, const, var, compute, ifZero, letIn, leafOf, nodeOf, caseOf, call, Args, noArgs, arg, Signature, Function}
 use Rattle.rules.specs.Types.{Ty, Int, Tree⁻, Tree⁺, arrow, resultType, functionType}
 
 -- The judgement for the tree name of a Case or a Call.
@@ -36,10 +37,10 @@ mutual
         → Types gs g n Δ (call a b xs) τ
     -- Γ | Δ₁ ⊢ M₁ : Int and Γ | Δ₂ ⊢ M₂ : Int give Γ | Δ₁, Δ₂ ⊢ M₁ + M₂ : Int
     T-Plus :
-        {g n : ℕ} {Δ₁ Δ₂ : List ℕ} {p q : Expr}
+        {g n : ℕ} {Δ₁ Δ₂ : List ℕ} {op : Op} {p q : Expr}
         → Types gs g n Δ₁ p Int
         → Types gs g n Δ₂ q Int
-        → Types gs g n (Δ₁ ++ Δ₂) (add p q) Int
+        → Types gs g n (Δ₁ ++ Δ₂) (compute op p q) Int
     -- Γ | Δ ⊢ M : Int gives Γ | Δ ⊢ leaf M : Tree⁺
     T-Leaf : {g n : ℕ} {Δ : List ℕ} {p : Expr} → Types gs g n Δ p Int → Types gs g n Δ (leafOf p) Tree⁺
     -- Γ | Δ₁ ⊢ M₁ : Tree⁺ and Γ | Δ₂ ⊢ M₂ : Tree⁺ give Γ | Δ₁, Δ₂ ⊢ node M₁ M₂ : Tree⁺

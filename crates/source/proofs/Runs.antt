@@ -2,25 +2,25 @@
 use Prim.Native.Nat.{ℕ, zero, suc, _+_, _≤_, _<_}
 use mathlib.Core.List.{List, [], _∷_}
 use mathlib.Core.Bool.{false}
-use mathlib.Core.Logic.{_≢_, _⊎_, inl, inr, ⊎-elim}
-use mathlib.Core.Path.{_≡_, refl, sym, ap, _∙_}
+use mathlib.Core.Logic.{_≢_}
+use mathlib.Core.Path.{_≡_, refl, sym, ap, ap₂, _∙_}
 use native.Mathlib.Decide.{decLe}
 use native.Mathlib.Nat.{zero-add}
 use native.Mathlib.Omega.{arith}
 use borrow.Author.Tests.{le-leb, lt-leb}
 use lib.ListN.{length}
-use Rattle.formats.specs.Refusals.{fuelUsedUp, outputFull, tooManyCalls}
+use Rattle.formats.specs.Refusals.{fuelUsedUp, outputFull, tooManyCalls, outOfRange}
 use Rattle.formats.specs.Results.{Result as Reading, done, refusal}
 use Rattle.formats.specs.Written.{written}
-use Rattle.formats.proofs.Results.{done-not}
+use Rattle.formats.proofs.Results.{done-not, refusal-injective}
 use Rattle.formats.proofs.Written.{written-none}
 use Rattle.refusal.specs.Inner.Numbers.{number as numberOf}
 use Rattle.refusal.specs.declared.Refusal.{Refusal}
-use Rattle.refusal.specs.declared.Refusal.the-variants.{FuelUsedUp, TooManyCalls, OutputFull}
+use Rattle.refusal.specs.declared.Refusal.the-variants.{FuelUsedUp, TooManyCalls, OutputFull, OutOfRange}
 use Rattle.refusal.specs.declared.Verdict.the-variants.{Passed}
 use Rattle.meaning.specs.Running.{valueWords, returnWords}
-use Rattle.meaning.specs.OpenCalls.{Outcome, gives, stops, afterBegun, withFuel}
-use Rattle.meaning.specs.SourceRun.{refusedAfter}
+use Rattle.meaning.specs.OpenCalls.{Reason, no-fuel, no-call, no-result, refusalOf, Outcome, gives, stops, afterBegun, withFuel}
+use Rattle.meaning.specs.SourceRun.{refusedAfter, positionOf}
 use Rattle.meaning.specs.WorkWords.{beforeSource}
 use Rattle.meaning.proofs.Outcomes.{given, comes-value, gives-not}
 use Rattle.stepwise.specs.Inner.Outcomes.{Reported, reported}
@@ -35,34 +35,44 @@ use Rattle.source.specs.Inner.SourceAnswers.{sourceAnswer, Gave, Named, 
 -- ---- `why_stopped`
 
 pub stop-fuel : (stop : ℕ) → stop ≡ fuelUsedUp → Named stop FuelUsedUp
-stop-fuel stop e = record { is = λ h. sym e }
+stop-fuel stop e = record { is = λ reason h. sym e }
 
-pub stop-calls : (stop : ℕ) → stop ≢ fuelUsedUp → Named stop TooManyCalls
-stop-calls stop h = record { is = ⊎-elim (λ e. absurd (h e)) (λ e. sym e) }
+pub stop-calls : (stop : ℕ) → stop ≡ tooManyCalls → Named stop TooManyCalls
+stop-calls stop e = record { is = λ reason h. sym e }
 
-pub ruleset stopping = (stop-fuel, stop-calls)
+pub stop-range : (stop : ℕ) → stop ≢ fuelUsedUp → stop ≢ tooManyCalls → Named stop OutOfRange
+unfolding refusalOf
+stop-range stop f c = record { is = by }
+  where
+    by : (reason : Reason) → stop ≡ refusalOf reason → outOfRange ≡ stop
+    by no-fuel e = absurd (f e)
+    by no-call e = absurd (c e)
+    by (no-result op i j) e = sym e
+
+pub ruleset stopping = (stop-fuel, stop-calls, stop-range)
 
 -- ---- the refusals of an evaluation
 
 -- a refusal of the evaluation is not among those that come before it
 late-stop : (why n number position : ℕ) → beforeSource why ≡ false → _≡_ {A = Reading (Unit {0})} (refusal why n) (refusal number position) → beforeSource number ≡ false
-late-stop why n number position late e = let same : why ≡ number = cc in rw (← same) late
-
-fuel-late : beforeSource fuelUsedUp ≡ false
-unfolding beforeSource
-fuel-late = refl
-
-calls-late : beforeSource tooManyCalls ≡ false
-unfolding beforeSource
-calls-late = refl
+late-stop why n number position late e = rw (← (refusal-injective e .0)) late
 
 full-late : beforeSource outputFull ≡ false
 unfolding beforeSource
 full-late = refl
 
-stop-late : (stop : ℕ) → (stop ≡ fuelUsedUp) ⊎ (stop ≡ tooManyCalls) → beforeSource stop ≡ false
-stop-late stop (inl e) = rw e fuel-late
-stop-late stop (inr e) = rw e calls-late
+stop-late : (why : Reason) → beforeSource (refusalOf why) ≡ false
+unfolding beforeSource refusalOf
+stop-late no-fuel = refl
+stop-late no-call = refl
+stop-late (no-result op i j) = refl
+
+-- none is 0, the number of a walk that ended
+stop-some : (why : Reason) → refusalOf why ≡ 0 → ⊥
+unfolding refusalOf
+stop-some no-fuel e = absurd (omega arith)
+stop-some no-call e = absurd (omega arith)
+stop-some (no-result op i j) e = absurd (omega arith)
 
 -- ---- how an outcome is reported
 
@@ -91,14 +101,17 @@ module _ (output : List ℕ) where
   reported-value n x o bytes e =
       ap (λ p. reportSteps 0 p output) e ∙ report-after n 0 (gives (reported x bytes)) output ∙ ap (λ i. reportedResult i (reported x bytes) output) (zero-add n)
 
-  reported-stop : (n why at : ℕ) (o : Outcome Reported) → o ≡ afterBegun n (stops why at) → reportSteps 0 o output ≡ refusedAfter n why 0 output
+  reported-stop : (n : ℕ) (why : Reason) (at : ℕ) (o : Outcome Reported) → o ≡ afterBegun n (stops why at)
+      → reportSteps 0 o output ≡ refusedAfter n (refusalOf why) (positionOf why at) output
   unfolding reportSteps
   reported-stop n why at o e =
-      ap (λ p. reportSteps 0 p output) e ∙ report-after n 0 (stops why at) output ∙ ap (λ i. refusedAfter i why 0 output) (zero-add n)
+      ap (λ p. reportSteps 0 p output) e
+      ∙ report-after n 0 (stops why at) output
+      ∙ ap (λ i. refusedAfter i (refusalOf why) (positionOf why at) output) (zero-add n)
 
 -- an outcome has one value
 same-value : {A : Type 0} (n m : ℕ) (a b : A) → afterBegun n (gives a) ≡ afterBegun m (gives b) → a ≡ b
-same-value {A} n m a b e = comes-value {form = λ x. x} {P = λ k x. x ≡ b} {S = λ why. Unit {0}} n a (given m b refl) (sym e)
+same-value {A} n m a b e = comes-value {form = λ x. x} {P = λ k x. x ≡ b} {S = λ k why r. Unit {0}} n a (given m b refl) (sym e)
 
 -- ---- `evaluate`
 
@@ -111,7 +124,7 @@ module _ (T input : List ℕ) (first fuel : ℕ) (output values values₁ return
         walk-reports T input first fuel nothing nothing′ values values₁ returns returns₁ c counted o (always .comes values returns v p)
 
     pub evaluate-stops : (why : Refusal) (r : SourceAnswer) → c .stop ≢ 0 → Named (c .stop) why
-        → sourceAnswer r ≡ record { outcome = refusal (numberOf why) 0; begun = c .begun; bytesWritten = 0; number = 0 }
+        → sourceAnswer r ≡ record { outcome = refusal (numberOf why) (c .position); begun = c .begun; bytesWritten = 0; number = 0 }
         → Evaluates T input first fuel output output values values₁ returns returns₁ r
     evaluate-stops why r some named e =
         record {
@@ -122,12 +135,12 @@ module _ (T input : List ℕ) (first fuel : ℕ) (output values values₁ return
       where
         by : (o : Outcome Reported) → Reports (withFuel fuel o) nothing nothing′ c → Gave (reportSteps 0 (withFuel fuel o) output) output r
         by o (reports-value out is stop counts wrote) = absurd (some stop)
-        by o (reports-stop at is which) =
-            rw (reported-stop output (c .begun) (c .stop) at (withFuel fuel o) is)
+        by o (reports-stop reason at is stop position) =
+            rw (reported-stop output (c .begun) reason at (withFuel fuel o) is)
             (record {
-              answer = e ∙ ap (λ n. refusedAfter (c .begun) n 0 output .answer) (named .is which);
+              answer = e ∙ ap₂ (λ n p. refusedAfter (c .begun) n p output .answer) (named .is reason stop ∙ stop) position;
               output = refl;
-              late = λ number position. late-stop (c .stop) 0 number position (stop-late (c .stop) which);
+              late = λ number place. late-stop (refusalOf reason) (positionOf reason at) number place (stop-late reason);
             })
 
     module _ (ended : c .stop ≡ 0) where
@@ -139,7 +152,7 @@ module _ (T input : List ℕ) (first fuel : ℕ) (output values values₁ return
 
       result : (o : Outcome Reported) → Reports (withFuel fuel o) nothing nothing′ c → Result o
       result o (reports-value out is stop counts wrote) = record { bytes = out; is = is; counts = counts }
-      result o (reports-stop at is which) = ⊎-elim (λ e. absurd (omega arith)) (λ e. absurd (omega arith)) which
+      result o (reports-stop reason at is stop position) = absurd (stop-some reason (sym stop ∙ ended))
 
       pub evaluate-full : (n : ℕ) (r : SourceAnswer) → Room output n → n < c .written
           → sourceAnswer r ≡ record { outcome = refusal (numberOf OutputFull) 0; begun = c .begun; bytesWritten = 0; number = 0 }
@@ -212,6 +225,6 @@ module _ (T input : List ℕ) (first fuel : ℕ) (output values values₁ return
                 let same : reported (d .number) out ≡ reported (c .number) (t .bytes) = same-value (d .begun) (c .begun) _ _ (sym is ∙ t .is) in
                 let bytes : out ≡ t .bytes = ap (λ x. x .bytes) same in
                 wrote (rw bytes (fits o t)) ∙ ap (written output 0) bytes
-            by o t (reports-stop at is which) = absurd (gives-not (c .begun) (d .begun) (d .stop) at _ (sym (t .is) ∙ is))
+            by o t (reports-stop reason at is stop position) = absurd (gives-not (c .begun) (d .begun) reason at _ (sym (t .is) ∙ is))
 
 pub ruleset evaluates = (evaluate-stops, evaluate-full, evaluate-none, evaluate-again)

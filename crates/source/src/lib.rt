@@ -14,10 +14,13 @@ ghost use Rattle.refusal.specs.Inner.Numbers.{number};
 ghost use Rattle.meaning.specs.SourceRun.{sourceRun};
 ghost use Rattle.source.specs.Inner.SourceAnswers.{sourceAnswer, Named, Room, Evaluates, OfFile, Sourced};
 
-// How a walk stops: it ended, the fuel is used up, or a call is one too many.
+// How a walk stops: it ended, the fuel is used up, a call is one too many, or else a sum is out of
+// range.
 const NOT_REFUSED: u32 = 0;
 
 const FUEL_USED_UP: u32 = 14;
+
+const TOO_MANY_CALLS: u32 = 18;
 
 // How many words a program's table has: a row for each of 1,057 records.
 const TABLE_WORDS: usize = 8456;
@@ -52,10 +55,11 @@ fn refused(why: Refusal, position: usize, begun: u64) -> SourceAnswer
 fn why_stopped(stop: u32) -> Refusal
     ensures { λ r. ⌜ Named stop r ⌝ }
 {
-    if stop == FUEL_USED_UP {
-        return Refusal::FuelUsedUp;
+    match stop {
+        FUEL_USED_UP => Refusal::FuelUsedUp,
+        TOO_MANY_CALLS => Refusal::TooManyCalls,
+        _ => Refusal::OutOfRange,
     }
-    Refusal::TooManyCalls
 }
 
 // How many bytes the output has room for: fewer than 2^63, where counting stops, so the count can
@@ -85,7 +89,7 @@ fn count_then_write(
 {
     let counted = source_walk::walk(table, input, first, fuel, counting, values, returns);
     if counted.stop != NOT_REFUSED {
-        return refused(why_stopped(counted.stop), 0, counted.begun);
+        return refused(why_stopped(counted.stop), counted.position, counted.begun);
     }
     if room_of(output) < counted.written {
         return refused(Refusal::OutputFull, 0, counted.begun);
@@ -171,8 +175,8 @@ fn run_records(
 }
 
 // The source run of a program file. In this order: the checks of the file, pass one, 13 where work
-// words are missing, the tree reader; then the evaluation, where 14 and 18 arise; last 17, where
-// the output is shorter than the result. A refusal leaves the output untouched.
+// words are missing, the tree reader; then the evaluation, where 14, 18 and 21 arise; last 17,
+// where the output is shorter than the result. A refusal leaves the output untouched.
 pub fn run(
     file: &[u8],
     input: &[u8],

@@ -10,30 +10,36 @@ use native.Mathlib.Omega.{arith}
 use borrow.Author.Tests.{eq-eqb, ne-eqb, eqb-true, eqb-false, lt-ltb, le-ltb}
 use lib.Dec.{eqb}
 use lib.ListN.{length}
-use Rattle.formats.specs.Refusals.{fuelUsedUp, tooManyCalls}
+use Rattle.formats.specs.Refusals.{fuelUsedUp, tooManyCalls, outOfRange}
 use Rattle.formats.specs.Written.{written}
 use Rattle.formats.proofs.Written.{wrote}
 use Rattle.stepwise.specs.Inner.Steps.{emittedFirst, emittedLast}
+use Rattle.stepwise.proofs.Steps.{off}
 use Rattle.stages.specs.declared.Stage.{Stage}
-use Rattle.stages.specs.Inner.Stages.{toBegin, isFinished, toOpen, hasEnded, isStuck, staged, withWritten}
+use Rattle.stages.specs.Inner.Stages.{toBegin, isFinished, toOpen, hasEnded, isStuck, isBroken, staged, withWritten}
 use Rattle.begin_record.specs.Inner.Begins.{Begins}
 use Rattle.finish_record.specs.Inner.Rises.{Rises}
 use Rattle.open_call.specs.Inner.Opens.{Opens}
 use Rattle.result_bytes.specs.Inner.Bytes.{countLimit, Says}
 use Rattle.source_walk.specs.declared.Walked.{Walked}
-use Rattle.source_walk.specs.Inner.Loop.{Run, run, weightOf, beginStep, riseStep, openStep, climbing, climbed, turned, answerWith, Ending, ending, walking, firstStage, walked}
+use Rattle.source_walk.specs.Inner.Loop.{Run, run, weightOf, beginStep, riseStep, openStep, climbing, climbed, turned, refusedWith, answerWith, Ending, ending, walking, firstStage, walked}
 use Rattle.source_walk.specs.Inner.Loop.{BeginsOne, Climbs, OpensOne, Turns, Walks}
 
 -- ---- `finish`, `weight_of`
 
 module _ (s : Stage) where
-  pub finish-ended : (begun : ℕ) → s .mode ≡ hasEnded → record { stop = 0; begun = begun; written = s .written; number = s .number } ≡ answerWith s begun
+  pub finish-ended : (begun : ℕ) → s .mode ≡ hasEnded
+      → record { stop = 0; position = 0; begun = begun; written = s .written; number = s .number } ≡ answerWith s begun
   unfolding answerWith
   finish-ended begun e = rw (answerWith, eq-eqb _ _ e)
 
-  pub finish-deep : (begun : ℕ) → s .mode ≢ hasEnded → record { stop = tooManyCalls; begun = begun; written = 0; number = 0 } ≡ answerWith s begun
+  pub finish-broken : (begun : ℕ) (r : Walked) → s .mode ≡ isBroken → r ≡ refusedWith outOfRange (s .node) begun → r ≡ answerWith s begun
   unfolding answerWith
-  finish-deep begun h = rw (answerWith, ne-eqb _ _ h)
+  finish-broken begun r e is = rw (answerWith, off _ isBroken hasEnded e refl, eq-eqb _ _ e) is
+
+  pub finish-deep : (begun : ℕ) (r : Walked) → s .mode ≢ hasEnded → s .mode ≢ isBroken → r ≡ refusedWith tooManyCalls 0 begun → r ≡ answerWith s begun
+  unfolding answerWith
+  finish-deep begun r h g is = rw (answerWith, ne-eqb _ _ h, ne-eqb _ _ g) is
 
   pub weight-finished : s .mode ≡ isFinished → 1 + 65536 * s .calls + s .node ≡ weightOf s
   unfolding weightOf
@@ -43,7 +49,7 @@ module _ (s : Stage) where
   unfolding weightOf
   weight-none h = rw (weightOf, ne-eqb _ _ h)
 
-pub ruleset finishing = (finish-ended, finish-deep)
+pub ruleset finishing = (finish-ended, finish-broken, finish-deep)
 
 pub ruleset weighing = (weight-finished, weight-none)
 
@@ -284,7 +290,7 @@ module _ (T input : List ℕ) where
   unfolding walking
   walks-out fuel begun p h = simp (walking, ne-eqb _ _ h)
 
-  walks-none : (begun : ℕ) (p : Run) → walking T input 0 begun p ≡ ending (record { stop = fuelUsedUp; begun = begun; written = 0; number = 0 }) p
+  walks-none : (begun : ℕ) (p : Run) → walking T input 0 begun p ≡ ending (refusedWith fuelUsedUp 0 begun) p
   unfolding walking
   walks-none begun p = refl
 
@@ -376,14 +382,16 @@ module _ (T input : List ℕ) (first fuel : ℕ) (output₀ values₀ returns₀
           ∙ ap (λ x. ending x (run output′ values′ returns′ r)) (ap (answerWith r) (sym (add-one begun)) ∙ sym e))
 
   -- the fuel is used up
-  pub walk-ends : (output values returns : List ℕ) (s : Stage) (begun : ℕ)
+  pub walk-ends : (output values returns : List ℕ) (s : Stage) (begun : ℕ) (r : Walked)
       → fuel ≤ begun
+      → r ≡ refusedWith fuelUsedUp 0 begun
       → Walking T input first fuel output₀ values₀ returns₀ output values returns s begun
-      → Walks T input first fuel output₀ output values₀ values returns₀ returns (record { stop = fuelUsedUp; begun = begun; written = 0; number = 0 })
-  walk-ends output values returns s begun none w =
+      → Walks T input first fuel output₀ output values₀ values returns₀ returns r
+  walk-ends output values returns s begun r none is w =
       let out : fuel - begun ≡ 0 = omega arith in
-      walks-to output values returns s _ (w .long-values) (w .long-returns) (w .short)
-      (w .is ∙ ap (λ k. walking T input k begun (run output values returns s)) out ∙ walks-none T input begun (run output values returns s))
+      rw is
+      (walks-to output values returns s _ (w .long-values) (w .long-returns) (w .short)
+      (w .is ∙ ap (λ k. walking T input k begun (run output values returns s)) out ∙ walks-none T input begun (run output values returns s)))
 
 pub ruleset walk-lengths = (walk-long-output, walk-long-values, walk-long-returns)
 

@@ -1,13 +1,14 @@
 // The walk of the source run: a loop over the rows of a program, in which expressions begin one
 // after the other. Its state is in the lent words, so no function recurs over expressions or calls.
 use stages::BEGIN;
+use stages::BROKEN;
 use stages::ENDED;
 use stages::FINISHED;
 use stages::OPEN;
 use stages::STUCK;
 use stages::Stage;
 ghost use mathlib.Core.Path.{_≡_};
-ghost use Rattle.source_walk.specs.Inner.Loop.{weightOf, answerWith, BeginsOne, Climbs, OpensOne, Turns, Walks};
+ghost use Rattle.source_walk.specs.Inner.Loop.{weightOf, refusedWith, answerWith, BeginsOne, Climbs, OpensOne, Turns, Walks};
 
 // This falls at each step from one finished record to the next.
 fn weight_of(s: Stage) -> usize
@@ -86,10 +87,11 @@ fn turn(
     open_one(table, input, values, returns, settled)
 }
 
-// What a walk answers: 0 where it ended, else the number of a refusal; the expressions begun, the
-// bytes written, the number.
+// What a walk answers: 0 where it ended, else the number of a refusal; the refusal's position; the
+// expressions begun, the bytes written, the number.
 pub struct Walked {
     pub stop: u32,
+    pub position: usize,
     pub begun: u64,
     pub written: usize,
     pub number: u32,
@@ -101,25 +103,39 @@ const FUEL_USED_UP: u32 = 14;
 
 const TOO_MANY_CALLS: u32 = 18;
 
+const OUT_OF_RANGE: u32 = 21;
+
+// The answer of a walk that is refused.
+fn refused_with(stop: u32, position: usize, begun: u64) -> Walked
+    ensures { λ r. ⌜ r ≡ refusedWith stop position begun ⌝ }
+{
+    Walked {
+        stop: stop,
+        position: position,
+        begun: begun,
+        written: 0,
+        number: 0,
+    }
+}
+
 // What a walk that stops at this stage answers. A program's rows lead to no stuck stage, so a walk
-// that has not ended has come to a call too many.
+// that has neither ended nor come to an operation without a result has come to a call too many.
 fn finish(s: Stage, begun: u64) -> Walked
     ensures { λ r. ⌜ r ≡ answerWith s begun ⌝ }
 {
     if s.mode == ENDED {
         return Walked {
             stop: NOT_REFUSED,
+            position: 0,
             begun: begun,
             written: s.written,
             number: s.number,
         };
     }
-    Walked {
-        stop: TOO_MANY_CALLS,
-        begun: begun,
-        written: 0,
-        number: 0,
+    if s.mode == BROKEN {
+        return refused_with(OUT_OF_RANGE, s.node as usize, begun);
     }
+    refused_with(TOO_MANY_CALLS, 0, begun)
 }
 
 // Evaluates the program of these rows on the tree that begins the input, from the record `first`
@@ -156,10 +172,5 @@ pub fn walk(
             return finish(s, begun);
         }
     }
-    Walked {
-        stop: FUEL_USED_UP,
-        begun: begun,
-        written: 0,
-        number: 0,
-    }
+    refused_with(FUEL_USED_UP, 0, begun)
 }

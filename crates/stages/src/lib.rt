@@ -3,7 +3,7 @@ ghost use mathlib.Core.Path.{_≡_};
 ghost use Rattle.stages.specs.Inner.Stages.{staged};
 
 // The modes of a stage: a record is to begin, a record is finished, a call is to open; the run has
-// ended, the call would be one too many, or the rows lead nowhere.
+// ended, the call would be one too many, the rows lead nowhere, or the operation has no result.
 pub const BEGIN: u32 = 0;
 
 pub const FINISHED: u32 = 1;
@@ -15,6 +15,8 @@ pub const ENDED: u32 = 3;
 pub const DEEP: u32 = 4;
 
 pub const STUCK: u32 = 5;
+
+pub const BROKEN: u32 = 6;
 
 // What is to be done next (`mode`, `specs/Inner/Stages`), and with which record; the number found
 // where the record is finished; how many calls wait, and the offset of the frame's tree; a tree

@@ -4,11 +4,13 @@ use mathlib.Core.List.{List, [], _∷_, map}
 use mathlib.Core.Path.{_≡_, refl}
 use lib.Dec.{lit<}
 use lib.ListN.{length}
-use Rattle.formats.specs.Numbers.{Bytes, bytesOf, numberOf, numberAt, sum32}
+use Rattle.formats.specs.Numbers.{Bytes, bytesOf, numberOf, numberAt, signed32}
+use Rattle.formats.specs.Arithmetic.{plus, unbounded, wordFor, resultOf}
 use Rattle.formats.specs.Results.{done}
 use Rattle.formats.specs.Tokens.{tokens, tagOf, tagAt, labelAt, branchesAt, treeByTag, treeAt, firstTree}
 use Rattle.formats.specs.Records.{nth}
-use Rattle.formats.specs.Programs.{const, var, add, ifZero, letIn, call, noArgs, arg, prefix, prefixes, size}
+use Rattle.formats.specs.Programs.{const, var, ifZero, letIn, call, noArgs, arg, prefix, prefixes, size}
+use Rattle.formats.specs.Inner.Expressions.{add}
 use Rattle.formats.specs.Programs.{numberValued, arityOf, sumOfCounts, signatureOf, Program, Every}
 use Rattle.formats.specs.Inner.Limits.{mostRecords}
 use Rattle.formats.proofs.ProgramCases.{grow, grow-lawful}
@@ -19,12 +21,12 @@ use Rattle.rules.proofs.Cases.{numbered, programOf, grow-passes}
 use Rattle.meaning.specs.Levels.{atLevel}
 use Rattle.meaning.specs.Running.{valueWords, returnWords, mostCalls}
 use Rattle.meaning.specs.Evaluation.{resultBytes, resultNumber}
-use Rattle.meaning.specs.OpenCalls.{gives, afterBegun, followedBy, numberOr, treeOr, resultTree, evaluate, evaluateArgs, firstRecord, called, evaluation}
+use Rattle.meaning.specs.OpenCalls.{gives, afterBegun, followedBy, numberOr, treeOr, resultTree, computed, evaluate, evaluateArgs, firstRecord, called, evaluation}
 use Rattle.meaning.specs.Meaning.{PassesOne}
 use Rattle.meaning.proofs.MeaningCases.{two-leaves}
-use Rattle.stepwise.specs.Inner.Rows.{callsFunction, actionOf, namingCode, roleOf, slotOf, namesIn, keepsIn, casesIn, operandOf, treeOf, moreOf, rowsOf, rowsOfArgs, afterArgs}
+use Rattle.stepwise.specs.Inner.Rows.{callsFunction, actionOf, namingCode, secondOf, roleOf, slotOf, namesIn, keepsIn, casesIn, operandOf, treeOf, moreOf, rowsOf, rowsOfArgs, afterArgs}
 use Rattle.stepwise.specs.Inner.Rows.{rowsOfAll, rowWords, rowsIn, tabled}
-use Rattle.stepwise.specs.Inner.Steps.{begin, State, deep, beginning, opening}
+use Rattle.stepwise.specs.Inner.Steps.{begin, State, finished, deep, broken, beginning, computing, opening}
 use Rattle.stepwise.specs.Inner.Outcomes.{reported, reportedOf, Comes}
 use Rattle.stepwise.proofs.Whole.{comes}
 
@@ -42,7 +44,7 @@ grow-rows : rowsIn grow
     ∷ 5 ∷ 2 ∷ 5 ∷ 0 ∷ 6 ∷ 7 ∷ 0 ∷ 9
     ∷ 5 ∷ 2 ∷ 6 ∷ 0 ∷ 4 ∷ 7 ∷ 0 ∷ 10
     ∷ []
-unfolding grow rowsOfAll rowsOf actionOf namingCode roleOf slotOf namesIn keepsIn casesIn operandOf treeOf moreOf firstRecord arityOf nth sumOfCounts signatureOf size prefix
+unfolding grow rowsOfAll rowsOf actionOf namingCode secondOf roleOf slotOf namesIn keepsIn casesIn operandOf treeOf moreOf firstRecord arityOf nth sumOfCounts signatureOf size prefix
 grow-rows = refl
 
 -- A Call of two arguments, with one number kept: the first argument's word is below that of the
@@ -67,7 +69,7 @@ pair-rows : rowsIn pair
     ∷ 1 ∷ 0 ∷ 0 ∷ 0 ∷ 4 ∷ 12 ∷ 0 ∷ 15
     ∷ 1 ∷ 1 ∷ 0 ∷ 0 ∷ 4 ∷ 12 ∷ 0 ∷ 16
     ∷ []
-unfolding pair programOf numbered rowsOfAll rowsOf rowsOfArgs afterArgs actionOf namingCode roleOf slotOf namesIn keepsIn casesIn operandOf treeOf moreOf firstRecord arityOf nth sumOfCounts signatureOf size prefix prefixes
+unfolding pair programOf numbered rowsOfAll rowsOf rowsOfArgs afterArgs actionOf namingCode secondOf roleOf slotOf namesIn keepsIn casesIn operandOf treeOf moreOf firstRecord arityOf nth sumOfCounts signatureOf size prefix prefixes
 pair-rows = refl
 
 -- the codes of the trees named inside two Cases, at records 2 and 5: the frame's tree, the left and
@@ -103,7 +105,7 @@ grow-one = record { lawful = grow-lawful; passes = then-inv (passOne grow) _ tt 
 
 -- its evaluation begins 14 expressions, and the result is the second tree
 grow-reported : followedBy (evaluation grow mostCalls two-leaves) reportedOf ≡ afterBegun 14 (gives (reported 0 six-eight))
-unfolding evaluation called evaluate evaluateArgs followedBy afterBegun resultNumber resultTree resultBytes numberOr treeOr atLevel sum32 nth firstRecord sumOfCounts signatureOf size prefix prefixes grow two-leaves tokens bytesOf six-eight
+unfolding evaluation called evaluate evaluateArgs followedBy afterBegun resultNumber resultTree resultBytes numberOr treeOr atLevel computed resultOf wordFor unbounded signed32 nth firstRecord sumOfCounts signatureOf size prefix prefixes grow two-leaves tokens bytesOf six-eight
 grow-reported = refl
 
 -- the steps come to the same, whatever the words and return words hold
@@ -135,3 +137,12 @@ deep-arguments = refl
 deep-call : opening (0 ∷ 0 ∷ 0 ∷ 0 ∷ 0 ∷ 0 ∷ 0 ∷ 0 ∷ callsFunction ∷ 5 ∷ 0 ∷ 1 ∷ []) 0 1 last-frame ≡ deep 1
 unfolding opening last-frame
 deep-call = refl
+
+-- the operation at record 4: a sum that fits, and one that does not
+fitting-sum : computing plus 2147483647 4294967295 4 last-frame ≡ finished 4 2147483646 last-frame
+unfolding computing resultOf wordFor unbounded signed32
+fitting-sum = refl
+
+broken-sum : computing plus 2147483647 1 4 last-frame ≡ broken plus 2147483647 1 4
+unfolding computing resultOf wordFor unbounded signed32
+broken-sum = refl

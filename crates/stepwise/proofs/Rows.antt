@@ -9,8 +9,9 @@ use native.Mathlib.Omega.{arith}
 use lib.Dec.{lit<}
 use lib.ListN.{length, getD, take, length-append, List·getD-append}
 use lib.Seq.{getD-append-add}
-use Rattle.formats.specs.Records.{Kind, Add, IfZero, Let, Leaf, Node, Case, Call, nth}
-use Rattle.formats.specs.Programs.{Expr, const, var, add, ifZero, letIn, leafOf, nodeOf, caseOf, call, Args, noArgs, arg, prefix, prefixes, size}
+use Rattle.formats.specs.Arithmetic.{Op}
+use Rattle.formats.specs.Records.{Kind, Compute, IfZero, Let, Leaf, Node, Case, Call, nth}
+use Rattle.formats.specs.Programs.{Expr, const, var, compute, ifZero, letIn, leafOf, nodeOf, caseOf, call, Args, noArgs, arg, prefix, prefixes, size}
 use Rattle.formats.specs.Programs.{arityOf, sumOfCounts, Function, signatureOf, Program, signatures, mostFunctions, mostNodes}
 use Rattle.formats.specs.Inner.Limits.{mostRecords}
 use Rattle.formats.proofs.Written.{wrote}
@@ -59,9 +60,9 @@ module _ (x y : Expr) where
   unfolding size
   size-two = ap suc (length-append (prefix x) (prefix y))
 
-  pub size-add : size (add x y) ≡ suc (size x + size y)
+  pub size-compute : (op : Op) → size (compute op x y) ≡ suc (size x + size y)
   unfolding size prefix
-  size-add = size-two
+  size-compute op = size-two
 
   pub size-let : size (letIn x y) ≡ suc (size x + size y)
   unfolding size prefix
@@ -129,7 +130,7 @@ module _ (entry arity : ℕ → ℕ) where
     rows-long : (p : Location) (r : ℕ) (e : Expr) → Long (rowsOf entry arity p r e) (size e)
     rows-long p r (const i) = long-own (size-const i) long-none
     rows-long p r (var a) = long-own (size-var a) long-none
-    rows-long p r (add x y) = long-own (size-add x y) (long-joined (rows-long _ _ x) (rows-long _ _ y))
+    rows-long p r (compute op x y) = long-own (size-compute x y op) (long-joined (rows-long _ _ x) (rows-long _ _ y))
     rows-long p r (ifZero t z o) = long-own (size-ifZero t z o) (long-joined (rows-long _ _ t) (long-joined (rows-long _ _ z) (rows-long _ _ o)))
     rows-long p r (letIn x y) = long-own (size-let x y) (long-joined (rows-long _ _ x) (rows-long _ _ y))
     rows-long p r (leafOf x) = long-own (size-leaf x) (rows-long _ _ x)
@@ -179,7 +180,7 @@ module _ (entry arity : ℕ → ℕ) where
   unfolding rowsOf headOf
   fronted p r (const i) = own-front p r (const i) _ [] (omega (arith, size-const i)) refl
   fronted p r (var a) = own-front p r (var a) _ [] (omega (arith, size-var a)) refl
-  fronted p r (add x y) = own-front p r (add x y) _ _ (omega (arith, size-add x y)) refl
+  fronted p r (compute op x y) = own-front p r (compute op x y) _ _ (omega (arith, size-compute x y op)) refl
   fronted p r (ifZero t z o) = own-front p r (ifZero t z o) _ _ (omega (arith, size-ifZero t z o)) refl
   fronted p r (letIn x y) = own-front p r (letIn x y) _ _ (omega (arith, size-let x y)) refl
   fronted p r (leafOf x) = own-front p r (leafOf x) _ _ (omega (arith, size-leaf x)) refl
@@ -251,10 +252,10 @@ module _ (entry arity : ℕ → ℕ) where
 
     -- the parts of each kind
     module _ {p : Location} {r : ℕ} where
-      pub add-parts : {x y : Expr} → Stands p r (add x y)
-          → Stands (partLocation entry arity p Add r 0) (suc r) x × Stands (partLocation entry arity p Add r 1) (suc r + size x) y
+      pub compute-parts : {op : Op} {x y : Expr} → Stands p r (compute op x y)
+          → Stands (partLocation entry arity p (Compute op) r 0) (suc r) x × Stands (partLocation entry arity p (Compute op) r 1) (suc r + size x) y
       unfolding rowsOf
-      add-parts {x} {y} h = two-parts _ _ (suc r) x y (after-own r (h .rows))
+      compute-parts {op} {x} {y} h = two-parts _ _ (suc r) x y (after-own r (h .rows))
 
       pub ifZero-parts : {t z o : Expr} → Stands p r (ifZero t z o)
           → Stands (partLocation entry arity p IfZero r 0) (suc r) t

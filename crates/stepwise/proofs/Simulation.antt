@@ -8,18 +8,18 @@ use Prim.Native.Nat.{ℕ, zero, suc, _+_, _-_, _*_, _≤_, _<_}
 use mathlib.Core.Bool.{Bool, true, false}
 use mathlib.Core.List.{List, [], _∷_, _++_, append-nil}
 use mathlib.Core.Logic.{_≢_}
-use mathlib.Core.Option.{some, Option·some-injective}
+use mathlib.Core.Option.{Option, none, some, Option·some-injective}
 use mathlib.Core.Path.{_≡_, refl, sym, ap, _∙_}
 use native.Mathlib.Nat.{le-refl}
 use native.Mathlib.Omega.{arith}
 use borrow.Author.Tests.{eqb-true, eqb-false, eq-eqb, ne-eqb}
 use lib.Dec.{eqb}
 use lib.ListN.{length}
-use Rattle.formats.specs.Numbers.{sum32}
+use Rattle.formats.specs.Arithmetic.{Op, resultOf}
 use Rattle.formats.specs.Tokens.{Tree, leaf, node, nodeTag, tokens}
 use Rattle.formats.specs.Inner.Trees.{leafBytes}
 use Rattle.formats.specs.Records.{nth, Case, Call}
-use Rattle.formats.specs.Programs.{Expr, const, var, add, ifZero, letIn, leafOf, nodeOf, caseOf, call, Args, noArgs, arg, size, countArgs}
+use Rattle.formats.specs.Programs.{Expr, const, var, compute, ifZero, letIn, leafOf, nodeOf, caseOf, call, Args, noArgs, arg, size, countArgs}
 use Rattle.formats.specs.Programs.{Sort, numberValued, treeValued, Signature, arityOf, Function, signatureOf, Program, signatures}
 use Rattle.formats.proofs.Records.{nth-mapped}
 use Rattle.formats.proofs.Tokens.{joined-tokens}
@@ -30,23 +30,23 @@ use Rattle.rules.proofs.Words.{words-call, words-least, words-least-args}
 use Rattle.meaning.specs.Levels.{atLevel}
 use Rattle.meaning.specs.Running.{valueWords, returnWords}
 use Rattle.meaning.specs.Evaluation.{Value, number, tree, Environment, treeNamed, withNumber, withTrees, resultBytes, resultNumber}
-use Rattle.meaning.specs.OpenCalls.{Outcome, gives, begins, followedBy, numberOr, treeOr, resultTree, evaluate, evaluateArgs, firstRecord, called}
+use Rattle.meaning.specs.OpenCalls.{no-result, Outcome, gives, stops, begins, followedBy, numberOr, treeOr, resultTree, computed, evaluate, evaluateArgs, firstRecord, called}
 use Rattle.meaning.proofs.Levels.{level-newest, level-older, level-found, level-below}
-use Rattle.meaning.proofs.Proper.{Proper, proper-const, proper-var, proper-add, proper-ifZero, proper-let, proper-leaf}
+use Rattle.meaning.proofs.Proper.{Proper, proper-const, proper-var, proper-compute, proper-ifZero, proper-let, proper-leaf}
 use Rattle.meaning.proofs.Proper.{proper-node, proper-case, proper-call, proper-none, proper-arg, count-proper}
 use Rattle.meaning.proofs.Sorts.{ValuesOf, valueOf}
 use Rattle.stepwise.specs.Inner.Rows.{Location, passed, lastWord, namingCode, partLocation}
 use Rattle.stepwise.specs.Inner.Rows.{callsFunction, actionOf, roleOf, slotOf, namesIn, keepsIn, casesIn, operandOf, treeOf, moreOf}
-use Rattle.stepwise.specs.Inner.Steps.{State, Turn, begin, finished, opens, frameWords, recordLimit, mostWaiting, wordAt, withWord, withEnd}
+use Rattle.stepwise.specs.Inner.Steps.{State, Turn, begin, finished, opens, broken, computing, frameWords, recordLimit, mostWaiting, wordAt, withWord, withEnd}
 use Rattle.stepwise.specs.Inner.Steps.{actionAt, operandAt, treeAt, moreAt, roleAt, parentAt, slotAt, Found}
-use Rattle.stepwise.specs.Inner.Outcomes.{Reported, Comes}
+use Rattle.stepwise.specs.Inner.Outcomes.{Reported, Comes, at-broken}
 use Rattle.stepwise.proofs.Words.{Leaves, leaves-all, leaves-both, leaves-less, leaves-word, leaves-end, word-named, word-kept, word-set, word-other}
 use Rattle.stepwise.proofs.Moves.{next-next, begin-leaf, begin-node, begin-bare, begin-args, begin-const, begin-var, begin-first, begin-pair}
-use Rattle.stepwise.proofs.Moves.{finished-kept, finished-added, finished-zero, finished-other, finished-passed}
+use Rattle.stepwise.proofs.Moves.{finished-kept, finished-second, finished-zero, finished-other, finished-passed}
 use Rattle.stepwise.proofs.Moves.{finished-labelled, finished-followed, finished-last}
 use Rattle.stepwise.proofs.Rows.{Stands, StandArgs, HasRow, own-row}
-use Rattle.stepwise.proofs.Rows.{add-parts, ifZero-parts, let-parts, leaf-part, node-parts, case-parts, call-args, args-first}
-use Rattle.stepwise.proofs.Rows.{size-const, size-var, size-add, size-ifZero, size-let, size-leaf, size-node, size-case, sizeArgs, size-call, size-arg}
+use Rattle.stepwise.proofs.Rows.{compute-parts, ifZero-parts, let-parts, leaf-part, node-parts, case-parts, call-args, args-first}
+use Rattle.stepwise.proofs.Rows.{size-const, size-var, size-compute, size-ifZero, size-let, size-leaf, size-node, size-case, sizeArgs, size-call, size-arg}
 use Rattle.stepwise.proofs.Trees.{Lies, lies-leaf, lies-node, Cached, cached-leaf, Named, named-later, named-deeper, named-own}
 
 -- ---- numbers on words
@@ -307,15 +307,29 @@ module _ (program : Program) (T input : List ℕ) (k : ℕ) where
       (comes-begun κ _ (begin-var T input r s (omega (arith, size-var a)) (row .tree) a (row .action) (row .operand)
       (rw (agrees .held .each a (found .entry) (found .is)) (comes-value κ _ (number-given follow (found .entry) s (leaves-all _ _ s))))))
 
+  -- an operation has a result, from which it goes on, or it has none and stops
+  comes-computed :
+      {out : List ℕ} (κ : Value → Outcome Reported) (op : Op) (i j r : ℕ) (s : State)
+      → ((v : ℕ) → Comes T input out (finished r v s) (κ (number v)))
+      → Comes T input out (computing op i j r s) (followedBy (computed r op i j) κ)
+  unfolding computing computed followedBy
+  comes-computed {out} κ op i j r s from = by-result (resultOf op i j)
+    where
+      by-result : (found : Option ℕ)
+          → Comes T input out (elim found [ some v ↦ finished r v s | none ↦ broken op i j r ])
+          (followedBy (elim found [ some v ↦ gives (number v) | none ↦ stops (no-result op i j) r ]) κ)
+      by-result (some v) = from v
+      by-result none = at-broken
+
   -- the first number is kept while the second is found
-  sim-add : {g n : ℕ} (x y : Expr) → Sim g n numberValued x → Sim g n numberValued y → Sim g n numberValued (add x y)
+  sim-compute : {g n : ℕ} (op : Op) (x y : Expr) → Sim g n numberValued x → Sim g n numberValued y → Sim g n numberValued (compute op x y)
   unfolding evaluate resultNumber wordsOf headOf actionOf treeOf roleOf slotOf namesIn keepsIn casesIn
-  sim-add {g} x y sim-x sim-y p r w E s stands inside names words few agrees out κ follow =
-      let row = own-row entry arity T p r (add x y) stands in
-      let parts = add-parts entry arity T stands in
+  sim-compute {g} op x y sim-x sim-y p r w E s stands inside names words few agrees out κ follow =
+      let row = own-row entry arity T p r (compute op x y) stands in
+      let parts = compute-parts entry arity T stands in
       let row-x = own-row entry arity T _ (suc r) x (parts .0) in
       let row-y = own-row entry arity T _ (suc r + size x) y (parts .1) in
-      let long = size-add x y in
+      let long = size-compute x y op in
       let least = words-least gs (suc w) y in
       let slot : ℕ = lastWord - p .keeps in
       comes-begun κ _
@@ -333,8 +347,8 @@ module _ (program : Program) (T input : List ℕ) (k : ℕ) where
       let on-slot : wordAt s₃ slot ≡ i =
       word-kept g (suc (p .keeps)) (withWord s₁ slot i) s₃ left₃ slot (omega arith) (omega arith)
       ∙ word-set s₁ slot i (word-there s₁ slot (roomy-left left₁ (agrees .roomy)) (omega arith)) in
-      finished-added T input (suc r + size x) j s₃ slot r i (row-y .role) (row-y .slot) (row-y .parent) (omega arith) on-slot
-      (comes-value κ _ (number-given follow (sum32 i j) s₃
+      finished-second T input (suc r + size x) j s₃ op slot r i (row-y .role) (row-y .slot) (row-y .parent) (omega arith) on-slot
+      (comes-computed κ op i j r s₃ (λ v. number-given follow v s₃
       (leaves-both g (p .keeps) s (withWord s₁ slot i) s₃ both
       (leaves-less g (p .keeps) g (suc (p .keeps)) (withWord s₁ slot i) s₃ (le-refl g) (omega arith) left₃)))))))))))
 
@@ -638,7 +652,7 @@ module _ (program : Program) (T input : List ℕ) (k : ℕ) where
   sim calls d = elim d as (λ g n sort e d. Sim g n sort e) (λ g n count xs d. SimArgs g n count xs) [
     | proper-const {i = i} small ↦ sim-const i
     | proper-var {a = a} bound ↦ sim-var a bound
-    | proper-add {p = x} {q = y} (d₁ → sim-x) (d₂ → sim-y) ↦ sim-add x y sim-x sim-y
+    | proper-compute {op = op} {p = x} {q = y} (d₁ → sim-x) (d₂ → sim-y) ↦ sim-compute op x y sim-x sim-y
     | proper-ifZero {t = t} {z = z} {o = o} (d₀ → sim-t) (d₁ → sim-z) (d₂ → sim-o) ↦ sim-ifZero t z o sim-t sim-z sim-o
     | proper-let {p = x} {body = body} (d₁ → sim-x) (d₂ → sim-body) ↦ sim-let x body sim-x sim-body
     | proper-leaf {p = x} (d → sim-x) ↦ sim-leaf x sim-x

@@ -3,18 +3,20 @@
 use Prim.Native.Nat.{ℕ, suc, _+_, _*_, _%_, _≤_, _<_}
 use mathlib.Core.List.{List, [], _∷_}
 use mathlib.Core.Logic.{_≢_}
+use mathlib.Core.Option.{none, some}
 use mathlib.Core.Path.{_≡_, refl, ap, _∙_}
 use mathlib.Core.Bool.{false}
 use borrow.Author.Tests.{eq-eqb, ne-eqb, le-leb, lt-leb, lt-ltb, le-ltb}
 use lib.Dec.{eqb}
 use lib.ListN.{length, getD}
-use Rattle.formats.specs.Numbers.{sum32, numberAt}
+use Rattle.formats.specs.Numbers.{numberAt}
+use Rattle.formats.specs.Arithmetic.{Op, plus, resultOf}
 use Rattle.formats.specs.Tokens.{leaf, leafTag, nodeTag, tokens}
 use Rattle.formats.specs.Inner.Trees.{leafBytes}
 use Rattle.stepwise.specs.Inner.Rows.{givesConstant, givesNamed, tagsNode, looksAtTree, callsFunction}
-use Rattle.stepwise.specs.Inner.Rows.{whole, kept, added, tested, passed, labelled, followed, lastArgument}
-use Rattle.stepwise.specs.Inner.Steps.{State, begin, finished, opens, ended, deep, stuck, actionAt, operandAt, moreAt, roleAt, parentAt, slotAt, afterAt}
-use Rattle.stepwise.specs.Inner.Steps.{wordAt, withWord, withEnd, framed, mostWaiting, looking, beginning, emittedFirst, knownAfter, closing, following, rising}
+use Rattle.stepwise.specs.Inner.Rows.{whole, kept, added, secondOf, tested, passed, labelled, followed, lastArgument}
+use Rattle.stepwise.specs.Inner.Steps.{State, begin, finished, opens, ended, deep, broken, stuck, actionAt, operandAt, moreAt, roleAt, parentAt, slotAt, afterAt}
+use Rattle.stepwise.specs.Inner.Steps.{wordAt, withWord, withEnd, framed, mostWaiting, looking, beginning, emittedFirst, knownAfter, closing, following, computing, rising}
 use Rattle.stepwise.specs.Inner.Steps.{emittedLast, opening}
 
 -- a number that is m is not n
@@ -59,11 +61,11 @@ module _ (T input : List ℕ) (p r : ℕ) (s : State) where
 
   pub begins-bare : actionAt T r ≡ callsFunction → moreAt T r ≡ 0 → beginning T input p r s ≡ opens r s
   unfolding beginning
-  begins-bare k none = simp (beginning, off _ 5 0 k refl, off _ 5 1 k refl, off _ 5 4 k refl, eq-eqb _ _ k, eq-eqb _ _ none)
+  begins-bare k bare = simp (beginning, off _ 5 0 k refl, off _ 5 1 k refl, off _ 5 4 k refl, eq-eqb _ _ k, eq-eqb _ _ bare)
 
   pub begins-args : actionAt T r ≡ callsFunction → moreAt T r ≢ 0 → beginning T input p r s ≡ begin (suc r) s
   unfolding beginning
-  begins-args k some = simp (beginning, off _ 5 0 k refl, off _ 5 1 k refl, off _ 5 4 k refl, eq-eqb _ _ k, ne-eqb _ _ some)
+  begins-args k more = simp (beginning, off _ 5 0 k refl, off _ 5 1 k refl, off _ 5 4 k refl, eq-eqb _ _ k, ne-eqb _ _ more)
 
   -- all else: the first part begins
   pub begins-first : actionAt T r ≢ givesConstant → actionAt T r ≢ givesNamed → actionAt T r ≢ looksAtTree → actionAt T r ≢ callsFunction → beginning T input p r s ≡ begin (suc r) s
@@ -99,6 +101,16 @@ module _ (T : List ℕ) (r x : ℕ) (s : State) where
   unfolding following
   follows-last a b c = simp (following, ne-eqb _ _ a, ne-eqb _ _ b, ne-eqb _ _ c)
 
+-- an operation with a result, and one without
+module _ (op : Op) (i j r : ℕ) (s : State) where
+  pub computes-result : (y : ℕ) → resultOf op i j ≡ some y → computing op i j r s ≡ finished r y s
+  unfolding computing
+  computes-result y is = simp (computing, is)
+
+  pub computes-none : resultOf op i j ≡ none → computing op i j r s ≡ broken op i j r
+  unfolding computing
+  computes-none is = simp (computing, is)
+
 module _ (T input : List ℕ) (r x : ℕ) (s : State) where
   pub rises-whole : roleAt T r ≡ whole → rising T input r x s ≡ closing T input x s
   unfolding rising
@@ -108,9 +120,14 @@ module _ (T input : List ℕ) (r x : ℕ) (s : State) where
   unfolding rising
   rises-kept k = simp (rising, off _ 1 0 k refl, eq-eqb _ _ k)
 
-  pub rises-added : roleAt T r ≡ added → rising T input r x s ≡ finished (parentAt T r) (sum32 (wordAt s (slotAt T r)) x) s
+  pub rises-added : roleAt T r ≡ added → rising T input r x s ≡ computing plus (wordAt s (slotAt T r)) x (parentAt T r) s
   unfolding rising
   rises-added k = simp (rising, off _ 2 0 k refl, off _ 2 1 k refl, eq-eqb _ _ k)
+
+  -- the second part of any operation
+  pub rises-second : (op : Op) → roleAt T r ≡ secondOf op → rising T input r x s ≡ computing op (wordAt s (slotAt T r)) x (parentAt T r) s
+  unfolding secondOf
+  rises-second plus k = rises-added k
 
   pub rises-zero : roleAt T r ≡ tested → x ≡ 0 → rising T input r x s ≡ begin (afterAt T r) s
   unfolding rising

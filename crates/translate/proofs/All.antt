@@ -10,7 +10,7 @@ use lib.ListN.{length, length-append, length-map}
 use Rattle.formats.specs.Numbers.{Bytes}
 use Rattle.formats.specs.Results.{done}
 use Rattle.formats.specs.Records.{recordAt}
-use Rattle.formats.specs.Programs.{Expr, const, var, add, ifZero, letIn, leafOf, nodeOf, caseOf, call, Args, noArgs, arg, prefix, prefixes, size, sumOfCounts, countArgs, Every, InRange, Sort, numberValued, treeValued, Function, signatureOf, Program, signatures, LawfulFunctions, Signature}
+use Rattle.formats.specs.Programs.{Expr, const, var, compute, ifZero, letIn, leafOf, nodeOf, caseOf, call, Args, noArgs, arg, prefix, prefixes, size, sumOfCounts, countArgs, Every, InRange, Sort, numberValued, treeValued, Function, signatureOf, Program, signatures, LawfulFunctions, Signature}
 use Rattle.formats.specs.Rows.{readProgram}
 use Rattle.formats.specs.Inner.Fields.{headerIn}
 use Rattle.formats.proofs.Programs.{every-left, every-right}
@@ -180,7 +180,7 @@ module _ (es fs : ℕ → ℕ) (functions : ℕ) (same : (b : ℕ) → b < funct
     same-code : (s : Sort) (words : WordNumbers) (w a : ℕ) (e : Expr) → Every (InRange functions) (prefix e) → code es s words w a e ≡ code fs s words w a e
     same-code s words w a (const i) h = refl
     same-code s words w a (var k) h = refl
-    same-code s words w a (add p q) h =
+    same-code s words w a (compute op p q) h =
         let first = same-code numberValued words w a p (every-left _ (prefix p) (prefix q) (h .1)) in
         let second = same-code numberValued words (suc w) (codeEnd p a) q (every-right _ (prefix p) (prefix q) (h .1)) in
         rw (first, second)

@@ -8,7 +8,7 @@ use native.Mathlib.Omega.{arith}
 use lib.ListN.{length, length-append, length-map}
 use Rattle.formats.specs.Inner.CodeColumn.{Item, callFunction, onlyLast, Template, templateOf, itemsBefore}
 use Rattle.formats.specs.Records.{Call, Parts, partsOf, nth, nthPart, partCount}
-use Rattle.formats.specs.Programs.{Expr, const, var, add, ifZero, letIn, leafOf, nodeOf, caseOf, call, Args, noArgs, arg, size, Placed, argsAt, partsAt, Sort, numberValued}
+use Rattle.formats.specs.Programs.{Expr, const, var, compute, ifZero, letIn, leafOf, nodeOf, caseOf, call, Args, noArgs, arg, size, Placed, argsAt, partsAt, Sort, numberValued}
 use Rattle.walks.specs.Inner.Standing.{headOf}
 use Rattle.walks.proofs.Walks.{length-args}
 use Rattle.meaning.specs.Instructions.{Operation}
@@ -75,7 +75,7 @@ module _ (entries arity : ℕ → ℕ) (s : Sort) (words : WordNumbers) (w : ℕ
   unfolding code codeEnd partsCode lastPart partsAt headOf templateOf itemsBefore past partAround operationFor partsOf nthPart nth partCount
   by-column a k (const i) counted = refl
   by-column a k (var v) counted = refl
-  by-column a k (add p q) counted = rw (add-zero, add-one)
+  by-column a k (compute op p q) counted = rw (add-zero, add-one)
   by-column a k (ifZero t z o) counted = rw (append-nil, add-zero)
   by-column a k (letIn p body) counted = rw add-zero
   by-column a k (leafOf p) counted = rw add-zero
@@ -95,7 +95,7 @@ pub beyond-column : (a k : ℕ) (e : Expr) → beyondParts (templateOf (headOf e
 unfolding codeEnd beyondParts partsAt headOf templateOf itemsBefore past
 beyond-column a k (const i) = refl
 beyond-column a k (var v) = refl
-beyond-column a k (add p q) = refl
+beyond-column a k (compute op p q) = refl
 beyond-column a k (ifZero t z o) = refl
 beyond-column a k (letIn p body) = refl
 beyond-column a k (leafOf p) = refl

@@ -8,7 +8,7 @@ use lib.ListN.{length}
 use Rattle.formats.specs.Inner.CodeColumn.{templateOf}
 use Rattle.formats.specs.Results.{done, onValue}
 use Rattle.formats.specs.Records.{Case, Part, aNumber, aTree, asWhole, underNumber, underTrees, nth, partsOf, nthPart, partCount}
-use Rattle.formats.specs.Programs.{Expr, const, var, add, ifZero, letIn, leafOf, nodeOf, caseOf, call, size, Placed, placedAt, partsAt, CallsComplete, Signature, arityOf}
+use Rattle.formats.specs.Programs.{Expr, const, var, compute, ifZero, letIn, leafOf, nodeOf, caseOf, call, size, Placed, placedAt, partsAt, CallsComplete, Signature, arityOf}
 use Rattle.formats.specs.Inner.Fields.{arityIn, nodeIn}
 use Rattle.formats.proofs.Results.{done-injective, then-inv}
 use Rattle.formats.proofs.Programs.{some-record}
@@ -44,9 +44,9 @@ binder-room : (gs : List Signature) (g n w r : ℕ) (τ : Ty) (e : Expr) (j : �
 unfolding headOf entered wordsTested partsOf nthPart nth
 binder-room gs g n w r τ (const i) j a h binds = absurd binds
 binder-room gs g n w r τ (var v) j a h binds = absurd binds
-binder-room gs g n w r τ (add p q) zero a h binds = absurd binds
-binder-room gs g n w r τ (add p q) (suc zero) a h binds = absurd binds
-binder-room gs g n w r τ (add p q) (suc (suc j)) a h binds = absurd binds
+binder-room gs g n w r τ (compute op p q) zero a h binds = absurd binds
+binder-room gs g n w r τ (compute op p q) (suc zero) a h binds = absurd binds
+binder-room gs g n w r τ (compute op p q) (suc (suc j)) a h binds = absurd binds
 binder-room gs g n w r τ (ifZero t z o) zero a h binds = absurd binds
 binder-room gs g n w r τ (ifZero t z o) (suc zero) a h binds = absurd binds
 binder-room gs g n w r τ (ifZero t z o) (suc (suc zero)) a h binds = absurd binds

@@ -8,7 +8,7 @@ use native.Mathlib.Nat.{add-zero, suc-add, add-suc}
 use native.Mathlib.Omega.{arith}
 use lib.ListN.{length, length-append}
 use Rattle.formats.specs.Records.{nth}
-use Rattle.formats.specs.Programs.{Expr, const, var, add, ifZero, letIn, leafOf, nodeOf, caseOf, call, Args, noArgs, arg, Sort}
+use Rattle.formats.specs.Programs.{Expr, const, var, compute, ifZero, letIn, leafOf, nodeOf, caseOf, call, Args, noArgs, arg, Sort}
 use Rattle.meaning.specs.Instructions.{Instruction, Operation, instructionOf}
 use Rattle.translation.specs.Templates.{codeEnd, argsEnd, WordNumbers, code, codeArgs}
 
@@ -35,7 +35,7 @@ module _ (entries : ℕ → ℕ) where
     span : (s : Sort) (words : WordNumbers) (w a : ℕ) (e : Expr) → Spans a (codeEnd e a) (code entries s words w a e)
     span s words w a (const i) = one-span (no-span _)
     span s words w a (var k) = one-span (no-span _)
-    span s words w a (add p q) = join-spans (span _ _ _ _ p) (join-spans (span _ _ _ _ q) (one-span (no-span _)))
+    span s words w a (compute op p q) = join-spans (span _ _ _ _ p) (join-spans (span _ _ _ _ q) (one-span (no-span _)))
     span s words w a (ifZero t z o) =
         join-spans (span _ _ _ _ t) (one-span (join-spans (span _ _ _ _ z) (one-span (span _ _ _ _ o))))
     span s words w a (letIn p body) = join-spans (span _ _ _ _ p) (join-spans (span _ _ _ _ body) (one-span (no-span _)))

@@ -8,16 +8,17 @@ use mathlib.Core.Path.{_≡_, refl, ap, subst}
 use native.Mathlib.Omega.{arith}
 use lib.Dec.{eqb, ltb, leb}
 use lib.ListN.{length, take, drop as drop-words}
+use Rattle.formats.specs.Arithmetic.{resultOf}
 use Rattle.formats.specs.Tokens.{leafTag, nodeTag, labelBytes, tagAt, Tag, noByte, aLeaf, aNode, other}
 use Rattle.formats.specs.Refusals.{cannotPerform, outputFull, tooManyCalls, inputEnded}
 use Rattle.formats.specs.Programs.{Program}
 use Rattle.meaning.specs.Levels.{atLevel}
 use Rattle.formats.specs.Numbers.{bytesOf, numberAt}
-use Rattle.meaning.specs.Instructions.{Operation, Push, Get, Add, Ifnot, Jump, Slide, Drop, LeafTag, NodeTag, WriteNumber, ReadTag, ReadNumber, Call, Return}
-use Rattle.meaning.specs.Performing.{Setting, Caller, State, Step, goes, ends, refuses, ifRoom, write, onTag, takeNumber, kept, leave, operate}
+use Rattle.meaning.specs.Instructions.{Operation, Push, Get, Compute, Ifnot, Jump, Slide, Drop, LeafTag, NodeTag, WriteNumber, ReadTag, ReadNumber, Call, Return}
+use Rattle.meaning.specs.Performing.{Setting, Caller, State, Step, goes, ends, refuses, ifRoom, pushResult, write, onTag, takeNumber, kept, leave, operate}
 use Rattle.meaning.specs.Performing.{pushWord as pushed, openCall as calls, calling, goTo, writing, holding, reading, callsOpen, wordsStanding}
 use Rattle.meaning.proofs.Steps.{holds-if, holds-some, holds-one, holds-two}
-use Rattle.translation.specs.CodeLimits.{MovesWords, by-push, by-get, by-add, by-ifnot-zero, by-ifnot-other, by-jump, by-slide, by-drop, by-leaf-tag, by-node-tag, by-write-number, by-read-leaf, by-read-node, by-read-number}
+use Rattle.translation.specs.CodeLimits.{MovesWords, by-push, by-get, by-compute, by-ifnot-zero, by-ifnot-other, by-jump, by-slide, by-drop, by-leaf-tag, by-node-tag, by-write-number, by-read-leaf, by-read-node, by-read-number}
 
 module _ (program : Program) (m : Setting) (s : State) where
   -- What is to be shown of each outcome of an instruction.
@@ -46,10 +47,14 @@ module _ (program : Program) (m : Setting) (s : State) where
 
   -- one line for each opcode; a call opens a frame, and a return leaves one
   leads-so : (op : Operation) → Led op (operate m s op)
-  unfolding operate ifRoom onTag takeNumber calls leave
+  unfolding operate ifRoom pushResult onTag takeNumber calls leave
   leads-so (Push x) = led-push (Push x) x by-push
   leads-so (Get k) = holds-some (Led (Get k)) (atLevel (s .frame) k) (λ x. pushed m x s) tt (λ x. led-push (Get k) x by-get)
-  leads-so Add = holds-two (Led Add) (s .frame) _ tt (λ x y rest e c. rw e by-add)
+  leads-so (Compute op) = holds-two (Led (Compute op)) (s .frame) _ tt (λ x y rest e. by-result rest e (resultOf op y x))
+    where
+      by-result : (rest : List ℕ) → length (s .frame) ≡ suc (suc (length rest)) → (found : Option ℕ) → Led (Compute op) (pushResult found rest s)
+      by-result rest e none = tt
+      by-result rest e (some x) = λ c. rw e by-compute
   leads-so (Ifnot a) = holds-one (Led (Ifnot a)) (s .frame) _ tt (λ x rest e c. rw e (by-test a (eqb x 0) rest))
     where
       by-test : (a : ℕ) (b : Bool) (rest : List ℕ)

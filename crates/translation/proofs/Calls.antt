@@ -9,7 +9,8 @@ use borrow.Author.Tests.{le-leb, leb-true}
 use lib.Dec.{leb}
 use lib.ListN.{length, length-map}
 use Rattle.formats.specs.Numbers.{Bytes}
-use Rattle.formats.specs.Refusals.{spaceTooShort}
+use Rattle.formats.specs.Arithmetic.{Op}
+use Rattle.formats.specs.Refusals.{spaceTooShort, outOfRange}
 use Rattle.formats.specs.Results.{Result, done, refusal, andThen, onValue, verdict, valueIf}
 use Rattle.formats.specs.Tokens.{Tree, Labelled, tokens}
 use Rattle.formats.specs.Programs.{Program, Lawful}
@@ -21,12 +22,15 @@ use Rattle.formats.proofs.Records.{length-flat}
 use Rattle.formats.proofs.Rows.{flattens}
 use Rattle.formats.proofs.Files.{within-room, flat-in-bytes}
 use Rattle.rules.specs.PassTwo.{bothPasses, checkRecords, checkFile}
-use Rattle.meaning.specs.Running.{Answer, Ran, valueWords, returnWords, streamRun}
+use Rattle.meaning.specs.Running.{Answer, Ran, valueWords, returnWords, mostCalls, streamRun}
+use Rattle.meaning.specs.OpenCalls.{no-result, refusalOf}
+use Rattle.meaning.specs.Unfinished.{Breaks, stopUnits, stopBytes}
 use Rattle.meaning.specs.Instructions.{instructionBytes, mostInstructions, instructionOf}
 use Rattle.translation.specs.Templates.{operationsOf, codeOf}
-use Rattle.translation.specs.Demand3.{Given, runOn}
+use Rattle.translation.specs.Demand3.{Checked, Given, runOn}
 use Rattle.translation.specs.TranslateAndRun.{checkedRecords, translateRecords, translateFile, prepared, refusedBefore, runFile, FileRan, Ready}
 use Rattle.translation.specs.Listing.{NeverShort}
+use Rattle.translation.specs.StoppedRuns.{StreamStops}
 use Rattle.translation.specs.ThisCall.{ThisCall, AnyCall, ProgramRun, AllRunnable}
 use Rattle.translation.proofs.CodeLimits.{code-limits}
 use Rattle.translation.proofs.Demand3.{demand-3}
@@ -154,20 +158,24 @@ module _ (file code : List ℕ) (values returns : ℕ) (bytes : Bytes file) (pro
       let t = translated (length code) (f .value) program (f .second) (ready .passes) (ready .room) in
       prepared-code (length code) values returns file (codeOf program) (then-done _ (f .first) ∙ t) (ready .words-lent) (ready .returns-lent)
 
+  -- its program is checked
+  pub ready-checked : Checked program
+  unfolding programIn
+  ready-checked =
+      let f = then-inv (flatIn file) readProgram program (ready .in-file) in
+      record { lawful = flattens (f .value) program (flat-in-bytes file (f .value) bytes (f .first)) (f .second) .lawful; passes = ready .passes }
+
   -- the program with what its runs are given, nothing after its code
   given : Given
-  unfolding programIn
-  given =
-      let f = then-inv (flatIn file) readProgram program (ready .in-file) in
-      record {
-        program = program;
-        checked = record { lawful = flattens (f .value) program (flat-in-bytes file (f .value) bytes (f .first)) (f .second) .lawful; passes = ready .passes };
-        after-code = [];
-        values = values;
-        returns = returns;
-        words-lent = ready .words-lent;
-        returns-lent = ready .returns-lent;
-      }
+  given = record {
+    program = program;
+    checked = ready-checked;
+    after-code = [];
+    values = values;
+    returns = returns;
+    words-lent = ready .words-lent;
+    returns-lent = ready .returns-lent;
+  }
 
   -- the run is the one that demand 3 speaks of
   abbrev ranOn : (input output : List ℕ) (fuel : ℕ) → Ran
@@ -187,7 +195,14 @@ module _ (file code : List ℕ) (values returns : ℕ) (bytes : Bytes file) (pro
 
   -- demand 3 about this call
   module _ (t : Tree) (labelled : Labelled t) (rest output : List ℕ) (fuel : ℕ) where
-    on-tree : ThisCall program t rest output fuel (runFile file (tokens t) output code fuel values returns) (ranOn (tokens t ++ rest) output fuel .answer) (ranOn (tokens t ++ rest) output fuel .output)
+    -- where the evaluation breaks, this call stops there
+    stops : (n : ℕ) (op : Op) (i j q : ℕ) (b : Breaks program t mostCalls n op i j q) → StreamStops t (stopUnits b) outOfRange (stopBytes b) ranOn
+    unfolding given refusalOf
+    stops n op i j q b = every-run given .stops t n (no-result op i j) q b labelled
+
+    on-tree :
+        ThisCall program t rest output fuel (runFile file (tokens t) output code fuel values returns) (ranOn (tokens t ++ rest) output fuel .answer)
+        (ranOn (tokens t ++ rest) output fuel .output)
     unfolding given
     on-tree =
         let holds = demand-3 given t labelled in
@@ -203,6 +218,10 @@ module _ (file code : List ℕ) (values returns : ℕ) (bytes : Bytes file) (pro
           same-output = ap (λ (r : Ran). r .output) alone ∙ ap (λ (r : FileRan). r .output) (sym (ready-called (tokens t) output fuel));
           suffices = λ n v ends enough space. holds .suffices n v ends rest output fuel enough space;
           none-suffices = λ none. holds .none-suffices none rest output fuel;
+          breaks = λ n op i j q b more fits. stops n op i j q b .enough rest output fuel more fits;
+          breaks-fewer = λ n op i j q b few fits. stops n op i j q b .fewer rest output fuel few fits;
+          broken-opening = λ n op i j q b. stops n op i j q b .written-opening rest output fuel;
+          broken-is-meant = λ position e. every-run given .broken-is-meant t rest output fuel position labelled e;
         }
 
   any-run : (input output : List ℕ) (fuel : ℕ) → Bytes input → AnyCall program input output (ranOn input output fuel .answer) (ranOn input output fuel .output)

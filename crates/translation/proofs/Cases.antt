@@ -5,11 +5,13 @@ use mathlib.Core.List.{List, [], _∷_, map}
 use mathlib.Core.Path.{_≡_, refl}
 use lib.IntN.{pos, negsuc}
 use lib.ListN.{replicate}
-use Rattle.formats.specs.Numbers.{bytesOf, numberOf, numberAt, sum32}
+use Rattle.formats.specs.Numbers.{bytesOf, numberOf, numberAt, signed32}
+use Rattle.formats.specs.Arithmetic.{unbounded, wordFor, resultOf}
 use Rattle.formats.specs.Results.{done}
 use Rattle.formats.specs.Tokens.{Tree, leaf, node, tokens, tagOf, tagAt}
 use Rattle.formats.specs.Records.{bytesOfRecord, flat, recordAt, nth}
-use Rattle.formats.specs.Programs.{Expr, const, var, add, ifZero, letIn, leafOf, nodeOf, caseOf, prefix, prefixes, size, countArgs, signatureOf}
+use Rattle.formats.specs.Programs.{Expr, const, var, ifZero, letIn, leafOf, nodeOf, caseOf, prefix, prefixes, size, countArgs, signatureOf}
+use Rattle.formats.specs.Inner.Expressions.{add}
 use Rattle.formats.specs.Programs.{numberValued, treeValued, Function, Program}
 use Rattle.formats.specs.Written.{written}
 use Rattle.formats.specs.Characters.{ascii}
@@ -23,10 +25,10 @@ use Rattle.rules.proofs.Cases.{numbered, treed, programOf, on, with-one}
 use Rattle.meaning.specs.Levels.{atLevel}
 use Rattle.meaning.specs.Instructions.{Operation, Push, Get, Add, Ifnot, Jump, Slide, Drop, LeafTag, NodeTag, WriteNumber, ReadTag, ReadNumber, Call, Return}
 use Rattle.meaning.specs.Instructions.{heldBy, operations, operationOf, instructionOf}
-use Rattle.meaning.specs.Performing.{wordsBelow, wordsStanding, callsOpen, popOne, popTwo, ifRoom, pushWord, write}
+use Rattle.meaning.specs.Performing.{wordsBelow, wordsStanding, callsOpen, popOne, popTwo, ifRoom, pushWord, pushResult, write}
 use Rattle.meaning.specs.Performing.{onTag, takeNumber, openCall, kept, numberKept, leave, operate, perform, step}
 use Rattle.meaning.specs.Running.{Ran, run, outcomeOf, numberReported, streamRun, valueWords, returnWords}
-use Rattle.meaning.specs.Evaluation.{tree, branch, inBranch, Const as Literal, Var as Named, Add as Plus, Leaf as LeafOf, Case as CaseOn, Ends, caseUnits, counted}
+use Rattle.meaning.specs.Evaluation.{tree, branch, inBranch, Const as Literal, Var as Named, Compute as Plus, Leaf as LeafOf, Case as CaseOn, Ends, caseUnits, counted}
 use Rattle.meaning.proofs.Cases.{blank, ended-with, refused-with}
 use Rattle.meaning.proofs.MeaningCases.{again, sum, two-leaves, on-two}
 use Rattle.translation.specs.EveryRun.{evaluationUnits}
@@ -197,7 +199,11 @@ runs =
     ∷ row grow two-leaves 24 12 (refused-with 14 24 11 (2 ∷ 1 ∷ 6 ∷ 0 ∷ 0 ∷ 0 ∷ 1 ∷ 8 ∷ 0 ∷ 0 ∷ 0 ∷ []) (blank 1))
     ∷ row grow two-leaves 25 10 (refused-with 17 20 11 (2 ∷ 1 ∷ 6 ∷ 0 ∷ 0 ∷ 0 ∷ 1 ∷ []) (blank 3))
     ∷ row grow (leaf 5) 10 6 (ended-with 10 5 0 (1 ∷ 6 ∷ 0 ∷ 0 ∷ 0 ∷ []) (blank 1))
-    ∷ row sum (node (leaf 2147483647) (leaf 1)) 17 2 (ended-with 17 11 2147483648 [] (blank 2))
+    ∷ row sum (node (leaf 2147483646) (leaf 1)) 17 2 (ended-with 17 11 2147483647 [] (blank 2))
+    ∷ row sum (node (leaf 2147483647) (leaf 1)) 16 2 (refused-with 21 15 11 [] (blank 2))
+    ∷ row sum (node (leaf 2147483647) (leaf 1)) 15 2 (refused-with 14 15 11 [] (blank 2))
+    ∷ row grow (node (leaf 5) (leaf 2147483647)) 20 12 (refused-with 21 19 11 (2 ∷ 1 ∷ 6 ∷ 0 ∷ 0 ∷ 0 ∷ 1 ∷ []) (blank 5))
+    ∷ row grow (node (leaf 5) (leaf 2147483647)) 20 6 (refused-with 17 16 11 (2 ∷ 1 ∷ 6 ∷ 0 ∷ 0 ∷ 0 ∷ []) [])
     ∷ row zero-counted (leaf 0) 9 2 (ended-with 9 5 1 [] (blank 2))
     ∷ row zero-counted (leaf 9) 8 2 (ended-with 8 5 2 [] (blank 2))
     ∷ row zero-marked (leaf 0) 11 12 (ended-with 11 5 0 (1 ∷ 1 ∷ 0 ∷ 0 ∷ 0 ∷ []) (blank 7))
@@ -217,7 +223,7 @@ runs =
     ∷ []
 
 as-reported : map ranOn runs ≡ map (λ r. r .gives) runs
-unfolding streamRun run step perform operate heldBy operationOf operations instructionOf nth recordAt flat bytesOfRecord bytesOf numberOf numberAt sum32 tagAt tagOf written wordsStanding wordsBelow callsOpen atLevel popOne popTwo ifRoom pushWord write onTag takeNumber openCall kept numberKept leave outcomeOf numberReported blank ended-with refused-with tokens two-leaves codeOf operationsOf entryOf functionsCode entryFrom functionEnd functionCode wordsKept code codeArgs endOf firstWords wordOf codeEnd argsEnd countArgs grow sum again numbered treed programOf on on-two summing growing zero-counted zero-marked let-number let-tree under-temporary three-functions names-in-parts doubled as-written with-one row ranOn runs
+unfolding streamRun run step perform operate heldBy operationOf operations instructionOf nth recordAt flat bytesOfRecord bytesOf numberOf numberAt resultOf unbounded wordFor signed32 tagAt tagOf written wordsStanding wordsBelow callsOpen atLevel popOne popTwo ifRoom pushWord pushResult write onTag takeNumber openCall kept numberKept leave outcomeOf numberReported blank ended-with refused-with tokens two-leaves codeOf operationsOf entryOf functionsCode entryFrom functionEnd functionCode wordsKept code codeArgs endOf firstWords wordOf codeEnd argsEnd countArgs grow sum again numbered treed programOf on on-two summing growing zero-counted zero-marked let-number let-tree under-temporary three-functions names-in-parts doubled as-written with-one row ranOn runs
 as-reported = refl
 
 -- ---- units
@@ -225,8 +231,8 @@ as-reported = refl
 -- Grow on a leaf 5, by hand: Case, Leaf, Add, Var and Const. Its units are those of the run, in the
 -- table above.
 grow-on-leaf : Ends grow (leaf 5) 1 5 (tree (leaf 6))
-unfolding grow nth atLevel branch inBranch sum32
-grow-on-leaf = record { first = _; is-first = refl; takes = CaseOn refl (LeafOf (Plus (Named refl) Literal)) }
+unfolding grow nth atLevel branch inBranch resultOf unbounded wordFor signed32
+grow-on-leaf = record { first = _; is-first = refl; takes = CaseOn refl (LeafOf (Plus (Named refl) Literal refl)) }
 
 grow-units : evaluationUnits grow-on-leaf ≡ 10
 unfolding counted caseUnits grow-on-leaf

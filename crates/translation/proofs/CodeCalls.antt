@@ -8,13 +8,14 @@ use mathlib.Core.Path.{_≡_, refl, ap, _∙_}
 use borrow.Author.Tests.{le-leb}
 use lib.Dec.{lit≤}
 use lib.ListN.{length}
-use Rattle.formats.specs.Refusals.{fuelUsedUp, outputFull, tooManyCalls}
+use Rattle.formats.specs.Refusals.{fuelUsedUp, outputFull}
 use Rattle.formats.specs.Results.{done}
 use Rattle.formats.specs.Tokens.{Tree}
 use Rattle.formats.proofs.Results.{done-not}
 use Rattle.meaning.specs.Instructions.{heldBy}
 use Rattle.meaning.specs.Performing.{Setting, State, start}
 use Rattle.meaning.specs.Running.{Stop, ended, refused, Run, run, unitsOf, outcomeOf, Ran, ranTo, mostCalls, ofCode, streamRun}
+use Rattle.meaning.specs.OpenCalls.{Reason, refusalOf}
 use Rattle.meaning.specs.StreamRun.{StreamCalls}
 use Rattle.meaning.specs.Running.{writtenBy}
 use Rattle.meaning.proofs.Calls.{written-ran}
@@ -29,15 +30,15 @@ use Rattle.translation.proofs.Carried.{Carries}
 use Rattle.translation.proofs.Courses.{Course, WholeWay, CameTo, out-of-fuel, out-of-space, whole, Came, came}
 use Rattle.translation.proofs.Goes.{InputFault}
 use Rattle.translation.proofs.Evaluated.{Runnable}
-use Rattle.translation.proofs.WholeRuns.{Known, ends-so, sticks-so, faults-so, known}
+use Rattle.translation.proofs.WholeRuns.{Known, ends-so, stops-so, faults-so, known}
 
--- Why a run of such code stops. It has ended; its fuel, the space or the calls are used up; or it
--- has come to a fault of the input, if there can be one.
+-- Why a run of such code stops. It has ended; its fuel or the space is used up; it is where the
+-- evaluation stops; or it has come to a fault of the input, if there can be one.
 pub data StopsFor (Faulty : Type 0) : Stop → Type 0 where
   it-ended : {number : ℕ} → StopsFor Faulty (ended number)
   no-fuel : StopsFor Faulty (refused fuelUsedUp)
   no-space : StopsFor Faulty (refused outputFull)
-  no-call : StopsFor Faulty (refused tooManyCalls)
+  at-stop : (why : Reason) → StopsFor Faulty (refused (refusalOf why))
   at-fault : {why : ℕ} → Faulty → InputFault why → StopsFor Faulty (refused why)
 
 -- a run whose course stops for one of these reasons does so too
@@ -132,5 +133,5 @@ module _ (given : Given) where
   pub stops-for : {Faulty : Type 0} {input : List ℕ} {end : ℕ} {t : Tree} → CourseOn Faulty input end t → (output : List ℕ) (fuel : ℕ)
       → StopsFor Faulty (runOf input output fuel .stop)
   stops-for (ends-so n v evaluated c units counts bytes read) output fuel = came-for it-ended (goes-along c output fuel)
-  stops-for (sticks-so never c) output fuel = came-for no-call (goes-along c output fuel)
+  stops-for (stops-so n why q stops c units bytes) output fuel = came-for (at-stop why) (goes-along c output fuel)
   stops-for (faults-so why f w c) output fuel = came-for (at-fault f w) (goes-along c output fuel)

@@ -9,8 +9,9 @@ use mathlib.Core.Bool.{true, false≢true}
 use mathlib.Core.List.{List, [], _∷_}
 use mathlib.Core.Option.{Option, none, some, Option·some-injective, Option·none-ne-some}
 use mathlib.Core.Path.{_≡_, refl}
+use Rattle.formats.specs.Arithmetic.{Op}
 use Rattle.formats.specs.Records.{Kind, Call as CallRecord, nth}
-use Rattle.formats.specs.Programs.{Expr, const, var, add, ifZero, letIn, leafOf, nodeOf, caseOf, call, Args, noArgs, arg, size, countArgs}
+use Rattle.formats.specs.Programs.{Expr, const, var, compute, ifZero, letIn, leafOf, nodeOf, caseOf, call, Args, noArgs, arg, size, countArgs}
 use Rattle.formats.specs.Programs.{Sort, numberValued, treeValued, Function, signatureOf, Program, signatures, Every}
 use Rattle.formats.proofs.Records.{nth-map}
 use Rattle.formats.proofs.Programs.{every-left, every-right}
@@ -19,7 +20,7 @@ use Rattle.rules.specs.Scopes.{Scope, scope, inside, startOf, entered, enteredA
 use Rattle.rules.specs.PassOne.{typeFits}
 use Rattle.rules.specs.OrderChecker.{firstNode}
 use Rattle.rules.proofs.PassOne.{fits-is}
-use Rattle.meaning.specs.Instructions.{Push, Get, Add, Ifnot, Jump, LeafTag, NodeTag, WriteNumber, ReadTag, ReadNumber, Call, Return}
+use Rattle.meaning.specs.Instructions.{Push, Get, Compute, Ifnot, Jump, LeafTag, NodeTag, WriteNumber, ReadTag, ReadNumber, Call, Return}
 use Rattle.meaning.proofs.Proper.{sort-by-type}
 use Rattle.translation.specs.Templates.{codeEnd, argsEnd, WordNumbers, endOf, code, codeArgs, wordsKept, entryOf}
 use Rattle.translation.specs.CodeLimits.{Sound}
@@ -34,12 +35,12 @@ mutual
   pub data Coded (program : Program) : Sort → Expr → (a b : ℕ) → Type 0 where
     coded-const : {i a : ℕ} → Holds program a (Push i) → Coded program numberValued (const i) a (suc a)
     coded-var : {v k a : ℕ} → Holds program a (Get k) → Coded program numberValued (var v) a (suc a)
-    coded-add :
-        {p q : Expr} {a b c : ℕ}
+    coded-compute :
+        {op : Op} {p q : Expr} {a b c : ℕ}
         → Coded program numberValued p a b
         → Coded program numberValued q b c
-        → Holds program c Add
-        → Coded program numberValued (add p q) a (suc c)
+        → Holds program c (Compute op)
+        → Coded program numberValued (compute op p q) a (suc c)
     coded-ifZero :
         {s : Sort} {t z o : Expr} {a b c d : ℕ}
         → Coded program numberValued t a b
@@ -130,12 +131,12 @@ module _ (program : Program) where
         → Coded program s e a (codeEnd e a)
     coded g n w r s words v a (const i) h c = rw (fits-sort numberValued s (h .0 .1)) (coded-const (c .0))
     coded g n w r s words v a (var k) h c = rw (fits-sort numberValued s (h .0 .1)) (coded-var (c .0))
-    coded g n w r s words v a (add p q) h c =
+    coded g n w r s words v a (compute op p q) h c =
         let left = entered (scope g n w (resultType numberValued)) (suc r) p in
         let first = at-code _ _ _ _ _ _ p _ c in
         let second = at-code _ _ _ _ _ _ q _ (first .then) in
         rw (fits-sort numberValued s (h .0 .1))
-        (coded-add
+        (coded-compute
         (coded g n w _ numberValued words v a p (every-left _ left _ (h .1)) (first .first))
         (coded g n (suc w) _ numberValued words _ _ q (every-right _ left _ (h .1)) (second .first))
         (second .then .0))

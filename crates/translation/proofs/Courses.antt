@@ -35,13 +35,20 @@ pub record Course (m : Setting) (s : State) (why : Stop) : Type 0 where
   pub there : (space : ℕ) → length (last .output) ≤ space → step (withSpace space m) last ≡ final
 
 -- a course that is refused at once; and one after a path
-pub refused-at-once : {m : Setting} {why : ℕ} (s : State) → ((space : ℕ) → step (withSpace space m) s ≡ refuses why) → Course m s (refused why)
-refused-at-once s e =
-    record { last = s; units = 0; path = no-step s; final = _; counts = 0; is-final = refused-there; there = λ space fits. e space }
+abbrev pub refused-at-once : {m : Setting} {why : ℕ} (s : State) → ((space : ℕ) → step (withSpace space m) s ≡ refuses why) → Course m s (refused why)
+refused-at-once {why = why} s e =
+    record { last = s; units = 0; path = no-step s; final = refuses why; counts = 0; is-final = refused-there; there = λ space fits. e space }
 
-pub course-after : {m : Setting} {s t : State} {units : ℕ} {why : Stop} → Path m s t units → Course m t why → Course m s why
-course-after path c =
-    record { last = c .last; units = _; path = join path (c .path); final = c .final; counts = c .counts; is-final = c .is-final; there = c .there }
+abbrev pub course-after : {m : Setting} {s t : State} {units : ℕ} {why : Stop} → Path m s t units → Course m t why → Course m s why
+course-after {units = units} path c = record {
+  last = c .last;
+  units = units + c .units;
+  path = join path (c .path);
+  final = c .final;
+  counts = c .counts;
+  is-final = c .is-final;
+  there = c .there;
+}
 
 -- A run that has gone the whole way.
 pub record WholeWay (last : State) (units counts : ℕ) (why : Stop) (r : Run) : Type 0 where

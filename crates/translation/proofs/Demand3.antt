@@ -1,8 +1,8 @@
 -- Demand 3: the proof of specs/Demand3.antt.
 --
 -- The run on a tree's own tokens has a known course (WholeRuns), so it ends, or is refused with 14,
--- 17 or 18: it looks at no byte that it has not read. So what stands after the tree does not matter
--- (StreamRun, `same-input`), and no more is read than the tree's tokens. What is written is
+-- 17, 18 or 21: it looks at no byte that it has not read. So what stands after the tree does not
+-- matter (StreamRun, `same-input`), and no more is read than the tree's tokens. What is written is
 -- compared with the run of a wider machine, on which the evaluation's calls can all be open: its
 -- steps go on from those of the narrow one.
 use Prim.Native.Nat.{ℕ, suc, _+_, _*_, _≤_, _<_}
@@ -23,6 +23,7 @@ use Rattle.meaning.specs.Instructions.{heldBy}
 use Rattle.meaning.specs.Performing.{Setting, State, start, Step, goes}
 use Rattle.meaning.specs.Running.{Stop, ended, Run, outcomeOf, numberReported, Ran, mostCalls, ofCode}
 use Rattle.meaning.specs.StreamRun.{Stops, used-up, returned, stuck, lookedAt, restsOn}
+use Rattle.meaning.specs.OpenCalls.{refusalOf, no-fuel as for-fuel, no-call, no-result}
 use Rattle.meaning.specs.Running.{writtenBy}
 use Rattle.meaning.specs.Evaluation.{Value, inCall, Takes, Ends, resultBytes, resultNumber, unitsIn}
 use Rattle.meaning.proofs.Meaning.{meaning}
@@ -32,22 +33,22 @@ use Rattle.translation.specs.EndedRuns.{Whole}
 use Rattle.meaning.specs.Running.{readBy}
 use Rattle.translation.specs.EveryRun.{WholeAfter, evaluationUnits}
 use Rattle.translation.proofs.AnyInput.{carries-opening}
-use Rattle.translation.proofs.CodeCalls.{StopsFor, it-ended, no-fuel, no-space, no-call, at-fault}
+use Rattle.translation.proofs.CodeCalls.{StopsFor, it-ended, no-fuel, no-space, at-stop, at-fault}
 use Rattle.translation.proofs.CodeCalls.{code, runOf, call-runs, call-reads, call-units, call-outcome, call-writes}
 use Rattle.translation.proofs.CodeCalls.{calls, runnable, goes-along, refused-call, CourseOn, course-on, stops-for}
-use Rattle.translation.proofs.Courses.{Final, returns as it-returns, refused-there, WholeWay, CameTo, whole-way}
+use Rattle.translation.proofs.Courses.{Final, returns as it-returns, refused-there, Course, WholeWay, CameTo, whole-way}
 use Rattle.translation.proofs.Meets.{LeadsOn, meets-grows}
 use Rattle.translation.proofs.Paths.{withSpace}
-use Rattle.translation.proofs.WholeRuns.{Known, ends-so, sticks-so, faults-so, known}
+use Rattle.translation.proofs.WholeRuns.{Known, ends-so, stops-so, faults-so, known, stopped-not-ended}
 use Rattle.translation.proofs.Wider.{Wider, wider-steps}
 
 -- a run on an input without a fault stops with no byte looked at that was not read
 none-looked-at : {w : Stop} (read : ℕ) → StopsFor ⊥ w → lookedAt (outcomeOf w read) ≡ 0
-unfolding outcomeOf lookedAt
+unfolding outcomeOf lookedAt refusalOf
 none-looked-at read it-ended = refl
 none-looked-at read no-fuel = refl
 none-looked-at read no-space = refl
-none-looked-at read no-call = refl
+none-looked-at read (at-stop why) = elim why [ for-fuel ↦ refl | no-call ↦ refl | no-result op i j ↦ refl ]
 none-looked-at read (at-fault none w) = absurd none
 
 -- a run's steps to where it stops
@@ -111,12 +112,26 @@ module _ (given : Given) (t : Tree) (labelled : Labelled t) where
 
   -- ---- what is written
 
+  -- it opens what is written in the end along the course of a wider machine, whose steps go on from
+  -- those of the narrow one
+  pub opens-along :
+      {M : Setting} {why : Stop} (input output : List ℕ) (fuel : ℕ) (c : Course M start why)
+      → ((space : ℕ) → length output ≤ space → Wider (ofCode (code given) input (length output)) (withSpace space M))
+      → Opens (runOf given input output fuel .last .output) (c .last .output)
+  opens-along input output fuel c is-wider =
+      let needed = length (c .last .output) in
+      let space = length output + needed in
+      let made = stops-leads (runs (ofCode (code given) input (length output)) start .by-steps fuel) in
+      let there = c .there space (omega arith) in
+      meets-grows (wider-steps (is-wider space (omega arith)) (made .steps)) (c .path .steps space (omega arith))
+      (λ u e. final-stays (c .is-final) (sym there ∙ e)) .writes
+
   -- The same code on a machine where so many calls more can be open.
   abbrev wider : ℕ → List ℕ → Setting
   wider more input =
       record { holds = heldBy (code given); input = input; space = 0; mostWords = 16 * suc (more + 1023); mostOpen = suc (more + 1023) }
 
-  -- a run on it, with more space, goes on from the run on the narrow one
+  -- with more space, it is wider
   is-wider : (more space : ℕ) (input output : List ℕ) → length output ≤ space
       → Wider (ofCode (code given) input (length output)) (withSpace space (wider more input))
   is-wider more space input output h =
@@ -137,15 +152,10 @@ module _ (given : Given) (t : Tree) (labelled : Labelled t) where
       by-course : Known ⊥ (wider o input) program (length (tokens t)) (le-refl _) (runnable given) t (suc (o + 1023))
           → Opens (runOf given input output fuel .last .output) (resultBytes v)
       by-course (ends-so n′ v′ evaluated′ c units counts bytes read) =
-          let needed = length (c .last .output) in
-          let space = length output + needed in
-          let made = stops-leads (runs (ofCode (code given) input (length output)) start .by-steps fuel) in
-          let there = c .there space (omega arith) in
-          let grows = meets-grows (wider-steps (is-wider o space input output (omega arith)) (made .steps)) (c .path .steps space (omega arith))
-          (λ u e. final-stays (c .is-final) (sym there ∙ e)) in
           let same = meaning .evaluations program .one-result t _ _ _ _ _ _ evaluated′ evaluated .1 in
-          rw (bytes ∙ ap resultBytes same) at (grows .writes)
-      by-course (sticks-so never c) = absurd (never n v (larger-bound program t o _ n v (omega arith) evaluated))
+          rw (bytes ∙ ap resultBytes same) at (opens-along input output fuel c (λ space h. is-wider o space input output h))
+      by-course (stops-so n′ why q stops c units bytes) =
+          absurd (stopped-not-ended program t _ n′ why q n v (runnable given .proper) stops (larger-bound program t o _ n v (omega arith) evaluated))
       by-course (faults-so why none w c) = absurd none
 
   -- and no more is written than that
@@ -181,7 +191,7 @@ module _ (given : Given) (t : Tree) (labelled : Labelled t) where
         let same = meaning .evaluations program .one-result t _ _ _ _ _ _ evaluated′ evaluated .1 in
         let sums = units ∙ same-units program t _ _ _ _ _ _ evaluated′ evaluated in
         record { last = c .last; comes = rw (sums, counts, same) at (goes-along given c output fuel); bytes = rw same at bytes; read = read }
-    | sticks-so never c ↦ absurd (never n v evaluated)
+    | stops-so n′ why q stops c units bytes ↦ absurd (stopped-not-ended program t _ n′ why q n v (runnable given .proper) stops evaluated)
     | faults-so why none w c ↦ absurd none
   ]
 
@@ -229,7 +239,7 @@ module _ (given : Given) (t : Tree) (labelled : Labelled t) where
       → runOn given (tokens t ++ rest) output fuel .answer .outcome ≢ done tt
   never-ends never rest output fuel e = elim (course rest) [
     | ends-so n v evaluated c units counts bytes read ↦ never n v evaluated
-    | sticks-so never′ c ↦ refused-call given c output fuel e
+    | stops-so n why q stops c units bytes ↦ refused-call given c output fuel e
     | faults-so why none w c ↦ none
   ]
 

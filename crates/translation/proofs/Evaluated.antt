@@ -16,7 +16,7 @@ use Rattle.formats.specs.Programs.{Sort, numberValued, treeValued, Function, Pr
 use Rattle.meaning.specs.Instructions.{Instruction, Return}
 use Rattle.meaning.specs.Performing.{Setting, Caller, State, start, wordsBelow, callsOpen, ends, step, kept, numberKept, leave, operate}
 use Rattle.meaning.specs.Evaluation.{inCall, resultNumber}
-use Rattle.meaning.specs.OpenCalls.{evaluate, called, evaluation}
+use Rattle.meaning.specs.OpenCalls.{no-call, refusalOf, evaluate, firstRecord, called, evaluation}
 use Rattle.meaning.proofs.Levels.{level-newest}
 use Rattle.meaning.proofs.Proper.{ProperProgram}
 use Rattle.meaning.proofs.Sorts.{ValuesOf, valueOf, Numbers}
@@ -29,7 +29,7 @@ use Rattle.translation.proofs.Courses.{refused-at-once}
 use Rattle.translation.proofs.Goes.{Goes, goes-stuck, goes-first, goes-then}
 use Rattle.translation.proofs.Paths.{withSpace, Path, one-step}
 use Rattle.translation.proofs.Performed.{Next, step-is, does-call, one-call-more}
-use Rattle.translation.proofs.Simulation.{pushed, finished, argued, Under, After, none-left, SimCalls, sim}
+use Rattle.translation.proofs.Simulation.{pushed, finished, argued, Under, After, none-left, Stopped, one-too-many, inside-body, SimCalls, sim}
 
 -- Every function's body is what the passes ask for, and its code stands at its entry.
 pub record Runnable (program : Program) (holds : ℕ → Option Instruction) : Type 0 where
@@ -83,6 +83,7 @@ module _ (Faulty : Type 0) (m : Setting) (program : Program) (end : ℕ) (wide :
       → Goes Faulty m (entered b (numbers .all) callers read output) (valueOf (f .sort))
       (λ x read′. finished (f .sort) x (codeEnd (f .body) (entryOf program b)) read′ (entered b (numbers .all) callers read output))
       (After Faulty m program end wide k (inCall (numbers .all) t) (f .sort) (f .body) [] beyond)
+      (Stopped Faulty m program end wide k (inCall (numbers .all) t) q (f .body) output)
       (evaluate (called program k) (inCall (numbers .all) t) q (f .body))
   keeps-body k calls b f numbers t beyond callers read output known carries under q =
       let body = runnable .bodies b f known in
@@ -100,12 +101,13 @@ module _ (Faulty : Type 0) (m : Setting) (program : Program) (end : ℕ) (wide :
 
   -- calls keep up
   keeps-calls : (k : ℕ) → SimCalls Faulty m program end wide k
-  unfolding called callsOpen wordsBelow
+  unfolding called callsOpen wordsBelow refusalOf
   keeps-calls zero b f numbers t beyond s a read known next carries under few q =
-      goes-stuck Faulty m q
+      goes-stuck Faulty m no-call q
       (refused-at-once _
       (λ space. one-call-more m (argued s (numbers .all) a read) (entryOf program b) space (numbers .all) (s .frame) (rw (numbers .many) next) refl
       (omega (arith, under .allowed))))
+      (one-too-many refl)
   keeps-calls (suc k) b f numbers t beyond s a read known next carries under few q =
       rw (known, called)
       (goes-first Faulty m
@@ -114,6 +116,7 @@ module _ (Faulty : Type 0) (m : Setting) (program : Program) (end : ℕ) (wide :
       (goes-then Faulty m
       (keeps-body k (keeps-calls k) b f numbers t beyond _ read (s .output) known carries
       (record { few = omega (arith, under .few); allowed = omega (arith, under .allowed) }) _)
+      (λ n why x units output stop. inside-body (stop .derivation) (stop .is-begun) (omega (arith, stop .counts)) (stop .writes))
       λ n x units read′ after. record {
         more = 1;
         read = read′;
@@ -139,6 +142,7 @@ module _ (Faulty : Type 0) (m : Setting) (program : Program) (end : ℕ) (wide :
       → Carries Faulty (m .input) end 0 (t ∷ [])
       → suc k ≡ m .mostOpen
       → Goes Faulty m start (valueOf (first .sort)) atEnd (After Faulty m program end wide k (inCall [] t) (first .sort) (first .body) [] [])
+      (Stopped Faulty m program end wide k (inCall [] t) (firstRecord program 0) (first .body) [])
       (evaluation program (suc k) t)
   unfolding evaluation called entryOf entryFrom wordsBelow
   keeps-whole k t carries allowed =

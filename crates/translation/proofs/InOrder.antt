@@ -8,7 +8,7 @@ use lib.Dec.{eqb, ltb}
 use lib.ListN.{length}
 use Rattle.formats.specs.Refusals.{outOfOrder, tooManyPending}
 use Rattle.formats.specs.Results.{Result, done}
-use Rattle.formats.specs.Programs.{Expr, const, var, add, ifZero, letIn, leafOf, nodeOf, caseOf, call, Args, noArgs, arg, size}
+use Rattle.formats.specs.Programs.{Expr, const, var, compute, ifZero, letIn, leafOf, nodeOf, caseOf, call, Args, noArgs, arg, size}
 use Rattle.formats.proofs.Results.{done-injective, done-not, then-inv, check-inv}
 use Rattle.rules.specs.Limits.{mostPending}
 use Rattle.rules.specs.PassOne.{holdsAt}
@@ -74,7 +74,7 @@ mutual
   pub walk-tail : (n r : ℕ) (Δ Δ′ : List ℕ) (e : Expr) → walk n r Δ e ≡ done Δ′ → Tail Δ Δ′
   walk-tail n r Δ Δ′ (const i) h = same-tail h
   walk-tail n r Δ Δ′ (var a) h = same-tail h
-  walk-tail n r Δ Δ′ (add p q) h =
+  walk-tail n r Δ Δ′ (compute op p q) h =
       let c = then-inv (walk n _ Δ p) _ Δ′ h in tail-on (walk-tail n _ Δ _ p (c .first)) (walk-tail n _ _ Δ′ q (c .second))
   walk-tail n r Δ Δ′ (ifZero t z o) h =
       let c = then-inv (walk n _ Δ t) _ Δ′ h in

@@ -13,13 +13,14 @@ use mathlib.Core.Path.{_≡_, refl}
 use native.Mathlib.Nat.{le-refl}
 use native.Mathlib.Omega.{arith}
 use lib.ListN.{length, length-append}
+use Rattle.formats.specs.Arithmetic.{Op, plus}
 use Rattle.formats.specs.Records.{Ranged, nth}
-use Rattle.formats.specs.Programs.{Expr, const, var, add, ifZero, letIn, leafOf, nodeOf, caseOf, call, Args, noArgs, arg, prefix, prefixes, size}
+use Rattle.formats.specs.Programs.{Expr, const, var, compute, ifZero, letIn, leafOf, nodeOf, caseOf, call, Args, noArgs, arg, prefix, prefixes, size}
 use Rattle.formats.specs.Programs.{CallsComplete, ArgsComplete, Sort, numberValued, treeValued, Signature, arityOf, sumOfCounts, Function, signatureOf}
 use Rattle.formats.specs.Programs.{Program, signatures, mostParameters, InRange, Every, LawfulFunctions, Lawful}
 use Rattle.formats.proofs.Programs.{every-append, every-left, every-right}
 use Rattle.meaning.specs.Levels.{atLevel}
-use Rattle.meaning.specs.Instructions.{Operation, Return, instructionOf, mostInstructions}
+use Rattle.meaning.specs.Instructions.{Operation, Compute, Return, instructionOf, mostInstructions}
 use Rattle.meaning.proofs.Levels.{level-every}
 use Rattle.translation.specs.Templates.{codeEnd, argsEnd, WordNumbers, wordOf, firstWords, endOf, code, codeArgs, wordsKept}
 use Rattle.translation.specs.Templates.{functionCode, functionEnd, entryFrom, functionsCode, entryOf, operationsOf}
@@ -34,7 +35,7 @@ mutual
   pub ends : (e : Expr) (a : ℕ) → (a < codeEnd e a) × (codeEnd e a ≤ a + 4 * length (prefix e))
   ends (const i) a = omega arith
   ends (var k) a = omega arith
-  ends (add p q) a = omega (arith, length-append (prefix p) (prefix q), ends p a, ends q (codeEnd p a))
+  ends (compute op p q) a = omega (arith, length-append (prefix p) (prefix q), ends p a, ends q (codeEnd p a))
   ends (ifZero t z o) a =
       let atZ = suc (codeEnd t a) in
       let records = length-append (prefix t) (prefix z ++ prefix o) in
@@ -145,7 +146,11 @@ one-fit h k = record { each = (h, k .each) }
 join-fits : {xs ys : List Operation} → Fit xs → Fit ys → Fit (xs ++ ys)
 join-fits {xs} {ys} h k = record { each = every-append _ xs ys (h .each) (k .each) }
 
--- an end, and a return, have small fields
+-- an operation on two numbers, an end and a return have small fields
+operation-fits : (op : Op) → Ranged (instructionOf (Compute op))
+unfolding instructionOf
+operation-fits plus = omega arith
+
 end-fits : (s : Sort) → Ranged (instructionOf (endOf s))
 unfolding endOf instructionOf
 end-fits numberValued = omega arith
@@ -177,14 +182,14 @@ module _
           → Fit (code entries s words w a e)
       fits s words w a (const i) small above below ranged applied = one-fit (omega (arith, ranged .0)) no-fit
       fits s words w a (var k) small above below ranged applied = one-fit (omega (arith, word-small words k small)) no-fit
-      fits s words w a (add p q) small above below ranged applied =
+      fits s words w a (compute op p q) small above below ranged applied =
           let p-ends = ends p a in
           let q-ends = ends q (codeEnd p a) in
           join-fits
           (fits _ _ _ _ p small above (omega arith) (every-left _ (prefix p) (prefix q) (ranged .1)) (applied .0))
           (join-fits
           (fits _ _ _ _ q small (omega arith) (omega arith) (every-right _ (prefix p) (prefix q) (ranged .1)) (applied .1))
-          (one-fit (omega arith) no-fit))
+          (one-fit (operation-fits op) no-fit))
       fits s words w a (ifZero t z o) small above below ranged applied =
           let t-ends = ends t a in
           let z-ends = ends z (suc (codeEnd t a)) in

@@ -2,20 +2,21 @@
 -- needs, to the next. Each is a path of one unit.
 use Prim.Native.Nat.{ℕ, zero, suc, _+_, _≤_, _<_}
 use mathlib.Core.List.{List, [], _∷_, _++_}
-use mathlib.Core.Option.{some}
+use mathlib.Core.Option.{none, some}
 use mathlib.Core.Path.{_≡_, refl, ap, _∙_}
 use native.Mathlib.Nat.{le-refl}
 use native.Mathlib.Omega.{arith}
 use borrow.Author.Tests.{lt-ltb, le-ltb, le-leb, lt-leb, ne-eqb}
 use lib.ListN.{length, length-append}
 use lib.Seq.{take-append-seam, drop-append-seam}
-use Rattle.formats.specs.Numbers.{bytesOf, numberAt, sum32}
-use Rattle.formats.specs.Refusals.{inputEnded, notATag, tooManyCalls}
+use Rattle.formats.specs.Numbers.{bytesOf, numberAt}
+use Rattle.formats.specs.Arithmetic.{Op, resultOf}
+use Rattle.formats.specs.Refusals.{inputEnded, notATag, tooManyCalls, outOfRange}
 use Rattle.formats.specs.Tokens.{leafTag, nodeTag, labelBytes, noByte, aLeaf, aNode, other, tagAt}
 use Rattle.meaning.specs.Levels.{atLevel}
-use Rattle.meaning.specs.Instructions.{Operation, Push, Get, Add, Ifnot, Jump, Slide, Drop, LeafTag, NodeTag, WriteNumber, ReadTag, ReadNumber, Call}
+use Rattle.meaning.specs.Instructions.{Operation, Push, Get, Compute, Ifnot, Jump, Slide, Drop, LeafTag, NodeTag, WriteNumber, ReadTag, ReadNumber, Call}
 use Rattle.meaning.specs.Performing.{Setting, Caller, State, wordsStanding, callsOpen, goes, refuses}
-use Rattle.meaning.specs.Performing.{popOne, popTwo, ifRoom, pushWord, write, onTag, takeNumber, openCall, operate, perform, step}
+use Rattle.meaning.specs.Performing.{popOne, popTwo, ifRoom, pushWord, pushResult, write, onTag, takeNumber, openCall, operate, perform, step}
 use Rattle.meaning.proofs.StreamRun.{stream-run}
 use Rattle.translation.proofs.Addresses.{Held}
 use Rattle.translation.proofs.Paths.{withSpace, Path, one-step}
@@ -71,10 +72,16 @@ module _ (m : Setting) (s : State) where
   unfolding operate
   does-jump a h = performs-dry m s _ _ h refl (λ space. refl)
 
-  pub does-add : (i j : ℕ) (rest : List ℕ) → Next m s Add → s .frame ≡ j ∷ (i ∷ rest)
-      → Path m s (moved (suc (s .address)) (sum32 i j ∷ rest) s) 1
-  unfolding operate popTwo popOne
-  does-add i j rest h e = performs-dry m s _ _ h refl (λ space. rw (e, operate) refl)
+  -- an operation puts its result in the place of the two words; without one it is refused
+  pub does-compute : (op : Op) (i j x : ℕ) (rest : List ℕ) → Next m s (Compute op) → s .frame ≡ j ∷ (i ∷ rest) → resultOf op i j ≡ some x
+      → Path m s (moved (suc (s .address)) (x ∷ rest) s) 1
+  unfolding operate popTwo popOne pushResult
+  does-compute op i j x rest h e fits = performs-dry m s _ _ h refl (λ space. simp (operate, popTwo, popOne, pushResult, e, fits))
+
+  pub no-result-there : (op : Op) (i j : ℕ) (rest : List ℕ) (space : ℕ) → Next m s (Compute op) → s .frame ≡ j ∷ (i ∷ rest) → resultOf op i j ≡ none
+      → step (withSpace space m) s ≡ refuses outOfRange
+  unfolding operate popTwo popOne pushResult
+  no-result-there op i j rest space h e missing = step-is (withSpace space m) s _ h ∙ simp (operate, popTwo, popOne, pushResult, e, missing)
 
   pub does-slide : (i j : ℕ) (rest : List ℕ) → Next m s Slide → s .frame ≡ j ∷ (i ∷ rest) → Path m s (moved (suc (s .address)) (j ∷ rest) s) 1
   unfolding operate popTwo popOne

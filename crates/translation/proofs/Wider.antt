@@ -13,13 +13,14 @@ use native.Mathlib.Omega.{arith}
 use borrow.Author.Tests.{le-leb, lt-leb}
 use lib.Dec.{leb}
 use lib.ListN.{length, length-append}
+use Rattle.formats.specs.Arithmetic.{resultOf}
 use Rattle.formats.specs.Refusals.{inputEnded, outputFull, tooManyCalls, cannotPerform}
 use Rattle.formats.specs.Tokens.{labelBytes, Tag, noByte, aLeaf, aNode, other, tagAt}
 use Rattle.meaning.specs.Levels.{atLevel}
-use Rattle.meaning.specs.Instructions.{Instruction, Operation, Push, Get, Add, Ifnot, Jump, Slide, Drop, LeafTag, NodeTag}
+use Rattle.meaning.specs.Instructions.{Instruction, Operation, Push, Get, Compute, Ifnot, Jump, Slide, Drop, LeafTag, NodeTag}
 use Rattle.meaning.specs.Instructions.{WriteNumber, ReadTag, ReadNumber, Call, Return, operationOf}
 use Rattle.meaning.specs.Performing.{Setting, Caller, State, wordsStanding, callsOpen, Step, goes, ends, refuses, holding}
-use Rattle.meaning.specs.Performing.{popOne, popTwo, ifRoom, pushWord, write, onTag, takeNumber, openCall, kept, leave, operate, perform, step}
+use Rattle.meaning.specs.Performing.{popOne, popTwo, ifRoom, pushWord, pushResult, write, onTag, takeNumber, openCall, kept, leave, operate, perform, step}
 use Rattle.meaning.specs.StreamRun.{Steps, here, on}
 use Rattle.meaning.proofs.Inputs.{given}
 use Rattle.translation.proofs.Paths.{withSpace}
@@ -86,6 +87,12 @@ module _ {m M : Setting} (w : Wider m M) (s : State) where
       → Widened m M s (popTwo words f) (popTwo words f)
   unfolding popTwo
   wide-two words f h = wide-one words _ _ (λ x under. wide-one under _ _ (λ y rest. same (h x y rest)))
+
+  -- a result writes nothing, nor does the lack of one
+  pushed-fits : (rest : List ℕ) (found : Option ℕ) → Fits m s (pushResult found rest s)
+  unfolding pushResult
+  pushed-fits rest (some x) = λ h. h
+  pushed-fits rest none = tt
 
   -- after a test against a limit: both pass it, or only M does, or neither
   wide-limit :
@@ -156,7 +163,7 @@ module _ {m M : Setting} (w : Wider m M) (s : State) where
   unfolding operate takeNumber
   wide-operate (Push x) = wide-push x
   wide-operate (Get k) = wide-some (atLevel (s .frame) k) _ _ wide-push
-  wide-operate Add = wide-two _ _ (λ q p rest h. h)
+  wide-operate (Compute op) = wide-two _ _ (λ q p rest. pushed-fits rest (resultOf op p q))
   wide-operate (Ifnot a) = wide-one _ _ _ (λ x rest. silent _ refl)
   wide-operate (Jump a) = silent _ refl
   wide-operate Slide = wide-two _ _ (λ x under rest h. h)

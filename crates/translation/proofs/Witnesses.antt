@@ -1,18 +1,22 @@
 -- Witnesses for demand 3: a checked program and a tree for each way that an evaluation may go. It
--- ends within 1,024 open calls, with a tree or with a number; it ends, but with more calls open; it
--- is endless. So none of what is stated of checked programs (Demand3) is empty. And a program in
--- which pass one finds nothing wrong but 10: its code has a word count above 16 (CodeLimits).
+-- ends within 1,024 open calls, with a tree or with a number; it breaks at a sum; it ends, but with
+-- more calls open; it is endless. So none of what is stated of checked programs (Demand3) is empty.
+-- And a program in which pass one finds nothing wrong but 10: its code has a word count above 16
+-- (CodeLimits).
 use Prim.Native.Nat.{ℕ, zero, suc, _+_, _*_, _^_, _≤_, _<_}
 use mathlib.Core.List.{List, [], _∷_}
+use mathlib.Core.Option.{some}
 use mathlib.Core.Path.{_≡_, refl, sym, ap, _∙_}
 use native.Mathlib.Omega.{arith}
 use lib.Dec.{lit<, lit≤}
-use Rattle.formats.specs.Numbers.{sum32}
-use Rattle.formats.specs.Refusals.{tooManyCalls}
+use Rattle.formats.specs.Numbers.{signed32}
+use Rattle.formats.specs.Arithmetic.{plus, unbounded, wordFor, resultOf}
 use Rattle.formats.specs.Tokens.{Tree, leaf, node, Labelled}
 use Rattle.formats.specs.Records.{nth}
-use Rattle.formats.specs.Programs.{const, var, add, ifZero, caseOf, prefix, size, countArgs, CallsComplete, Signature, arityOf, signatureOf, sumOfCounts}
+use Rattle.formats.specs.Programs.{const, var, ifZero, caseOf, prefix, size, countArgs, CallsComplete, Signature, arityOf, signatureOf, sumOfCounts}
+use Rattle.formats.specs.Inner.Expressions.{add}
 use Rattle.formats.specs.Programs.{Program, signatures, mostParameters, InRange, Every, Lawful}
+use Rattle.formats.proofs.Arithmetic.{sum-inside}
 use Rattle.formats.proofs.Programs.{every-append}
 use Rattle.formats.proofs.ProgramCases.{grow, grow-lawful}
 use Rattle.rules.specs.Types.{Int, isInt, hasType, resultType}
@@ -23,7 +27,8 @@ use Rattle.rules.proofs.Cases.{numbered, taking, programOf, on, with-one, lets,
 use Rattle.meaning.specs.Levels.{atLevel}
 use Rattle.meaning.specs.Running.{mostCalls}
 use Rattle.meaning.specs.Evaluation.{Value, number, tree, Ends, resultNumber}
-use Rattle.meaning.specs.OpenCalls.{Outcome, gives, stops, afterBegun, followedBy, numberOr, treeOr, resultTree, evaluate, firstRecord, called, evaluation}
+use Rattle.meaning.specs.OpenCalls.{no-call, Outcome, gives, stops, afterBegun, followedBy, numberOr, treeOr, resultTree, computed, evaluate, firstRecord, called, evaluation}
+use Rattle.meaning.specs.Unfinished.{Breaks}
 use Rattle.meaning.specs.Meaning.{Endless}
 use Rattle.meaning.proofs.Outcomes.{after-more, gives-not}
 use Rattle.meaning.proofs.Meaning.{meaning}
@@ -48,7 +53,7 @@ grow-checked = record { lawful = grow-lawful; passes = grow-passes }
 
 -- its evaluation on tree T ends with a tree
 ends-with-tree : Witness grow two-leaves (Ends grow two-leaves mostCalls 14 (tree (node (leaf 6) (leaf 8))))
-unfolding evaluation called evaluate followedBy afterBegun resultNumber resultTree numberOr treeOr atLevel sum32 nth grow two-leaves
+unfolding evaluation called evaluate computed followedBy afterBegun resultNumber resultTree numberOr treeOr atLevel resultOf unbounded wordFor signed32 nth grow two-leaves
 ends-with-tree = record {
   checked = grow-checked;
   labelled = (lit< tt, lit< tt);
@@ -78,11 +83,22 @@ sum-checked = record {
 
 -- its evaluation on tree T ends with a number
 ends-with-number : Witness sum two-leaves (Ends sum two-leaves mostCalls 8 (number 12))
-unfolding evaluation called evaluate followedBy afterBegun resultNumber numberOr treeOr atLevel sum32 nth sum numbered programOf on two-leaves
+unfolding evaluation called evaluate computed followedBy afterBegun resultNumber numberOr treeOr atLevel resultOf unbounded wordFor signed32 nth sum numbered programOf on two-leaves
 ends-with-number = record {
   checked = sum-checked;
   labelled = (lit< tt, lit< tt);
   holds = meaning .held _ two-leaves (passes-one _ sum-checked) .gives-value mostCalls 8 _ .0 refl;
+}
+
+-- Sum's on a tree whose labels add up to more than 2,147,483,647 breaks at its Add, record 4
+sum-breaks :
+    Witness sum (node (leaf 2147483647) (leaf 1))
+    (Breaks sum (node (leaf 2147483647) (leaf 1)) mostCalls 8 plus 2147483647 1 4)
+unfolding evaluation called evaluate computed followedBy afterBegun resultNumber numberOr treeOr atLevel resultOf unbounded wordFor signed32 nth firstRecord sumOfCounts signatureOf size prefix sum numbered programOf on
+sum-breaks = record {
+  checked = sum-checked;
+  labelled = (lit< tt, lit< tt);
+  holds = meaning .held _ (node (leaf 2147483647) (leaf 1)) (passes-one _ sum-checked) .stops-exactly mostCalls 8 _ 4 .0 refl;
 }
 
 -- ---- with more than 1,024 open
@@ -121,17 +137,22 @@ countdown-checked = record {
   passes = refl;
 }
 
--- adding 4,294,967,295 takes one away
-one-less : (k : ℕ) → k < 2 ^ 32 → sum32 (suc k) 4294967295 ≡ k
-unfolding sum32
-one-less k h = omega arith
+-- adding −1 takes one away
+one-less : (k : ℕ) → suc k < 2 ^ 31 → resultOf plus (suc k) 4294967295 ≡ some k
+one-less k h = sum-inside (suc k) 4294967295 (omega arith) (lit< tt) (omega arith) (omega arith) ∙ ap some (omega arith)
+
+less-by-one : (r k : ℕ) → suc k < 2 ^ 31 → computed r plus (suc k) 4294967295 ≡ gives (number k)
+unfolding computed
+less-by-one r k h = rw (one-less k h, computed)
 
 -- a call of function 1 begins 6 expressions, then calls it with one less, by the Call at record 12
 goes-down : (calls k r : ℕ) (t : Tree)
-    → k < 2 ^ 32
+    → suc k < 2 ^ 31
     → called countdown (suc calls) r 1 (suc k ∷ []) t ≡ afterBegun 6 (called countdown calls 12 1 (k ∷ []) t)
-unfolding called evaluate followedBy afterBegun resultNumber numberOr treeOr atLevel nth firstRecord sumOfCounts signatureOf size prefix countdown numbered taking programOf on with-one
-goes-down calls k r t h = ap (λ (i : ℕ). afterBegun 6 (called countdown calls 12 1 (i ∷ []) t)) (one-less k h)
+unfolding called evaluate computed followedBy afterBegun resultNumber numberOr treeOr atLevel nth firstRecord sumOfCounts signatureOf size prefix countdown numbered taking programOf on with-one
+goes-down calls k r t h =
+    ap (λ (o : Outcome Value). afterBegun 6 (followedBy (followedBy o (λ v. gives (resultNumber v ∷ []))) (λ numbers. called countdown calls 12 1 numbers t)))
+    (less-by-one 13 k h)
 
 -- with 0 it begins 4, and gives a leaf's label
 at-zero : (calls r x : ℕ) → called countdown (suc calls) r 1 (0 ∷ []) (leaf x) ≡ afterBegun 4 (gives (number x))
@@ -139,7 +160,7 @@ unfolding called evaluate followedBy afterBegun resultNumber numberOr treeOr atL
 at-zero calls r x = refl
 
 -- so it ends where one more call than its number may be open
-ends-down : (k r x : ℕ) → k < 2 ^ 32 → called countdown (suc k) r 1 (k ∷ []) (leaf x) ≡ afterBegun (6 * k + 4) (gives (number x))
+ends-down : (k r x : ℕ) → k < 2 ^ 31 → called countdown (suc k) r 1 (k ∷ []) (leaf x) ≡ afterBegun (6 * k + 4) (gives (number x))
 ends-down zero r x h = at-zero 0 r x
 ends-down (suc k) r x h =
     let more : 6 + (6 * k + 4) ≡ 6 * suc k + 4 = omega arith in
@@ -152,18 +173,18 @@ ends-down (suc k) r x h =
 record Stopped (o : Outcome Value) : Type 0 where
   begun : ℕ
   position : ℕ
-  stopped : o ≡ afterBegun begun (stops tooManyCalls position)
+  stopped : o ≡ afterBegun begun (stops no-call position)
 
 -- so does one with more expressions begun before
 stopped-after : (n : ℕ) {o : Outcome Value} → Stopped o → Stopped (afterBegun n o)
 stopped-after n s = record { begun = n + s .begun; position = s .position; stopped = ap (afterBegun n) (s .stopped) ∙ after-more n _ _ }
 
 -- and stops where no more calls than its number may be open
-stops-down : (calls k r : ℕ) (t : Tree) → calls ≤ k → k < 2 ^ 32 → Stopped (called countdown calls r 1 (k ∷ []) t)
+stops-down : (calls k r : ℕ) (t : Tree) → calls ≤ k → k < 2 ^ 31 → Stopped (called countdown calls r 1 (k ∷ []) t)
 unfolding called afterBegun
-stops-down zero k r t h hasType = record { begun = 0; position = r; stopped = refl }
-stops-down (suc calls) zero r t h hasType = absurd (omega arith)
-stops-down (suc calls) (suc k) r t h hasType =
+stops-down zero k r t h small = record { begun = 0; position = r; stopped = refl }
+stops-down (suc calls) zero r t h small = absurd (omega arith)
+stops-down (suc calls) (suc k) r t h small =
     rw (goes-down calls k r t (omega arith)) (stopped-after 6 (stops-down calls k 12 t (omega arith) (omega arith)))
 
 -- function 0 begins 2 expressions, then calls function 1 with 1,100, by the Call at record 3
@@ -184,7 +205,7 @@ ends-too-deep =
       holds = (
         held .gives-value 1102 6606 (number 9) .0 (from-first 1101 (leaf 9) ∙ ap (afterBegun 2) (ends-down 1100 3 9 (lit< tt)) ∙ after-more 2 6604 _),
         λ n v ends.
-            gives-not n _ tooManyCalls _ v (sym (held .gives-value mostCalls n v .1 ends) ∙ from-first 1023 (leaf 9) ∙ stops-first .stopped),
+            gives-not n _ no-call _ v (sym (held .gives-value mostCalls n v .1 ends) ∙ from-first 1023 (leaf 9) ∙ stops-first .stopped),
       );
     }
 

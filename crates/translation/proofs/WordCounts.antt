@@ -19,8 +19,8 @@ use lib.Dec.{ltb}
 use borrow.Author.Tests.{lt-ltb}
 use Rattle.formats.specs.Refusals.{tooManyWords}
 use Rattle.formats.specs.Results.{Result, done, refusal}
-use Rattle.formats.specs.Records.{Kind, Const, Var, Add, IfZero, Let, Leaf, Node, Case, Call, nth}
-use Rattle.formats.specs.Programs.{Expr, const, var, add, ifZero, letIn, leafOf, nodeOf, caseOf, call, Args, noArgs, arg, size}
+use Rattle.formats.specs.Records.{Kind, Const, Var, Compute, IfZero, Let, Leaf, Node, Case, Call, nth}
+use Rattle.formats.specs.Programs.{Expr, const, var, compute, ifZero, letIn, leafOf, nodeOf, caseOf, call, Args, noArgs, arg, size}
 use Rattle.formats.specs.Programs.{Sort, numberValued, treeValued, Signature, Function, signatureOf, Program, signatures}
 use Rattle.formats.specs.Programs.{Every, LawfulFunctions, Lawful}
 use Rattle.formats.proofs.Records.{nth-mapped}
@@ -88,11 +88,11 @@ module _ (program : Program) where
         → (w ≤ mostFrameWords) × Passes gs (scope g n w τ) r e
     passes g n w r τ (const i) h few = (omega arith, sound-more g n w r τ (Const i) [] (h .0) (λ t. few) (pass-nothing gs))
     passes g n w r τ (var v) h few = (omega arith, sound-more g n w r τ (Var v) [] (h .0) (λ t. few) (pass-nothing gs))
-    passes g n w r τ (add p q) h few =
+    passes g n w r τ (compute op p q) h few =
         let left = entered (scope g n w Int) (suc r) p in
         let first = passes g n w _ Int p (every-left _ left _ (h .1)) (omega arith) in
         let second = passes g n (suc w) _ Int q (every-right _ left _ (h .1)) (omega arith) in
-        (first .0, sound-more g n w r τ Add _ (h .0) (none-tested w) (pass-both gs _ _ (first .1) (second .1)))
+        (first .0, sound-more g n w r τ (Compute op) _ (h .0) (none-tested w) (pass-both gs _ _ (first .1) (second .1)))
     passes g n w r τ (ifZero t z o) h few =
         let test = entered (scope g n w Int) (suc r) t in
         let zero-part = entered (scope g n w τ) (suc r + size t) z in

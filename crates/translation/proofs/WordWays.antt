@@ -21,13 +21,13 @@ use Rattle.formats.proofs.Records.{nth-mapped}
 use Rattle.rules.specs.PassOne.{wordsWithValue, wordsOf, wordsOfArgs}
 use Rattle.rules.specs.Limits.{mostFrameWords}
 use Rattle.rules.proofs.Words.{words-call}
-use Rattle.meaning.specs.Instructions.{Operation, Push, Get, Add, Ifnot, Jump, Slide, Drop, LeafTag, NodeTag}
+use Rattle.meaning.specs.Instructions.{Operation, Push, Get, Compute, Ifnot, Jump, Slide, Drop, LeafTag, NodeTag}
 use Rattle.meaning.specs.Instructions.{WriteNumber, ReadTag, ReadNumber, Call, Return}
 use Rattle.translation.specs.Templates.{endOf, wordsKept, entryOf}
-use Rattle.translation.specs.CodeLimits.{Leaves, MovesWords, by-push, by-get, by-add, by-ifnot-zero, by-ifnot-other, by-jump, by-slide, by-drop, by-leaf-tag, by-node-tag}
+use Rattle.translation.specs.CodeLimits.{Leaves, MovesWords, by-push, by-get, by-compute, by-ifnot-zero, by-ifnot-other, by-jump, by-slide, by-drop, by-leaf-tag, by-node-tag}
 use Rattle.translation.specs.CodeLimits.{by-write-number, by-read-leaf, by-read-node, by-read-number, by-call, WordsStand, onward}
 use Rattle.translation.proofs.CodeStands.{Holds, one-function}
-use Rattle.translation.proofs.Coded.{Coded, coded-const, coded-var, coded-add, coded-ifZero, coded-let, coded-leaf}
+use Rattle.translation.proofs.Coded.{Coded, coded-const, coded-var, coded-compute, coded-ifZero, coded-let, coded-leaf}
 use Rattle.translation.proofs.Coded.{coded-node, coded-case, coded-call, coded-none, coded-arg}
 
 module _ (program : Program) where
@@ -59,7 +59,7 @@ module _ (program : Program) where
       (λ xs a b d. (w : ℕ) → WordsStand program a w → WordsStand program b (countArgs xs + w)) [
         | coded-const h ↦ λ w here. onward here h by-push
         | coded-var h ↦ λ w here. onward here h by-get
-        | coded-add (d₁ → p) (d₂ → q) h ↦ λ w here. onward (q (suc w) (p w here)) h by-add
+        | coded-compute (d₁ → p) (d₂ → q) h ↦ λ w here. onward (q (suc w) (p w here)) h by-compute
         | coded-ifZero (d₀ → t) h (d₁ → z) k (d₂ → o) ↦ λ w here. onward (z w (onward (t w here) h by-ifnot-zero)) k by-jump
         | coded-let {s = s} (d₁ → p) (d₂ → body) h ↦ λ w here. onward (body (suc w) (p w here)) h (end-leads s _ w)
         | coded-leaf h (d → p) k ↦ λ w here. onward (p w (onward here h by-leaf-tag)) k by-write-number
@@ -105,7 +105,7 @@ module _ (program : Program) where
       (λ xs a b d. (w : ℕ) → WordsStand program a w → Reached (wordsOfArgs (signatures program) w xs)) [
         | coded-const h ↦ λ w here. reached-here (onward here h by-push)
         | coded-var h ↦ λ w here. reached-here (onward here h by-get)
-        | coded-add (d₁ → p) (d₂ → q) h ↦ λ w here. reached-both _ _ (p w here) (q (suc w) (finished d₁ w here))
+        | coded-compute (d₁ → p) (d₂ → q) h ↦ λ w here. reached-both _ _ (p w here) (q (suc w) (finished d₁ w here))
         | coded-ifZero (d₀ → t) h (d₁ → z) k (d₂ → o) ↦ λ w here.
             let tested = finished d₀ w here in
             reached-both _ _ (t w here) (reached-both _ _ (z w (onward tested h by-ifnot-zero)) (o w (onward tested h by-ifnot-other)))
@@ -139,7 +139,7 @@ module _ (program : Program) where
   abbrev SafeAfter : Operation → (a w : ℕ) → Type 0
   SafeAfter (Push i) a w = Safe (suc a) (suc w)
   SafeAfter (Get k) a w = Safe (suc a) (suc w)
-  SafeAfter Add a w = Safe (suc a) (pred w)
+  SafeAfter (Compute op) a w = Safe (suc a) (pred w)
   SafeAfter (Ifnot b) a w = Safe (suc a) (pred w) × Safe b (pred w)
   SafeAfter (Jump b) a w = Safe b w
   SafeAfter Slide a w = Safe (suc a) (pred w)
@@ -155,7 +155,7 @@ module _ (program : Program) where
   safe-after : {op : Operation} {a w b v : ℕ} → MovesWords program op a w b v → SafeAfter op a w → Safe b v
   safe-after by-push h = h
   safe-after by-get h = h
-  safe-after by-add h = h
+  safe-after by-compute h = h
   safe-after by-ifnot-zero h = h .0
   safe-after by-ifnot-other h = h .1
   safe-after by-jump h = h
@@ -214,7 +214,7 @@ module _ (program : Program) where
       (λ xs a b d. (w : ℕ) → wordsOfArgs (signatures program) w xs ≤ mostFrameWords → SafeIfFew b (countArgs xs + w) → Safe a w) [
         | coded-const h ↦ λ w few end. safe-at h (omega arith) (end few)
         | coded-var h ↦ λ w few end. safe-at h (omega arith) (end few)
-        | coded-add (d₁ → p) (d₂ → q) h ↦ λ w few end.
+        | coded-compute (d₁ → p) (d₂ → q) h ↦ λ w few end.
             p w (omega arith) λ one. q (suc w) (omega arith) λ two. safe-at h two (end one)
         | coded-ifZero (d₀ → t) h (d₁ → z) k (d₂ → o) ↦ λ w few end.
             t w (omega arith) λ one. safe-at h one (z w (omega arith) (λ value. safe-at k value (end value)), o w (omega arith) end)

@@ -1,13 +1,14 @@
--- 01, Worked programs: the sentences marked P as one table, proved by one computation over the
--- definitions. A row begins with a program's records: the writer's definition makes a file of them,
--- and a call is made on that file. A second table has calls on other bytes, and buffers that are
--- too short or just long enough.
+-- 01, Worked programs: the sentences marked P, and Sum, as one table, proved by one computation
+-- over the definitions. A row begins with a program's records: the writer's definition makes a file
+-- of them, and a call is made on that file. A second table has calls on other bytes, and buffers
+-- that are too short or just long enough.
 use Prim.Native.Nat.{ℕ}
 use Prim.Native.String.{String}
 use mathlib.Core.List.{List, [], _∷_, _++_, map}
 use mathlib.Core.Path.{_≡_, refl}
 use lib.ListN.{length, take, replicate}
-use Rattle.formats.specs.Numbers.{bytesOf, numberOf, numberAt, sum32, signed32}
+use Rattle.formats.specs.Numbers.{bytesOf, numberOf, numberAt, signed32}
+use Rattle.formats.specs.Arithmetic.{unbounded, wordFor, resultOf}
 use Rattle.formats.specs.Results.{Result, done, refusal, onValue, each}
 use Rattle.formats.specs.Written.{written}
 use Rattle.formats.specs.Characters.{newline, ascii}
@@ -23,12 +24,12 @@ use Rattle.rules.specs.PassOne.{nameBound, typeFits, bareNumber, wordsTested, h
 use Rattle.rules.specs.PassTwo.{takeHead, sameNames, equalBranches as joinedLists, walk, walkArgs, noneLeft, walkAll, passTwo, bothPasses}
 use Rattle.meaning.specs.Levels.{atLevel}
 use Rattle.meaning.specs.Instructions.{heldBy, operations, operationOf, instructionOf}
-use Rattle.meaning.specs.Performing.{wordsBelow, wordsStanding, callsOpen, popOne, popTwo, ifRoom, pushWord, write}
+use Rattle.meaning.specs.Performing.{wordsBelow, wordsStanding, callsOpen, popOne, popTwo, ifRoom, pushWord, pushResult, write}
 use Rattle.meaning.specs.Performing.{onTag, takeNumber, openCall, kept, numberKept, leave, operate, perform, step}
 use Rattle.meaning.specs.Running.{run, outcomeOf, numberReported, streamRun, valueWords, returnWords}
 use Rattle.meaning.specs.Evaluation.{resultBytes, resultNumber}
-use Rattle.meaning.specs.OpenCalls.{followedBy, numberOr, treeOr, resultTree, evaluate, evaluateArgs, firstRecord, called, evaluation, withFuel}
-use Rattle.meaning.specs.SourceRun.{SourceRan, reported, reportFrom, checkSource, sourceRun}
+use Rattle.meaning.specs.OpenCalls.{followedBy, numberOr, treeOr, resultTree, refusalOf, computed, evaluate, evaluateArgs, firstRecord, called, evaluation, withFuel}
+use Rattle.meaning.specs.SourceRun.{SourceRan, reported, positionOf, reportFrom, checkSource, sourceRun}
 use Rattle.translation.specs.Templates.{codeEnd, argsEnd, wordOf, firstWords, endOf, code, codeArgs, wordsKept}
 use Rattle.translation.specs.Templates.{functionCode, functionEnd, entryFrom, functionsCode, entryOf, operationsOf, codeOf}
 use Rattle.translation.specs.TranslateAndRun.{checkedRecords, translateRecords, translateFile, prepared, FileRan, runFile}
@@ -61,6 +62,14 @@ swapped = one-function treeValued (Case 0 ∷ Leaf ∷ Var 0 ∷ Node ∷ Call 0
 -- 01, Worked programs: "Case 0, Const 1, Call 0 on 1 (number)".
 tree-left : List Record
 tree-left = one-function numberValued (Case 0 ∷ Const 1 ∷ Call 0 on 1 ∷ [])
+
+-- 01, Worked programs: "Sum (Case 0, Var 0, Add, Call 0 on 1, Call 0 on 2)". It gives a number.
+sum : List Record
+sum = one-function numberValued (Case 0 ∷ Var 0 ∷ Add ∷ Call 0 on 1 ∷ Call 0 on 2 ∷ [])
+
+-- The tokens of a node of leaves 2147483647 and 1.
+large : List ℕ
+large = 2 ∷ 1 ∷ 255 ∷ 255 ∷ 255 ∷ 127 ∷ 1 ∷ 1 ∷ 0 ∷ 0 ∷ 0 ∷ []
 
 -- 01, Worked programs: "Call 0 on 0". Its result is a number or a tree: both pass.
 again : Sort → List Record
@@ -172,6 +181,20 @@ again-code rest =
     ∷ 13 ∷ 1 ∷ 0 ∷ 0 ∷ 0 ∷ 0 ∷ 0 ∷ 0
     ∷ nines rest
 
+-- Sum's code.
+sum-code : List ℕ
+sum-code =
+    10 ∷ 0 ∷ 5 ∷ 0 ∷ 0 ∷ 0 ∷ 0 ∷ 0
+    ∷ 11 ∷ 0 ∷ 0 ∷ 0 ∷ 0 ∷ 0 ∷ 0 ∷ 0
+    ∷ 1 ∷ 0 ∷ 0 ∷ 0 ∷ 0 ∷ 0 ∷ 0 ∷ 0
+    ∷ 5 ∷ 0 ∷ 0 ∷ 0 ∷ 0 ∷ 0 ∷ 0 ∷ 0
+    ∷ 4 ∷ 0 ∷ 8 ∷ 0 ∷ 0 ∷ 0 ∷ 0 ∷ 0
+    ∷ 12 ∷ 0 ∷ 0 ∷ 0 ∷ 0 ∷ 0 ∷ 0 ∷ 0
+    ∷ 12 ∷ 0 ∷ 0 ∷ 0 ∷ 0 ∷ 0 ∷ 0 ∷ 0
+    ∷ 2 ∷ 0 ∷ 0 ∷ 0 ∷ 0 ∷ 0 ∷ 0 ∷ 0
+    ∷ 13 ∷ 1 ∷ 0 ∷ 0 ∷ 0 ∷ 0 ∷ 0 ∷ 0
+    ∷ []
+
 -- Each sentence marked P, in the order of 01, Worked programs, and the source runs that stand on
 -- the same lines. Where a sentence gives no fuel, there is enough; where it gives no input, it is
 -- T.
@@ -221,6 +244,11 @@ rows =
     -- "Case 0, Const 1, Call 0 on 1 (number): 11 at record 2."
     ∷ lists tree-left ("refused 11 2" ∷ [])
     ∷ runs tree-left T 25 12 110 (answers (refusal 11 2) 0 0 0 0 (nines 12) (nines 110))
+    -- "Sum .. of leaves 2147483647 and 1". N3: "The Sum case of document 01 becomes this refusal."
+    ∷ runs sum large 16 12 72 (answers (refusal 21 11) 15 11 0 0 (nines 12) sum-code)
+    ∷ runs sum large 15 12 72 (answers (refusal 14 11) 15 11 0 0 (nines 12) sum-code)
+    ∷ source-runs sum large 8 12 (source-answers (refusal 21 4) 8 0 0 (nines 12))
+    ∷ source-runs sum large 7 12 (source-answers (refusal 14 0) 7 0 0 (nines 12))
     -- "Call 0 on 0 passes;"
     ∷ lists (again numberValued) ("code 2" ∷ "0 12 0 0 0" ∷ "1 13 1 0 0" ∷ [])
     ∷ lists (again treeValued) ("code 2" ∷ "0 12 0 0 0" ∷ "1 13 0 0 0" ∷ [])
@@ -232,7 +260,7 @@ rows =
 
 -- One computation, through writer, reader, checker, translator, stream run, source run and listing.
 worked : map given rows ≡ map (λ r. done (r .due)) rows
-unfolding text linesText lineText signedField field codeWord refusedWord decimal digits ascii printed listing listingOf instructionsIn linesFrom lineOf signed32 runFile prepared translateFile translateRecords checkedRecords inRoom bufferAfter codeOf operationsOf entryOf functionsCode entryFrom functionEnd functionCode wordsKept code codeArgs endOf firstWords wordOf codeEnd argsEnd countArgs bothPasses passTwo walkAll noneLeft walk walkArgs joinedLists sameNames takeHead passOne passOver atEntry hasRoom wordsTested bareNumber typeFits nameBound enteredAll entered enteredArgs inside startOf resultType isInt isOutputTree hasType size prefix prefixes signatureOf streamRun run step perform operate heldBy operationOf operations instructionOf wordsStanding wordsBelow callsOpen atLevel popOne popTwo ifRoom pushWord write onTag takeNumber openCall kept numberKept leave outcomeOf numberReported sum32 tagAt tagOf written sourceRun checkSource reportFrom reported withFuel evaluation called evaluate evaluateArgs followedBy resultNumber resultBytes resultTree numberOr treeOr firstRecord tokens firstTree treeAt readTag branchesAt labelAt programIn writeFile fileOf blocksFor blocksFrom blockOf blockBody checkWord wordSum flatIn lengthRow blockRow blockAt usedOf fieldsFit usedFits zeros concatenated readProgram headerRow headerFrom functionRow functionAt functionFrom sorts mostParameters nodeRow nodeAt nodeRecord kindOf kinds nth sameFields functionBelow fieldsOf each prefixRow bodies exactlyOne exprsOf build popArgs arityOf sumOfCounts recordAt flat bytesOfRecord bytesOf numberAt numberOf headerRecord signatureRecord sortNumber Call_on_ one-function grow swapped tree-left again T asked-of nines answers source-answers given lists runs source-runs grow-code again-code rows
+unfolding text linesText lineText signedField field codeWord refusedWord decimal digits ascii printed listing listingOf instructionsIn linesFrom lineOf signed32 runFile prepared translateFile translateRecords checkedRecords inRoom bufferAfter codeOf operationsOf entryOf functionsCode entryFrom functionEnd functionCode wordsKept code codeArgs endOf firstWords wordOf codeEnd argsEnd countArgs bothPasses passTwo walkAll noneLeft walk walkArgs joinedLists sameNames takeHead passOne passOver atEntry hasRoom wordsTested bareNumber typeFits nameBound enteredAll entered enteredArgs inside startOf resultType isInt isOutputTree hasType size prefix prefixes signatureOf streamRun run step perform operate heldBy operationOf operations instructionOf wordsStanding wordsBelow callsOpen atLevel popOne popTwo ifRoom pushWord pushResult write onTag takeNumber openCall kept numberKept leave outcomeOf numberReported resultOf unbounded wordFor tagAt tagOf written sourceRun checkSource reportFrom refusalOf positionOf reported withFuel evaluation called evaluate computed evaluateArgs followedBy resultNumber resultBytes resultTree numberOr treeOr firstRecord tokens firstTree treeAt readTag branchesAt labelAt programIn writeFile fileOf blocksFor blocksFrom blockOf blockBody checkWord wordSum flatIn lengthRow blockRow blockAt usedOf fieldsFit usedFits zeros concatenated readProgram headerRow headerFrom functionRow functionAt functionFrom sorts mostParameters nodeRow nodeAt nodeRecord kindOf kinds nth sameFields functionBelow fieldsOf each prefixRow bodies exactlyOne exprsOf build popArgs arityOf sumOfCounts recordAt flat bytesOfRecord bytesOf numberAt numberOf headerRecord signatureRecord sortNumber Call_on_ one-function grow swapped tree-left sum large sum-code again T asked-of nines answers source-answers given lists runs source-runs grow-code again-code rows
 worked = refl
 
 -- ---- other bytes, and the buffers' lengths
@@ -346,5 +374,5 @@ calls = in-order ++ (lengths ++ (translations ++ listings))
 
 -- Again one computation.
 orderly : map (λ c. asked-of (c .file) (c .asked)) calls ≡ map (λ c. c .due) calls
-unfolding text linesText lineText signedField field codeWord refusedWord decimal digits ascii printed listing listingOf instructionsIn linesFrom lineOf signed32 runFile prepared translateFile translateRecords checkedRecords inRoom bufferAfter codeOf operationsOf entryOf functionsCode entryFrom functionEnd functionCode wordsKept code codeArgs endOf firstWords wordOf codeEnd argsEnd countArgs bothPasses passTwo walkAll noneLeft walk walkArgs joinedLists sameNames takeHead passOne passOver atEntry hasRoom wordsTested bareNumber typeFits nameBound enteredAll entered enteredArgs inside startOf resultType isInt isOutputTree hasType size prefix prefixes signatureOf streamRun run step perform operate heldBy operationOf operations instructionOf wordsStanding wordsBelow callsOpen atLevel popOne popTwo ifRoom pushWord write onTag takeNumber openCall kept numberKept leave outcomeOf numberReported sum32 tagAt tagOf written fileOf blocksFor blocksFrom blockOf blockBody checkWord wordSum flatIn lengthRow blockRow blockAt usedOf fieldsFit usedFits zeros concatenated readProgram headerRow headerFrom functionRow functionAt functionFrom sorts mostParameters nodeRow nodeAt nodeRecord kindOf kinds nth sameFields functionBelow fieldsOf each prefixRow bodies exactlyOne exprsOf build popArgs arityOf sumOfCounts recordAt flat bytesOfRecord bytesOf numberAt numberOf headerRecord signatureRecord sortNumber Call_on_ one-function grow swapped T asked-of nines answers grow-code filed not-bound one-too-many running untouched translating listing-of in-order grown lengths translations listings calls
+unfolding text linesText lineText signedField field codeWord refusedWord decimal digits ascii printed listing listingOf instructionsIn linesFrom lineOf signed32 runFile prepared translateFile translateRecords checkedRecords inRoom bufferAfter codeOf operationsOf entryOf functionsCode entryFrom functionEnd functionCode wordsKept code codeArgs endOf firstWords wordOf codeEnd argsEnd countArgs bothPasses passTwo walkAll noneLeft walk walkArgs joinedLists sameNames takeHead passOne passOver atEntry hasRoom wordsTested bareNumber typeFits nameBound enteredAll entered enteredArgs inside startOf resultType isInt isOutputTree hasType size prefix prefixes signatureOf streamRun run step perform operate heldBy operationOf operations instructionOf wordsStanding wordsBelow callsOpen atLevel popOne popTwo ifRoom pushWord pushResult write onTag takeNumber openCall kept numberKept leave outcomeOf numberReported resultOf unbounded wordFor tagAt tagOf written fileOf blocksFor blocksFrom blockOf blockBody checkWord wordSum flatIn lengthRow blockRow blockAt usedOf fieldsFit usedFits zeros concatenated readProgram headerRow headerFrom functionRow functionAt functionFrom sorts mostParameters nodeRow nodeAt nodeRecord kindOf kinds nth sameFields functionBelow fieldsOf each prefixRow bodies exactlyOne exprsOf build popArgs arityOf sumOfCounts recordAt flat bytesOfRecord bytesOf numberAt numberOf headerRecord signatureRecord sortNumber Call_on_ one-function grow swapped T asked-of nines answers grow-code filed not-bound one-too-many running untouched translating listing-of in-order grown lengths translations listings calls
 orderly = refl

@@ -6,6 +6,7 @@ use mathlib.Core.Logic.{_↔_}
 use mathlib.Core.Option.{some}
 use mathlib.Core.Path.{_≡_}
 use lib.ListN.{length}
+use Rattle.formats.specs.Arithmetic.{Op}
 use Rattle.formats.specs.Refusals.{tooManyWords}
 use Rattle.formats.specs.Results.{refusal}
 use Rattle.formats.specs.Records.{Ranged, nth}
@@ -14,7 +15,7 @@ use Rattle.rules.specs.Scopes.{Entry, entry, enteredAll}
 use Rattle.rules.specs.PassOne.{nameBound, typeFits, passOne}
 use Rattle.rules.specs.Limits.{mostFrameWords}
 use Rattle.rules.specs.OrderChecker.{firstNode}
-use Rattle.meaning.specs.Instructions.{Operation, Push, Get, Add, Ifnot, Jump, Slide, Drop, LeafTag, NodeTag, WriteNumber, ReadTag, ReadNumber, Call, instructionOf, mostInstructions}
+use Rattle.meaning.specs.Instructions.{Operation, Push, Get, Compute, Ifnot, Jump, Slide, Drop, LeafTag, NodeTag, WriteNumber, ReadTag, ReadNumber, Call, instructionOf, mostInstructions}
 use Rattle.meaning.specs.Performing.{Setting, State, goes, operate}
 use Rattle.translation.specs.Templates.{wordsKept, functionCode, entryOf, operationsOf}
 
@@ -36,7 +37,7 @@ pub record Leaves (program : Program) (entry words : ℕ) : Type 0 where
 pub data MovesWords (program : Program) : Operation → (a w b v : ℕ) → Type 0 where
   by-push : {i a w : ℕ} → MovesWords program (Push i) a w (suc a) (suc w)
   by-get : {k a w : ℕ} → MovesWords program (Get k) a w (suc a) (suc w)
-  by-add : {a w : ℕ} → MovesWords program Add a (suc (suc w)) (suc a) (suc w)
+  by-compute : {op : Op} {a w : ℕ} → MovesWords program (Compute op) a (suc (suc w)) (suc a) (suc w)
   by-ifnot-zero : {b a w : ℕ} → MovesWords program (Ifnot b) a (suc w) (suc a) w
   by-ifnot-other : {b a w : ℕ} → MovesWords program (Ifnot b) a (suc w) b w
   by-jump : {b a w : ℕ} → MovesWords program (Jump b) a w b w

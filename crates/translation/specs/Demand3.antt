@@ -4,14 +4,18 @@
 -- 01, The code and the evaluation: "Demand 3 runs the translator's code for a program both passes
 -- accept, work space lent; its 4n + 1 is meant where it fits 64 bits." Here fuel is any number.
 --
+-- N3: "the bound on fuel is for evaluations whose sums all fit". Only such an evaluation ends, so
+-- the premise of `suffices` says it; one that breaks at a sum is an "other evaluation" here, and
+-- OutOfRange.antt says with which refusal.
+--
 -- Its words. A program's code: `codeOf` (Templates), by 01, Templates. The stream run: `streamRun`
 -- (meaning, Running), its answer and every byte of the output. The source evaluation: `Ends program
 -- t o n v` (meaning, Evaluation) says that it ends with the value v after n expressions, with at
--- most o calls open at once, the first included; it is endless where there are no such o, n and v.
--- `mostCalls` is 1,024. The source's result: `resultBytes v`, a tree's tokens, none for a number;
--- `resultNumber v`, the number, 0 for a tree. `Opens vs s`: vs are opening bytes of s, none or all
--- included. `writtenBy`: the output's first bytes, as many as the answer says are written;
--- `untouchedBy`: the bytes after those.
+-- most o calls open at once, the first included; it is endless where there are no such o, n and v,
+-- and it breaks under no bound (meaning, Meaning: `Endless`). `mostCalls` is 1,024. The source's
+-- result: `resultBytes v`, a tree's tokens, none for a number; `resultNumber v`, the number, 0 for
+-- a tree. `Opens vs s`: vs are opening bytes of s, none or all included. `writtenBy`: the output's
+-- first bytes, as many as the answer says are written; `untouchedBy`: the bytes after those.
 use Prim.Native.Nat.{ℕ, _+_, _*_, _≤_}
 use mathlib.Core.List.{List, _++_}
 use mathlib.Core.Logic.{_≢_}

@@ -7,20 +7,19 @@ use mathlib.Core.Option.{some}
 use mathlib.Core.Path.{_≡_}
 use lib.ListN.{length}
 use Rattle.formats.specs.Numbers.{Bytes}
+use Rattle.formats.specs.Arithmetic.{Op}
 use Rattle.formats.specs.Records.{nth}
-use Rattle.formats.specs.Refusals.{fuelUsedUp, outputFull, tooManyCalls, cannotPerform}
+use Rattle.formats.specs.Refusals.{fuelUsedUp, outputFull, tooManyCalls, cannotPerform, outOfRange}
 use Rattle.formats.specs.Results.{done, refusal}
 use Rattle.formats.specs.Tokens.{Tree, Labelled, tokens}
 use Rattle.formats.specs.Programs.{treeValued, Function, Program}
 use Rattle.meaning.specs.Running.{Ran, mostCalls}
 use Rattle.meaning.specs.Evaluation.{Value, Ends, resultBytes, unitsIn}
+use Rattle.meaning.specs.OpenCalls.{Reason, refusalOf}
+use Rattle.meaning.specs.Unfinished.{StopsOn, Breaks, stopUnits, stopBytes}
 use Rattle.translation.specs.Demand3.{Given, runOn}
 use Rattle.translation.specs.EndedRuns.{Whole, Meant, OneForOne}
-
--- A run that is refused with the number `why`, at the bytes read, after so many units.
-pub record RefusedAfterUnits (units why : ℕ) (ran : Ran) : Type 0 where
-  pub outcome : ran .answer .outcome ≡ refusal why (ran .answer .bytesRead)
-  pub counted : ran .answer .units ≡ units
+use Rattle.translation.specs.StoppedRuns.{RefusedAfterUnits, StreamStops, BrokenRun}
 
 -- A whole run of so many units.
 pub record WholeAfter (units : ℕ) (t : Tree) (v : Value) (output : List ℕ) (ran : Ran) : Type 0 where
@@ -73,9 +72,27 @@ pub record EveryRun (program : Program) (run : (input output : List ℕ) (fuel :
       → length output < length (resultBytes v)
       → evaluationUnits ends ≤ fuel
       → run (tokens t ++ rest) output fuel .answer .outcome ≡ refusal outputFull (run (tokens t ++ rest) output fuel .answer .bytesRead)
-  -- Where more than 1,024 calls would open (the evaluation does not end within 1,024 open calls),
-  -- enough fuel and space give 18.
-  pub too-many-calls : (t : Tree) → Labelled t → ((n : ℕ) (v : Value) → Ends program t mostCalls n v → ⊥) → StreamTooManyCalls t run
+  -- Where more than 1,024 calls would open (within 1,024 open calls the evaluation does not end,
+  -- nor does it break at a sum), enough fuel and space give 18.
+  pub too-many-calls :
+      (t : Tree)
+      → Labelled t
+      → ((n : ℕ) (v : Value) → Ends program t mostCalls n v → ⊥)
+      → ((n : ℕ) (op : Op) (i j q : ℕ) → Breaks program t mostCalls n op i j q → ⊥)
+      → StreamTooManyCalls t run
+  -- Where the evaluation, held to 1,024 open calls, stops at a sum out of range (21) or at a call
+  -- too many (18), so does the run, given fuel and space: with these units spent and these bytes
+  -- written.
+  pub stops :
+      (t : Tree) (n : ℕ) (why : Reason) (q : ℕ) (s : StopsOn program t mostCalls n why q)
+      → Labelled t
+      → StreamStops t (stopUnits s) (refusalOf why) (stopBytes s) run
+  -- On a tree 21 comes in no other case.
+  pub broken-is-meant :
+      (t : Tree) (rest output : List ℕ) (fuel position : ℕ)
+      → Labelled t
+      → run (tokens t ++ rest) output fuel .answer .outcome ≡ refusal outOfRange position
+      → BrokenRun program t output fuel (run (tokens t ++ rest) output fuel)
   -- 01, Instructions that cannot be performed: "19 never follows translated code." On any input,
   -- trees or not.
   pub never-19 : (input output : List ℕ) (fuel position : ℕ) → Bytes input → run input output fuel .answer .outcome ≢ refusal cannotPerform position

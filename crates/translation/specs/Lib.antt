@@ -8,3 +8,5 @@ pub mod Listing
 pub mod ListingText
 pub mod ThisCall
 pub mod EndedRuns
+pub mod StoppedRuns
+pub mod OutOfRange

@@ -4,10 +4,10 @@ use Prim.Native.Nat.{ℕ, zero, suc}
 use mathlib.Core.List.{List, [], _∷_, _++_, map}
 use mathlib.Core.Option.{none, some}
 use Rattle.formats.specs.Records.{flat}
-use Rattle.formats.specs.Programs.{Expr, const, var, add, ifZero, letIn, leafOf, nodeOf, caseOf, call, Args, noArgs, arg, countArgs}
+use Rattle.formats.specs.Programs.{Expr, const, var, compute, ifZero, letIn, leafOf, nodeOf, caseOf, call, Args, noArgs, arg, countArgs}
 use Rattle.formats.specs.Programs.{Sort, numberValued, treeValued, Function, Program}
 use Rattle.meaning.specs.Levels.{atLevel}
-use Rattle.meaning.specs.Instructions.{Operation, Push, Get, Add, Ifnot, Jump, Slide, Drop, LeafTag, NodeTag, WriteNumber, ReadTag, ReadNumber, Call, Return, instructionOf}
+use Rattle.meaning.specs.Instructions.{Operation, Push, Get, Compute, Ifnot, Jump, Slide, Drop, LeafTag, NodeTag, WriteNumber, ReadTag, ReadNumber, Call, Return, instructionOf}
 
 -- ---- addresses
 
@@ -16,7 +16,7 @@ unfoldable mutual
   pub codeEnd : Expr → ℕ → ℕ
   codeEnd (const i) a = suc a
   codeEnd (var k) a = suc a
-  codeEnd (add p q) a = suc (codeEnd q (codeEnd p a))
+  codeEnd (compute op p q) a = suc (codeEnd q (codeEnd p a))
   codeEnd (ifZero t z o) a = codeEnd o (suc (codeEnd z (suc (codeEnd t a))))
   codeEnd (letIn p body) a = suc (codeEnd body (codeEnd p a))
   codeEnd (leafOf p) a = suc (codeEnd p (suc a))
@@ -67,8 +67,8 @@ unfoldable mutual
   -- "get"
   code entries s words w a (var k) = Get (wordOf words k) ∷ []
   -- "p, q, add"
-  code entries s words w a (add p q) =
-      code entries numberValued words w a p ++ (code entries numberValued words (suc w) (codeEnd p a) q ++ (Add ∷ []))
+  code entries s words w a (compute op p q) =
+      code entries numberValued words w a p ++ (code entries numberValued words (suc w) (codeEnd p a) q ++ (Compute op ∷ []))
   -- "t, ifnot L, z, jump M, L: o, M:"
   code entries s words w a (ifZero t z o) =
       let atZ = suc (codeEnd t a) in

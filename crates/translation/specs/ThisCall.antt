@@ -1,27 +1,30 @@
--- Demand 3, and what holds on any input, said of one call: of what it answered, and of the output
--- at exit. The contracts of `runner: run`, `run_calls: run` and `hogvax_run` carry both
+-- Demand 3, N3 and what holds on any input, said of one call: of what it answered, and of the
+-- output at exit. The contracts of `runner: run`, `run_calls: run` and `hogvax_run` carry both
 -- (`ProgramRun`).
 --
 -- `before` is the output at entry and `after` the output at exit; `answer` is what the call
 -- answered. The words are those of Demand3.
-use Prim.Native.Nat.{ℕ, _+_, _*_, _≤_}
+use Prim.Native.Nat.{ℕ, _+_, _*_, _≤_, _<_}
 use mathlib.Core.List.{List, _++_}
 use mathlib.Core.Logic.{_≢_}
 use mathlib.Core.Option.{some}
 use mathlib.Core.Path.{_≡_}
 use lib.ListN.{length, take, drop}
 use Rattle.formats.specs.Numbers.{Bytes}
+use Rattle.formats.specs.Arithmetic.{Op}
 use Rattle.formats.specs.Buffers.{Opens}
 use Rattle.formats.specs.Records.{nth}
-use Rattle.formats.specs.Refusals.{cannotPerform}
+use Rattle.formats.specs.Refusals.{fuelUsedUp, cannotPerform, outOfRange}
 use Rattle.formats.specs.Results.{done, refusal}
 use Rattle.formats.specs.Tokens.{Tree, Labelled, tokens}
 use Rattle.formats.specs.Programs.{treeValued, Function, Program}
 use Rattle.meaning.specs.Instructions.{instructionBytes, mostInstructions}
 use Rattle.meaning.specs.Running.{Answer, Ran, valueWords, returnWords, mostCalls}
 use Rattle.meaning.specs.Evaluation.{Value, Ends, resultBytes}
+use Rattle.meaning.specs.Unfinished.{Breaks, stopUnits, stopBytes}
 use Rattle.translation.specs.Demand3.{Checked}
 use Rattle.translation.specs.EndedRuns.{Whole, Meant, OneForOne}
+use Rattle.translation.specs.StoppedRuns.{RefusedAfterUnits, StoppedAfter, BrokenRun}
 use Rattle.translation.specs.TranslateAndRun.{FileRan, runFile, Ready}
 
 -- Answer and output at exit, as what a run gives.
@@ -54,6 +57,27 @@ pub record ThisCall (program : Program) (t : Tree) (rest before : List ℕ) (fue
       → Whole t v before (ranWith answer after)
   -- "For every other evaluation, endless ones included, no fuel suffices."
   pub none-suffices : ((n : ℕ) (v : Value) → Ends program t mostCalls n v → ⊥) → answer .outcome ≢ done tt
+  -- N3: "on a tree the reader accepts, where at most 1,024 calls are open, both runs with enough
+  -- fuel and output space refuse it": with 21, "at bytes read in the stream run". (The stream run
+  -- asks for no reader: the tree may be of any depth.)
+  pub breaks :
+      (n : ℕ) (op : Op) (i j q : ℕ) (b : Breaks program t mostCalls n op i j q)
+      → stopUnits b < fuel
+      → length (stopBytes b) ≤ length before
+      → StoppedAfter (stopUnits b) outOfRange (stopBytes b) before (ranWith answer after)
+  -- Every smaller fuel gives 14.
+  pub breaks-fewer :
+      (n : ℕ) (op : Op) (i j q : ℕ) (b : Breaks program t mostCalls n op i j q)
+      → fuel ≤ stopUnits b
+      → length (stopBytes b) ≤ length before
+      → RefusedAfterUnits fuel fuelUsedUp (ranWith answer after)
+  -- Whatever fuel and output space are, what is written opens what the code has written where the
+  -- evaluation breaks.
+  pub broken-opening :
+      (n : ℕ) (op : Op) (i j q : ℕ) (b : Breaks program t mostCalls n op i j q)
+      → Opens (take (answer .bytesWritten) after) (stopBytes b)
+  -- 21 comes in no other case.
+  pub broken-is-meant : (position : ℕ) → answer .outcome ≡ refusal outOfRange position → BrokenRun program t before fuel (ranWith answer after)
 
 -- A call on any input, trees or not (the statements of EveryRun).
 pub record AnyCall (program : Program) (input before : List ℕ) (answer : Answer) (after : List ℕ) : Type 0 where

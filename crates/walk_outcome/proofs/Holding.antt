@@ -12,11 +12,11 @@ use lib.ListN.{length, length-append}
 use Rattle.formats.specs.Written.{written}
 use Rattle.formats.proofs.Written.{written-append, wrote}
 use Rattle.meaning.specs.OpenCalls.{Outcome, begins}
-use Rattle.stepwise.specs.Inner.Steps.{State, Turn, begin, finished, opens, ended, deep, stuck, Found, recordLimit, treeAt, beginning, emittedFirst, rising, emittedLast, weight, opening}
+use Rattle.stepwise.specs.Inner.Steps.{State, Turn, begin, finished, opens, ended, deep, broken, stuck, Found, recordLimit, treeAt, beginning, emittedFirst, rising, emittedLast, weight, opening}
 use Rattle.stepwise.proofs.Steps.{off}
 use Rattle.stepwise.specs.Inner.Outcomes.{Reported, Comes, at-begin, at-finished, at-open}
 use Rattle.stages.specs.declared.Stage.{Stage}
-use Rattle.stages.specs.Inner.Stages.{toBegin, isFinished, toOpen, isStuck, stateOf, turnOf, staged, stageOf, wordsOf, returnsOf}
+use Rattle.stages.specs.Inner.Stages.{toBegin, isFinished, toOpen, isStuck, stateOf, Missing, noneMissing, turnOf, staged, stageOf, wordsOf, returnsOf, missingIn}
 use Rattle.stages.proofs.Stages.{turn-begin, turn-finished, turn-open, turn-written, turn-again, same-written}
 use Rattle.begin_record.proofs.Begins.{begun-found}
 use Rattle.open_call.specs.Inner.Opens.{openedTurn}
@@ -29,7 +29,8 @@ use Rattle.source_walk.specs.Inner.Loop.{Run, run, stepped, weightOf, beginStep
 -- comes to the outcome o.
 pub record Holding (T input output₀ : List ℕ) (p : Run) (o : Outcome Reported) : Type 0 where
   pub out : List ℕ
-  pub comes : Comes T input out (turnOf (p .values) (p .returns) (p .stage)) o
+  pub missing : Missing
+  pub comes : Comes T input out (turnOf missing (p .values) (p .returns) (p .stage)) o
   pub counts : Counts (p .stage .written) out
   pub wrote : length out ≤ length output₀ → p .output ≡ written output₀ 0 out
   pub long : length (p .output) ≡ length output₀
@@ -109,13 +110,13 @@ wrote-more output₀ output output′ at out bytes c short before w fits =
     ∙ written-append output₀ 0 out bytes (omega arith)
 
 -- the weight of a stage is that of its turn
-weight-turn : (values returns : List ℕ) (s : Stage) → weight (turnOf values returns s) ≡ weightOf s
+weight-turn : (m : Missing) (values returns : List ℕ) (s : Stage) → weight (turnOf m values returns s) ≡ weightOf s
 unfolding turnOf weight weightOf
-weight-turn values returns s =
-    by (eqb (s .mode) 0) (eqb (s .mode) 1) (eqb (s .mode) 2) (eqb (s .mode) 3) (eqb (s .mode) 4)
+weight-turn m values returns s =
+    by (eqb (s .mode) 0) (eqb (s .mode) 1) (eqb (s .mode) 2) (eqb (s .mode) 3) (eqb (s .mode) 4) (eqb (s .mode) 6)
     (λ e. off _ 0 1 (eqb-true (s .mode) 0 e) refl)
   where
-    by : (a b c d e : Bool) → (a ≡ true → b ≡ false)
+    by : (a b c d e f : Bool) → (a ≡ true → b ≡ false)
         → weight
         (elim a [
           | true ↦ begin (s .node) (stateOf values returns s)
@@ -125,17 +126,26 @@ weight-turn values returns s =
                 | false ↦
                     elim c [
                       | true ↦ opens (s .node) (stateOf values returns s)
-                      | false ↦ elim d [ true ↦ ended (s .number) | false ↦ elim e [ true ↦ deep (s .node) | false ↦ stuck ] ]
+                      | false ↦
+                          elim d [
+                            | true ↦ ended (s .number)
+                            | false ↦
+                                elim e [
+                                  | true ↦ deep (s .node)
+                                  | false ↦ elim f [ true ↦ broken (m .op) (m .i) (m .j) (s .node) | false ↦ stuck ]
+                                ]
+                          ]
                     ]
               ]
         ])
         ≡ elim b [ true ↦ 1 + 65536 * s .calls + s .node | false ↦ 0 ]
-    by true b c d e h = rw (h refl)
-    by false true c d e h = omega arith
-    by false false true d e h = refl
-    by false false false true e h = refl
-    by false false false false true h = refl
-    by false false false false false h = refl
+    by true b c d e f h = rw (h refl)
+    by false true c d e f h = omega arith
+    by false false true d e f h = refl
+    by false false false true e f h = refl
+    by false false false false true f h = refl
+    by false false false false false true h = refl
+    by false false false false false false h = refl
 
 -- ---- the steps
 
@@ -146,7 +156,11 @@ module _ (T input output₀ : List ℕ) where
   held p t bytes o rest h c =
       record {
         out = h .out ++ bytes;
-        comes = rw (turn-written (wordsOf (p .values) t) (returnsOf (p .returns) t) (stageOf (p .stage) t) (counted (p .stage .written) (length bytes)), turn-again (p .values) (p .returns) (p .stage) t) c;
+        missing = missingIn t;
+        comes = rw (
+          turn-written (missingIn t) (wordsOf (p .values) t) (returnsOf (p .returns) t) (stageOf (p .stage) t) (counted (p .stage .written) (length bytes)),
+          turn-again (p .values) (p .returns) (p .stage) t,
+        ) c;
         counts = counts-more (p .stage .written) (h .out) bytes (h .counts);
         wrote = wrote-more output₀ (p .output) (written (p .output) (p .stage .written) bytes) (p .stage .written) (h .out) bytes (h .counts) (h .short) (h .wrote) refl;
         long = wrote (p .output) (p .stage .written) bytes .same-length ∙ h .long;
@@ -157,7 +171,7 @@ module _ (T input output₀ : List ℕ) where
   unfolding beginStep
   begin-holds p o mode h =
       let s = stateOf (p .values) (p .returns) (p .stage) in
-      let b = comes-begin T input (rw (turn-begin (p .values) (p .returns) (p .stage) mode) at (h .comes)) in
+      let b = comes-begin T input (rw (turn-begin (h .missing) (p .values) (p .returns) (p .stage) mode) at (h .comes)) in
       record {
         rest = b .rest;
         begun = b .begun;
@@ -169,7 +183,7 @@ module _ (T input output₀ : List ℕ) where
   -- a record that is finished
   module _ (p : Run) (o : Outcome Reported) (mode : p .stage .mode ≡ isFinished) (h : Holding T input output₀ p o) where
     from-it : RisesFrom T input (h .out) (p .stage .node) (p .stage .number) (stateOf (p .values) (p .returns) (p .stage)) o
-    from-it = comes-finished T input (rw (turn-finished (p .values) (p .returns) (p .stage) mode) at (h .comes))
+    from-it = comes-finished T input (rw (turn-finished (h .missing) (p .values) (p .returns) (p .stage) mode) at (h .comes))
 
     rise-holds : Holding T input output₀ (riseStep T input p) o
     unfolding riseStep
@@ -182,9 +196,9 @@ module _ (T input output₀ : List ℕ) where
         let s = stateOf (p .values) (p .returns) (p .stage) in
         let t = rising T input (p .stage .node) (p .stage .number) s in
         let old : weight (finished (p .stage .node) (p .stage .number) s) ≡ weightOf (p .stage) =
-        ap weight (sym (turn-finished (p .values) (p .returns) (p .stage) mode)) ∙ weight-turn (p .values) (p .returns) (p .stage) in
+        ap weight (sym (turn-finished noneMissing (p .values) (p .returns) (p .stage) mode)) ∙ weight-turn noneMissing (p .values) (p .returns) (p .stage) in
         let new : weight t ≡ weightOf (stageOf (p .stage) t) =
-        ap weight (sym (turn-again (p .values) (p .returns) (p .stage) t)) ∙ weight-turn (wordsOf (p .values) t) (returnsOf (p .returns) t) (stageOf (p .stage) t) in
+        ap weight (sym (turn-again (p .values) (p .returns) (p .stage) t)) ∙ weight-turn (missingIn t) (wordsOf (p .values) t) (returnsOf (p .returns) t) (stageOf (p .stage) t) in
         let falls = from-it .falls in
         omega arith
 
@@ -225,10 +239,11 @@ module _ (T input output₀ : List ℕ) where
 
       opens-it : p .stage .mode ≡ toOpen → Holding T input output₀ (run (p .output) (wordsOf (p .values) t) (returnsOf (p .returns) t) (stageOf (p .stage) t)) o
       opens-it mode =
-          let c = comes-open T input (rw (turn-open (p .values) (p .returns) (p .stage) mode) at (h .comes)) in
+          let c = comes-open T input (rw (turn-open (h .missing) (p .values) (p .returns) (p .stage) mode) at (h .comes)) in
           let s = stateOf (p .values) (p .returns) (p .stage) in
           record {
             out = h .out;
+            missing = missingIn t;
             comes = rw (turn-again (p .values) (p .returns) (p .stage) t, opened-found T input (p .stage .node) (c .offset) s (c .few) (c .found)) (c .comes);
             counts = rw (same-written (p .stage) t) (h .counts);
             wrote = h .wrote;

@@ -4,8 +4,8 @@ use Prim.Native.Nat.{ℕ, suc, _+_}
 use mathlib.Core.List.{List, [], _∷_}
 use mathlib.Core.Path.{_≡_, refl, ap}
 use Rattle.formats.specs.Results.{Result, done, refusal, andThen}
-use Rattle.formats.specs.Records.{Kind, Const, Var, Add, IfZero, Let, Leaf, Node, Case, Call}
-use Rattle.formats.specs.Programs.{Expr, const, var, add, ifZero, letIn, leafOf, nodeOf, caseOf, call, Args, noArgs, arg, size, Placed, placedAt, argsAt, partsAt, Signature}
+use Rattle.formats.specs.Records.{Kind, Const, Var, Compute, IfZero, Let, Leaf, Node, Case, Call}
+use Rattle.formats.specs.Programs.{Expr, const, var, compute, ifZero, letIn, leafOf, nodeOf, caseOf, call, Args, noArgs, arg, size, Placed, placedAt, argsAt, partsAt, Signature}
 use Rattle.rules.specs.PassTwo.{takeHead, walk, walkArgs}
 use Rattle.walks.specs.Inner.Standing.{headOf, Holds, Row, end, next, walkParts}
 use Rattle.walks.proofs.Walks.{then-nothing}
@@ -39,7 +39,7 @@ walk-call n k Δ a b xs = ap (λ r. andThen r (takeHead a k)) (walk-args n (suc 
 abbrev pub Plain : Kind → Type 0
 Plain (Const i) = Unit {0}
 Plain (Var a) = Unit {0}
-Plain Add = Unit {0}
+Plain (Compute op) = Unit {0}
 Plain IfZero = ⊥
 Plain Let = Unit {0}
 Plain Leaf = Unit {0}
@@ -51,7 +51,7 @@ pub walk-parts : (n k : ℕ) (Δ : List ℕ) (e : Expr) → Plain (headOf e) →
 unfolding walk walkParts partsAt headOf
 walk-parts n k Δ (const i) h = refl
 walk-parts n k Δ (var a) h = refl
-walk-parts n k Δ (add p q) h = walk-two n (suc k) Δ p q
+walk-parts n k Δ (compute op p q) h = walk-two n (suc k) Δ p q
 walk-parts n k Δ (ifZero t z o) h = absurd h
 walk-parts n k Δ (letIn p body) h = walk-two n (suc k) Δ p body
 walk-parts n k Δ (leafOf p) h = walk-last n (suc k) Δ p
@@ -70,7 +70,7 @@ pub shaped : (e : Expr) → Shaped (headOf e) e
 unfolding headOf
 shaped (const i) = plain tt
 shaped (var a) = plain tt
-shaped (add p q) = plain tt
+shaped (compute op p q) = plain tt
 shaped (ifZero t z o) = an-if
 shaped (letIn p body) = plain tt
 shaped (leafOf p) = plain tt

@@ -10,8 +10,8 @@ use native.Mathlib.Omega.{arith}
 use lib.ListN.{length, length-append, length-map}
 use Rattle.formats.specs.Numbers.{Bytes}
 use Rattle.formats.specs.Results.{Result, done, refusal, andThen, each}
-use Rattle.formats.specs.Records.{Kind, Add, IfZero, Let, Leaf, Node, Case, Call, recordAt, fieldsOf, nth, partsOf, partCount}
-use Rattle.formats.specs.Programs.{Expr, const, var, add, ifZero, letIn, leafOf, nodeOf, caseOf, call, Args, noArgs, arg, prefix, prefixes, size, Placed, placedAt, argsAt, partsAt}
+use Rattle.formats.specs.Records.{Kind, Compute, IfZero, Let, Leaf, Node, Case, Call, recordAt, fieldsOf, nth, partsOf, partCount}
+use Rattle.formats.specs.Programs.{Expr, const, var, compute, ifZero, letIn, leafOf, nodeOf, caseOf, call, Args, noArgs, arg, prefix, prefixes, size, Placed, placedAt, argsAt, partsAt}
 use Rattle.formats.specs.Programs.{countArgs, CallsComplete, ArgsComplete, Signature, arityOf, sumOfCounts, Function, signatureOf, Program, signatures, nodes, mostNodes, mostParameters, InRange, Every, LawfulFunctions}
 use Rattle.formats.specs.Rows.{nodeAt, headerRow, functionRow, nodeRow, prefixRow, readProgram}
 use Rattle.formats.specs.Inner.Fields.{headerIn, functionIn, arityIn, nodeIn}
@@ -38,7 +38,7 @@ fronted : (e : Expr) → Fronted e
 unfolding prefix headOf
 fronted (const i) = record { rest = []; both = refl }
 fronted (var a) = record { rest = []; both = refl }
-fronted (add p q) = record { rest = prefix p ++ prefix q; both = refl }
+fronted (compute op p q) = record { rest = prefix p ++ prefix q; both = refl }
 fronted (ifZero t z o) = record { rest = prefix t ++ (prefix z ++ prefix o); both = refl }
 fronted (letIn p body) = record { rest = prefix p ++ prefix body; both = refl }
 fronted (leafOf p) = record { rest = prefix p; both = refl }
@@ -121,7 +121,7 @@ module _ (s : List ℕ) (gs : List Signature) where
   unfolding prefix partsAt
   parts-row k (const i) h a = after-own k _ _ _ h (λ g. simp add-zero end)
   parts-row k (var v) h a = after-own k _ _ _ h (λ g. simp add-zero end)
-  parts-row k (add p q) h a = after-own k _ _ _ h (two-row (suc k) p q a)
+  parts-row k (compute op p q) h a = after-own k _ _ _ h (two-row (suc k) p q a)
   parts-row k (ifZero t z o) h a = after-own k _ _ _ h (λ g. in-front (suc k) t _ _ g (a .0) (two-row (suc k + size t) z o (a .1)))
   parts-row k (letIn p body) h a = after-own k _ _ _ h (two-row (suc k) p body a)
   parts-row k (leafOf p) h a = after-own k _ _ _ h (λ g. alone (suc k) p g a)
@@ -169,7 +169,7 @@ parts-counted s gs k e known h = by-kind e (head-in-range s gs k e h) (h .applie
     by-kind : (e : Expr) → InRange (headerIn s .functions) (headOf e) → CallsComplete (arityOf gs) e → length (partsAt k e) ≡ partCount (arityIn s) (partsOf (headOf e))
     by-kind (const i) r a = refl
     by-kind (var v) r a = refl
-    by-kind (add p q) r a = refl
+    by-kind (compute op p q) r a = refl
     by-kind (ifZero t z o) r a = refl
     by-kind (letIn p body) r a = refl
     by-kind (leafOf p) r a = refl
@@ -219,7 +219,7 @@ module _ (gs : List Signature) where
   unfolding passOver entered passParts partsAt headOf
   pass-parts sc r (const i) = refl
   pass-parts sc r (var a) = refl
-  pass-parts sc r (add p q) = own _ (pass-two Add 0 sc (suc r) p q)
+  pass-parts sc r (compute op p q) = own _ (pass-two (Compute op) 0 sc (suc r) p q)
   pass-parts sc r (ifZero t z o) =
       let others = placedAt (suc r + size t) z ∷ placedAt (suc r + size t + size z) o ∷ [] in
       own _ (pass-more IfZero 0 sc (suc r) t _ others (pass-two IfZero 1 sc (suc r + size t) z o))

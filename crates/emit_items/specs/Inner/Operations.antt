@@ -2,11 +2,11 @@
 use Prim.Native.Nat.{ℕ, suc, _*_}
 use mathlib.Core.Bool.{Bool, true, false}
 use mathlib.Core.List.{List, [], _∷_, map}
-use Rattle.formats.specs.Inner.CodeColumn.{Item, pushNumber, getName, addTwo, ifnotLast, jumpAfter, endName, writeLeafTag, writeNodeTag, writeNumber, readTagLast, readNumber, callFunction}
+use Rattle.formats.specs.Inner.CodeColumn.{Item, pushNumber, getName, computeTwo, ifnotLast, jumpAfter, endName, writeLeafTag, writeNodeTag, writeNumber, readTagLast, readNumber, callFunction}
 use Rattle.formats.specs.Records.{Record, fields, recordBytes, bytesOfRecord}
 use Rattle.formats.specs.Inner.Fields.{arityIn}
 use Rattle.formats.specs.Written.{written}
-use Rattle.meaning.specs.Instructions.{Operation, Push, Get, Add, Ifnot, Jump, LeafTag, NodeTag, WriteNumber, ReadTag, ReadNumber, Call, instructionOf}
+use Rattle.meaning.specs.Instructions.{Operation, Push, Get, Compute, Ifnot, Jump, LeafTag, NodeTag, WriteNumber, ReadTag, ReadNumber, Call, instructionOf}
 use Rattle.translation.specs.Templates.{wordOf, endOf}
 use Rattle.code_scope.specs.declared.Scope.{Scope}
 use Rattle.code_scope.specs.Inner.Around.{Around, aroundOf}
@@ -19,7 +19,7 @@ use Rattle.emit_items.specs.declared.Instruction.{Instruction}
 unfoldable pub operationFor : (entries arity : ℕ → ℕ) → Around → (last beyond : ℕ) → Item → Operation
 operationFor entries arity x last beyond (pushNumber i) = Push i
 operationFor entries arity x last beyond (getName a) = Get (wordOf (x .words) a)
-operationFor entries arity x last beyond addTwo = Add
+operationFor entries arity x last beyond (computeTwo op) = Compute op
 operationFor entries arity x last beyond ifnotLast = Ifnot last
 operationFor entries arity x last beyond jumpAfter = Jump beyond
 operationFor entries arity x last beyond endName = endOf (x .sort)

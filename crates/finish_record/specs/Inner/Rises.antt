@@ -3,7 +3,8 @@ use Prim.Native.Nat.{ℕ}
 use mathlib.Core.List.{List}
 use mathlib.Core.Logic.{_≢_}
 use mathlib.Core.Path.{_≡_}
-use Rattle.stepwise.specs.Inner.Steps.{afterAt, knownAfter, closing, following, rising}
+use Rattle.formats.specs.Arithmetic.{plus}
+use Rattle.stepwise.specs.Inner.Steps.{slotAt, parentAt, afterAt, wordAt, knownAfter, closing, computing, following, rising}
 use Rattle.stages.specs.declared.Stage.{Stage}
 use Rattle.stages.specs.Inner.Stages.{stateOf, Reaches}
 
@@ -20,6 +21,12 @@ pub record Knows (T input : List ℕ) (r own : ℕ) (s : Stage) (k : ℕ) : Type
 -- A call closes, and the one that waits goes on.
 pub record Closes (T input returns : List ℕ) (s r : Stage) : Type 0 where
   pub is : (values : List ℕ) → Reaches (closing T input (s .number) (stateOf values returns s)) values values returns returns s r
+
+-- The operation on the number kept and the record's number.
+pub record Adds (T values : List ℕ) (s r : Stage) : Type 0 where
+  pub is : (returns : List ℕ)
+      → Reaches (computing plus (wordAt (stateOf values returns s) (slotAt T (s .node))) (s .number) (parentAt T (s .node)) (stateOf values returns s))
+      values values returns returns s r
 
 -- The record of the part that IfZero takes.
 pub record Picks (T : List ℕ) (s : Stage) (r : ℕ) : Type 0 where

@@ -2,7 +2,8 @@
 -- instructions then are, with their addresses and words: translation, Templates.
 use Prim.Native.Nat.{ℕ, zero, suc}
 use mathlib.Core.List.{List, [], _∷_}
-use Rattle.formats.specs.Records.{Kind, Const, Var, Add, IfZero, Let, Leaf, Node, Case, Call}
+use Rattle.formats.specs.Arithmetic.{Op}
+use Rattle.formats.specs.Records.{Kind, Const, Var, Compute, IfZero, Let, Leaf, Node, Case, Call}
 
 -- An item of the column that is not a part. In the column, L is where the last part begins, and M
 -- is after the whole.
@@ -12,7 +13,7 @@ pub data Item : Type 0 where
   -- "get", of name a
   getName : ℕ → Item
   -- "add"
-  addTwo : Item
+  computeTwo : (op : Op) → Item
   -- "ifnot L"
   ifnotLast : Item
   -- "jump M"
@@ -45,7 +46,7 @@ onlyLast items = record { first = []; second = []; third = []; last = items }
 unfoldable pub templateOf : Kind → Template
 templateOf (Const i) = onlyLast (pushNumber i ∷ [])
 templateOf (Var a) = onlyLast (getName a ∷ [])
-templateOf Add = onlyLast (addTwo ∷ [])
+templateOf (Compute op) = onlyLast (computeTwo op ∷ [])
 templateOf IfZero = record { first = []; second = ifnotLast ∷ []; third = jumpAfter ∷ []; last = [] }
 templateOf Let = onlyLast (endName ∷ [])
 templateOf Leaf = record { first = writeLeafTag ∷ []; second = []; third = []; last = writeNumber ∷ [] }

@@ -1,10 +1,10 @@
 -- What the machine's answers report.
 use Prim.Native.Nat.{ℕ, _+_}
-use mathlib.Core.Bool.{true, false, _&&_}
+use mathlib.Core.Bool.{true, false, _&&_, _||_}
 use mathlib.Core.List.{List}
 use mathlib.Core.Path.{_≡_}
 use lib.Dec.{eqb, leb}
-use Rattle.formats.specs.Refusals.{inputEnded, tooManyCalls, cannotPerform}
+use Rattle.formats.specs.Refusals.{inputEnded, tooManyCalls, cannotPerform, outOfRange}
 use Rattle.formats.specs.Results.{done, refusal}
 use Rattle.refusal.specs.Inner.Verdicts.{verdictResult}
 use Rattle.meaning.specs.Performing.{numberKept}
@@ -19,9 +19,9 @@ abbrev pub runAnswer : Answer → Due
 runAnswer a =
     record { outcome = verdictResult (a .verdict); units = a .units; bytesRead = a .read; bytesWritten = a .written; number = a .number }
 
--- The refusal that a stop's number names: 15 to 18, else 19.
+-- The refusal that a stop's number names: 15 to 18 and 21, else 19.
 unfoldable pub refusalNumber : ℕ → ℕ
-refusalNumber stop = elim (leb inputEnded stop && leb stop tooManyCalls) [ true ↦ stop | false ↦ cannotPerform ]
+refusalNumber stop = elim ((leb inputEnded stop && leb stop tooManyCalls) || eqb stop outOfRange) [ true ↦ stop | false ↦ cannotPerform ]
 
 -- The answer that is due where the machine stops after `units` instructions. The return that ends a
 -- run counts as one more; an instruction that is refused does not.

@@ -5,7 +5,7 @@ use mathlib.Core.Bool.{Bool, true, false}
 use mathlib.Core.List.{List, []}
 use lib.Dec.{leb}
 use lib.ListN.{set, take}
-use Rattle.formats.specs.Records.{Kind, Const, Var, Add, IfZero, Let, Leaf, Node, Case, Call, Part, aNumber, aTree, asWhole, underNumber, underTrees}
+use Rattle.formats.specs.Records.{Kind, Const, Var, Compute, IfZero, Let, Leaf, Node, Case, Call, Part, aNumber, aTree, asWhole, underNumber, underTrees}
 use Rattle.stepwise.specs.Inner.Rows.{kept, lastArgument, lastWord, roleOf, slotOf, Location as LocationThere}
 use Rattle.part_locations.specs.declared.Location.{Location}
 
@@ -42,8 +42,8 @@ depthInside underTrees depth = capped (depth + 1)
 unfoldable pub keepsInside : Kind → (i keeps : ℕ) → ℕ
 keepsInside (Const c) i keeps = keeps
 keepsInside (Var a) i keeps = keeps
-keepsInside Add zero keeps = keeps
-keepsInside Add (suc i) keeps = capped (keeps + 1)
+keepsInside (Compute op) zero keeps = keeps
+keepsInside (Compute op) (suc i) keeps = capped (keeps + 1)
 keepsInside IfZero i keeps = keeps
 keepsInside Let i keeps = keeps
 keepsInside Leaf i keeps = keeps

@@ -3,7 +3,7 @@
 use Prim.Native.Nat.{ℕ, _+_, _%_}
 use mathlib.Core.List.{List}
 use lib.ListN.{take}
-use Rattle.formats.specs.Records.{Kind, Const, Var, Add, IfZero, Let, Leaf, Node, Case, Call}
+use Rattle.formats.specs.Records.{Kind, Const, Var, Compute, IfZero, Let, Leaf, Node, Case, Call}
 use Rattle.formats.specs.Inner.Fields.{headerIn, arityIn}
 use Rattle.functions.specs.Inner.Counts.{countsFrom}
 use Rattle.stepwise.specs.Inner.Rows.{actionOf, namingCode, moreOf}
@@ -18,7 +18,7 @@ firstIn s b = 1 + headerIn s .functions + countsFrom b s 0
 unfoldable pub operandIn : List ℕ → (names : ℕ) → Kind → ℕ
 operandIn s names (Const i) = i % 65536
 operandIn s names (Var a) = a
-operandIn s names Add = 0
+operandIn s names (Compute op) = 0
 operandIn s names IfZero = 0
 operandIn s names Let = 0
 operandIn s names Leaf = 0
@@ -30,7 +30,7 @@ operandIn s names (Call a b) = firstIn s b % 65536
 unfoldable pub treeIn : (cases : List ℕ) → (depth : ℕ) → Kind → ℕ
 treeIn cases depth (Const i) = 0
 treeIn cases depth (Var a) = 0
-treeIn cases depth Add = 0
+treeIn cases depth (Compute op) = 0
 treeIn cases depth IfZero = 0
 treeIn cases depth Let = 0
 treeIn cases depth Leaf = 0

@@ -4,11 +4,12 @@ use Prim.Native.Nat.{ℕ, _+_, _*_, _≤_}
 use mathlib.Core.List.{List, [], _∷_}
 use mathlib.Core.Path.{_≡_}
 use lib.ListN.{length, getD}
+use Rattle.formats.specs.Arithmetic.{plus}
 use Rattle.formats.specs.Numbers.{numberAt}
 use Rattle.formats.specs.Results.{Result, done, refusal, onValue}
 use Rattle.formats.specs.Records.{Kind, fields, recordBytes, nodeRecord, aNumber, aTree, asWhole, underNumber, underTrees, these, argumentsOf, partsOf}
 use Rattle.formats.specs.Records.{Part as PartOfKind, Parts as PartsOfKind}
-use Rattle.formats.specs.Inner.CodeColumn.{pushNumber, getName, addTwo, ifnotLast, jumpAfter, endName, writeLeafTag, writeNodeTag, writeNumber, readTagLast, readNumber, callFunction, templateOf}
+use Rattle.formats.specs.Inner.CodeColumn.{pushNumber, getName, computeTwo, ifnotLast, jumpAfter, endName, writeLeafTag, writeNodeTag, writeNumber, readTagLast, readNumber, callFunction, templateOf}
 use Rattle.formats.specs.Inner.CodeColumn.{Item as ItemOfColumn, Template as TemplateOfKind}
 use Rattle.formats.specs.Records.{Const as aConst, Var as aVar, Add as anAdd, IfZero as anIfZero, Let as aLet, Leaf as aLeaf, Node as aNode, Case as aCase, Call as aCall}
 use Rattle.refusal.specs.Inner.Numbers.{number}
@@ -56,7 +57,7 @@ listed (Arguments b) = argumentsOf b
 abbrev pub itemOf : Item → ItemOfColumn
 itemOf (item.Push i) = pushNumber i
 itemOf (item.Get a) = getName a
-itemOf item.Add = addTwo
+itemOf item.Add = computeTwo plus
 itemOf item.Ifnot = ifnotLast
 itemOf item.Jump = jumpAfter
 itemOf item.End = endName

@@ -2,9 +2,9 @@
 use Prim.Native.Nat.{ℕ}
 use Rattle.refusal.specs.declared.Refusal.{Refusal}
 use Rattle.refusal.specs.declared.Refusal.the-variants.{FileLength, BlockCheck, BlockField, HeaderField, FunctionField, NodeField, PrefixForm, WrongType, NotBound, TooManyWords}
-use Rattle.refusal.specs.declared.Refusal.the-variants.{OutOfOrder, TooManyPending, SpaceTooShort, FuelUsedUp, InputEnded, NotATag, OutputFull, TooManyCalls, CannotPerform, TooDeep}
+use Rattle.refusal.specs.declared.Refusal.the-variants.{OutOfOrder, TooManyPending, SpaceTooShort, FuelUsedUp, InputEnded, NotATag, OutputFull, TooManyCalls, CannotPerform, TooDeep, OutOfRange}
 use Rattle.formats.specs.Refusals.{fileLength, blockCheck, blockField, headerField, functionField, nodeField, prefixForm, wrongType, notBound, tooManyWords}
-use Rattle.formats.specs.Refusals.{outOfOrder, tooManyPending, spaceTooShort, fuelUsedUp, inputEnded, notATag, outputFull, tooManyCalls, cannotPerform, tooDeep}
+use Rattle.formats.specs.Refusals.{outOfOrder, tooManyPending, spaceTooShort, fuelUsedUp, inputEnded, notATag, outputFull, tooManyCalls, cannotPerform, tooDeep, outOfRange}
 
 abbrev pub number : Refusal → ℕ
 number FileLength = fileLength
@@ -27,3 +27,4 @@ number OutputFull = outputFull
 number TooManyCalls = tooManyCalls
 number CannotPerform = cannotPerform
 number TooDeep = tooDeep
+number OutOfRange = outOfRange

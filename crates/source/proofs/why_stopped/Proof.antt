@@ -8,4 +8,5 @@ why-stopped-spec =
     tie.close
     (tie.spec
     (λ c. search stopping)
+    (λ c. search stopping)
     (λ c. search stopping))

@@ -2,11 +2,10 @@
 use Prim.Native.Nat.{ℕ, suc, _≤_, _<_}
 use mathlib.Core.Bool.{true, false}
 use mathlib.Core.List.{List, []}
-use mathlib.Core.Logic.{_⊎_}
 use mathlib.Core.Path.{_≡_}
 use lib.Dec.{leb}
 use lib.ListN.{length}
-use Rattle.formats.specs.Refusals.{fuelUsedUp, outputFull, tooManyCalls}
+use Rattle.formats.specs.Refusals.{outputFull}
 use Rattle.formats.specs.Results.{done, refusal}
 use Rattle.formats.specs.Blocks.{flatIn}
 use Rattle.formats.specs.Written.{written}
@@ -14,8 +13,8 @@ use Rattle.refusal.specs.Inner.Verdicts.{verdictResult}
 use Rattle.refusal.specs.Inner.Numbers.{number as numberOf}
 use Rattle.refusal.specs.declared.Refusal.{Refusal}
 use Rattle.meaning.specs.Running.{valueWords, returnWords}
-use Rattle.meaning.specs.OpenCalls.{Outcome, gives, stops, begins, withFuel}
-use Rattle.meaning.specs.SourceRun.{SourceRan, refusedAfter, sourceRun, SourceAnswer as Due}
+use Rattle.meaning.specs.OpenCalls.{Reason, refusalOf, Outcome, gives, stops, begins, withFuel}
+use Rattle.meaning.specs.SourceRun.{SourceRan, refusedAfter, positionOf, sourceRun, SourceAnswer as Due}
 use Rattle.meaning.specs.WorkWords.{beforeSource, WorkWords}
 use Rattle.stepwise.specs.Inner.Steps.{begin}
 use Rattle.stepwise.specs.Inner.Outcomes.{Reported, Comes}
@@ -33,9 +32,9 @@ pub record Gave (due : SourceRan) (output′ : List ℕ) (r : SourceAnswer) : Ty
   pub output : output′ ≡ due .output
   pub late : (number position : ℕ) → due .answer .outcome ≡ refusal number position → beforeSource number ≡ false
 
--- The refusal of a walk that stops with this number, 14 or 18.
+-- The refusal of a walk that stops with this number, where it is the number of a reason to stop.
 pub record Named (stop : ℕ) (why : Refusal) : Type 0 where
-  pub is : (stop ≡ fuelUsedUp) ⊎ (stop ≡ tooManyCalls) → numberOf why ≡ stop
+  pub is : (reason : Reason) → stop ≡ refusalOf reason → numberOf why ≡ stop
 
 -- The length of a buffer, which is below 2^63.
 pub record Room (l : List ℕ) (r : ℕ) : Type 0 where
@@ -60,7 +59,7 @@ reportedResult begun t output =
 -- What a source run gives whose steps come to this outcome, after `begun` expressions.
 unfoldable pub reportSteps : ℕ → Outcome Reported → List ℕ → SourceRan
 reportSteps begun (gives t) output = reportedResult begun t output
-reportSteps begun (stops why r) output = refusedAfter begun why 0 output
+reportSteps begun (stops why r) output = refusedAfter begun (refusalOf why) (positionOf why r) output
 reportSteps begun (begins o) output = reportSteps (suc begun) o output
 
 -- Whatever enough words hold, the steps from this record on come to the outcome.

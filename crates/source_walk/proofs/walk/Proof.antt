@@ -22,5 +22,5 @@ walk-spec =
     (λ c. walk-first _ _ _ _ _ _ _ (omega arith)) (λ c κs. search needs) (λ c. search needs) (λ c κs. search needs) (λ c. search (needs, walk-lengths)) (λ c. search (needs, walk-lengths))
     (λ c. search (needs, walk-lengths))
     (λ c. search walks)
-    (λ c. search needs) (λ c. search walks) (λ c. search needs) (λ c. search needs) (λ c. search needs)
+    (λ c. search needs) (λ c. search walks) (λ c κs. search needs) (λ c. search needs) (λ c. search needs) (λ c. search needs)
     (λ c. search walks))

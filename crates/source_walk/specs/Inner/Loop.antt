@@ -6,11 +6,11 @@ use mathlib.Core.List.{List}
 use mathlib.Core.Path.{_≡_}
 use lib.Dec.{eqb, ltb}
 use lib.ListN.{length}
-use Rattle.formats.specs.Refusals.{fuelUsedUp, tooManyCalls}
+use Rattle.formats.specs.Refusals.{fuelUsedUp, tooManyCalls, outOfRange}
 use Rattle.formats.specs.Written.{written}
 use Rattle.stepwise.specs.Inner.Steps.{Turn, emittedFirst, rising, emittedLast}
 use Rattle.stages.specs.declared.Stage.{Stage}
-use Rattle.stages.specs.Inner.Stages.{toBegin, isFinished, toOpen, hasEnded, isStuck, stateOf, staged, withWritten, stageOf, wordsOf, returnsOf}
+use Rattle.stages.specs.Inner.Stages.{toBegin, isFinished, toOpen, hasEnded, isStuck, isBroken, stateOf, staged, withWritten, stageOf, wordsOf, returnsOf}
 use Rattle.begin_record.specs.Inner.Begins.{begunTurn}
 use Rattle.open_call.specs.Inner.Opens.{openedTurn}
 use Rattle.result_bytes.specs.Inner.Bytes.{countLimit, counted}
@@ -80,13 +80,17 @@ module _ (T input : List ℕ) where
 
 -- ---- the whole walk
 
+-- The answer of a walk that is refused.
+abbrev pub refusedWith : (stop position begun : ℕ) → Walked
+refusedWith stop position begun = record { stop = stop; position = position; begun = begun; written = 0; number = 0 }
+
 -- What a walk that stops at this stage answers. A program's rows lead to no stuck stage, so a walk
--- that has not ended has come to a call too many.
+-- that has neither ended nor come to an operation without a result has come to a call too many.
 unfoldable pub answerWith : Stage → ℕ → Walked
 answerWith s begun =
     elim (eqb (s .mode) hasEnded) [
-      | true ↦ record { stop = 0; begun = begun; written = s .written; number = s .number }
-      | false ↦ record { stop = tooManyCalls; begun = begun; written = 0; number = 0 }
+      | true ↦ record { stop = 0; position = 0; begun = begun; written = s .written; number = s .number }
+      | false ↦ elim (eqb (s .mode) isBroken) [ true ↦ refusedWith outOfRange (s .node) begun | false ↦ refusedWith tooManyCalls 0 begun ]
     ]
 
 -- The answer, and the buffers after it.
@@ -99,7 +103,7 @@ ending answer last = record { answer = answer; last = last }
 
 -- The walk with `fuel` left, after `begun` expressions.
 unfoldable pub walking : (T input : List ℕ) → (fuel begun : ℕ) → Run → Ending
-walking T input zero begun p = ending (record { stop = fuelUsedUp; begun = begun; written = 0; number = 0 }) p
+walking T input zero begun p = ending (refusedWith fuelUsedUp 0 begun) p
 walking T input (suc fuel) begun p =
     elim (eqb (turned T input p .stage .mode) toBegin) [
       | true ↦ walking T input fuel (suc begun) (turned T input p)

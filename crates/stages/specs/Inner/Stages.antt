@@ -5,7 +5,8 @@ use mathlib.Core.List.{List}
 use mathlib.Core.Path.{_≡_}
 use lib.Dec.{eqb}
 use lib.ListN.{length}
-use Rattle.stepwise.specs.Inner.Steps.{State, Turn, begin, finished, opens, ended, deep, stuck}
+use Rattle.formats.specs.Arithmetic.{Op, plus}
+use Rattle.stepwise.specs.Inner.Steps.{State, Turn, begin, finished, opens, ended, deep, broken, stuck}
 use Rattle.stages.specs.declared.Stage.{Stage}
 
 -- The modes of a stage: what is to be done next.
@@ -27,12 +28,23 @@ tooManyOpen = 4
 abbrev pub isStuck : ℕ
 isStuck = 5
 
+abbrev pub isBroken : ℕ
+isBroken = 6
+
 abbrev pub stateOf : (values returns : List ℕ) → Stage → State
 stateOf values returns s = record { words = values; returns = returns; calls = s .calls; tree = s .tree; known = s .known; end = s .end }
 
--- The turn that a stage and the lent words stand for.
-unfoldable pub turnOf : (values returns : List ℕ) → Stage → Turn
-turnOf values returns s =
+-- A result that is missing, by its operation and the two numbers. A broken turn has these, its
+-- stage has not.
+pub record Missing : Type 0 where
+  pub op : Op
+  pub i : ℕ
+  pub j : ℕ
+
+-- The turn that a stage and the lent words stand for, with the result that is missing where the
+-- stage is broken.
+unfoldable pub turnOf : Missing → (values returns : List ℕ) → Stage → Turn
+turnOf m values returns s =
     elim (eqb (s .mode) toBegin) [
       | true ↦ begin (s .node) (stateOf values returns s)
       | false ↦
@@ -44,7 +56,11 @@ turnOf values returns s =
                   | false ↦
                       elim (eqb (s .mode) hasEnded) [
                         | true ↦ ended (s .number)
-                        | false ↦ elim (eqb (s .mode) tooManyOpen) [ true ↦ deep (s .node) | false ↦ stuck ]
+                        | false ↦
+                            elim (eqb (s .mode) tooManyOpen) [
+                              | true ↦ deep (s .node)
+                              | false ↦ elim (eqb (s .mode) isBroken) [ true ↦ broken (m .op) (m .i) (m .j) (s .node) | false ↦ stuck ]
+                            ]
                       ]
                 ]
           ]
@@ -75,6 +91,7 @@ stageOf s (finished r x t) = inState t isFinished r x (s .written)
 stageOf s (opens r t) = inState t toOpen r 0 (s .written)
 stageOf s (ended x) = staged s hasEnded 0 x
 stageOf s (deep r) = staged s tooManyOpen r 0
+stageOf s (broken op i j r) = staged s isBroken r 0
 stageOf s stuck = staged s isStuck (s .node) 0
 
 -- The value words before a turn: those of its state, or where it has none, those that there were.
@@ -84,6 +101,7 @@ wordsOf values (finished r x t) = t .words
 wordsOf values (opens r t) = t .words
 wordsOf values (ended x) = values
 wordsOf values (deep r) = values
+wordsOf values (broken op i j r) = values
 wordsOf values stuck = values
 
 -- .. and the return words.
@@ -93,7 +111,21 @@ returnsOf returns (finished r x t) = t .returns
 returnsOf returns (opens r t) = t .returns
 returnsOf returns (ended x) = returns
 returnsOf returns (deep r) = returns
+returnsOf returns (broken op i j r) = returns
 returnsOf returns stuck = returns
+
+-- The result that is missing in a turn; any where none is.
+abbrev pub noneMissing : Missing
+noneMissing = record { op = plus; i = 0; j = 0 }
+
+unfoldable pub missingIn : Turn → Missing
+missingIn (begin r t) = noneMissing
+missingIn (finished r x t) = noneMissing
+missingIn (opens r t) = noneMissing
+missingIn (ended x) = noneMissing
+missingIn (deep r) = noneMissing
+missingIn (broken op i j r) = record { op = op; i = i; j = j }
+missingIn stuck = noneMissing
 
 -- A step from the stage s to the turn t: the stage r and the words after it (primed). The words
 -- keep their number.

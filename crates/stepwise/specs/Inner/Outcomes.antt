@@ -2,10 +2,10 @@
 -- them.
 use Prim.Native.Nat.{ℕ, _<_}
 use mathlib.Core.List.{List, _++_}
-use Rattle.formats.specs.Refusals.{tooManyCalls}
+use Rattle.formats.specs.Arithmetic.{Op}
 use Rattle.meaning.specs.Evaluation.{Value, resultBytes, resultNumber}
-use Rattle.meaning.specs.OpenCalls.{Outcome, gives, stops, begins}
-use Rattle.stepwise.specs.Inner.Steps.{State, Turn, begin, finished, opens, ended, deep, Found, recordLimit, treeAt, beginning, emittedFirst, rising, emittedLast, weight, opening}
+use Rattle.meaning.specs.OpenCalls.{no-call, no-result, Outcome, gives, stops, begins}
+use Rattle.stepwise.specs.Inner.Steps.{State, Turn, begin, finished, opens, ended, deep, broken, Found, recordLimit, treeAt, beginning, emittedFirst, rising, emittedLast, weight, opening}
 
 -- The result as it is reported: its number and its bytes.
 pub record Reported : Type 0 where
@@ -40,4 +40,5 @@ pub data Comes (T input : List ℕ) : List ℕ → Turn → Outcome Reported →
       → Comes T input out (opening T p r s) o
       → Comes T input out (opens r s) o
   at-end : {out : List ℕ} {x : ℕ} → Comes T input out (ended x) (gives (reported x out))
-  at-deep : {out : List ℕ} {r : ℕ} → Comes T input out (deep r) (stops tooManyCalls r)
+  at-deep : {out : List ℕ} {r : ℕ} → Comes T input out (deep r) (stops no-call r)
+  at-broken : {out : List ℕ} {op : Op} {i j r : ℕ} → Comes T input out (broken op i j r) (stops (no-result op i j) r)

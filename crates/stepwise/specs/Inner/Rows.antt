@@ -9,8 +9,9 @@ use mathlib.Core.Bool.{true, false}
 use mathlib.Core.List.{List, [], _∷_, _++_}
 use lib.Dec.{eqb}
 use lib.ListN.{length, getD}
-use Rattle.formats.specs.Records.{Kind, Const, Var, Add, IfZero, Let, Leaf, Node, Case, Call}
-use Rattle.formats.specs.Programs.{Expr, const, var, add, ifZero, letIn, leafOf, nodeOf, caseOf, call, Args, noArgs, arg, size, arityOf, Function, Program, signatures}
+use Rattle.formats.specs.Arithmetic.{Op, plus}
+use Rattle.formats.specs.Records.{Kind, Const, Var, Compute, IfZero, Let, Leaf, Node, Case, Call}
+use Rattle.formats.specs.Programs.{Expr, const, var, compute, ifZero, letIn, leafOf, nodeOf, caseOf, call, Args, noArgs, arg, size, arityOf, Function, Program, signatures}
 use Rattle.formats.specs.Written.{written}
 use Rattle.meaning.specs.OpenCalls.{firstRecord}
 
@@ -28,6 +29,10 @@ kept = 1
 -- Its number is added to the one kept: Add's second part.
 abbrev pub added : ℕ
 added = 2
+
+-- The role of the second part of each operation.
+unfoldable pub secondOf : Op → ℕ
+secondOf plus = added
 
 -- Its number decides which part begins: IfZero's first part.
 abbrev pub tested : ℕ
@@ -97,7 +102,7 @@ callsFunction = 5
 unfoldable pub actionOf : Kind → ℕ
 actionOf (Const i) = givesConstant
 actionOf (Var a) = givesNamed
-actionOf Add = entersPart
+actionOf (Compute op) = entersPart
 actionOf IfZero = entersPart
 actionOf Let = entersPart
 actionOf Leaf = entersPart
@@ -118,8 +123,8 @@ module _ (entry arity : ℕ → ℕ) where
   unfoldable pub roleOf : Kind → ℕ → ℕ
   roleOf (Const c) i = passed
   roleOf (Var a) i = passed
-  roleOf Add zero = kept
-  roleOf Add (suc i) = added
+  roleOf (Compute op) zero = kept
+  roleOf (Compute op) (suc i) = secondOf op
   roleOf IfZero zero = tested
   roleOf IfZero (suc i) = passed
   roleOf Let zero = kept
@@ -134,7 +139,7 @@ module _ (entry arity : ℕ → ℕ) where
   unfoldable pub slotOf : Location → Kind → ℕ → ℕ
   slotOf p (Const c) i = 0
   slotOf p (Var a) i = 0
-  slotOf p Add i = lastWord - p .keeps
+  slotOf p (Compute op) i = lastWord - p .keeps
   slotOf p IfZero i = 0
   slotOf p Let i = p .names
   slotOf p Leaf i = 0
@@ -146,7 +151,7 @@ module _ (entry arity : ℕ → ℕ) where
   unfoldable pub namesIn : Location → Kind → ℕ → ℕ
   namesIn p (Const c) i = p .names
   namesIn p (Var a) i = p .names
-  namesIn p Add i = p .names
+  namesIn p (Compute op) i = p .names
   namesIn p IfZero i = p .names
   namesIn p Let zero = p .names
   namesIn p Let (suc i) = suc (p .names)
@@ -160,8 +165,8 @@ module _ (entry arity : ℕ → ℕ) where
   unfoldable pub keepsIn : Location → Kind → ℕ → ℕ
   keepsIn p (Const c) i = p .keeps
   keepsIn p (Var a) i = p .keeps
-  keepsIn p Add zero = p .keeps
-  keepsIn p Add (suc i) = suc (p .keeps)
+  keepsIn p (Compute op) zero = p .keeps
+  keepsIn p (Compute op) (suc i) = suc (p .keeps)
   keepsIn p IfZero i = p .keeps
   keepsIn p Let i = p .keeps
   keepsIn p Leaf i = p .keeps
@@ -173,7 +178,7 @@ module _ (entry arity : ℕ → ℕ) where
   unfoldable pub casesIn : Location → Kind → ℕ → ℕ → List ℕ
   casesIn p (Const c) r i = p .cases
   casesIn p (Var a) r i = p .cases
-  casesIn p Add r i = p .cases
+  casesIn p (Compute op) r i = p .cases
   casesIn p IfZero r i = p .cases
   casesIn p Let r i = p .cases
   casesIn p Leaf r i = p .cases
@@ -201,7 +206,7 @@ module _ (entry arity : ℕ → ℕ) where
   unfoldable pub operandOf : Location → Kind → ℕ
   operandOf p (Const i) = i % 65536
   operandOf p (Var a) = a
-  operandOf p Add = 0
+  operandOf p (Compute op) = 0
   operandOf p IfZero = 0
   operandOf p Let = 0
   operandOf p Leaf = 0
@@ -213,7 +218,7 @@ module _ (entry arity : ℕ → ℕ) where
   unfoldable pub treeOf : Location → Kind → ℕ
   treeOf p (Const i) = 0
   treeOf p (Var a) = 0
-  treeOf p Add = 0
+  treeOf p (Compute op) = 0
   treeOf p IfZero = 0
   treeOf p Let = 0
   treeOf p Leaf = 0
@@ -225,7 +230,7 @@ module _ (entry arity : ℕ → ℕ) where
   unfoldable pub moreOf : Kind → ℕ
   moreOf (Const i) = i / 65536
   moreOf (Var a) = 0
-  moreOf Add = 0
+  moreOf (Compute op) = 0
   moreOf IfZero = 0
   moreOf Let = 0
   moreOf Leaf = 0
@@ -243,9 +248,9 @@ module _ (entry arity : ℕ → ℕ) where
     pub rowsOf : Location → ℕ → Expr → List ℕ
     rowsOf p r (const i) = rowOf p (suc r) (Const i)
     rowsOf p r (var a) = rowOf p (suc r) (Var a)
-    rowsOf p r (add x y) =
-        rowOf p (suc r + size x + size y) Add
-        ++ (rowsOf (partLocation p Add r 0) (suc r) x ++ rowsOf (partLocation p Add r 1) (suc r + size x) y)
+    rowsOf p r (compute op x y) =
+        rowOf p (suc r + size x + size y) (Compute op)
+        ++ (rowsOf (partLocation p (Compute op) r 0) (suc r) x ++ rowsOf (partLocation p (Compute op) r 1) (suc r + size x) y)
     rowsOf p r (ifZero t z o) =
         rowOf p (suc r + size t + size z + size o) IfZero
         ++ (rowsOf (partLocation p IfZero r 0) (suc r) t

@@ -8,10 +8,12 @@ use Prim.Native.Nat.{ℕ, zero, suc, _+_, _-_, _*_, _/_, _%_, _<_}
 use mathlib.Core.Bool.{Bool, true, false, _&&_}
 use mathlib.Core.List.{List, [], _∷_}
 use mathlib.Core.Logic.{_≢_}
+use mathlib.Core.Option.{none, some}
 use mathlib.Core.Path.{_≡_}
 use lib.Dec.{eqb, leb, ltb}
 use lib.ListN.{length, getD, set, drop}
-use Rattle.formats.specs.Numbers.{sum32, numberAt}
+use Rattle.formats.specs.Numbers.{numberAt}
+use Rattle.formats.specs.Arithmetic.{Op, plus, resultOf}
 use Rattle.formats.specs.Results.{done}
 use Rattle.formats.specs.Tokens.{leaf, leafTag, nodeTag, tokens, firstEnd}
 use Rattle.formats.specs.Inner.Trees.{leafBytes}
@@ -52,6 +54,8 @@ pub data Turn : Type 0 where
   ended : ℕ → Turn
   -- the call at this record is one too many
   deep : ℕ → Turn
+  -- the operation at this record has no result on these two numbers
+  broken : (op : Op) (i j r : ℕ) → Turn
   -- the rows lead nowhere, which a program's rows never do
   stuck : Turn
 
@@ -226,6 +230,10 @@ following T r x s =
           ]
     ]
 
+-- The operation at record r is finished, with its result; or it has none.
+unfoldable pub computing : Op → (i j r : ℕ) → State → Turn
+computing op i j r s = elim (resultOf op i j) [ some y ↦ finished r y s | none ↦ broken op i j r ]
+
 -- The turn after record r is finished with number x, by its role.
 unfoldable pub rising : List ℕ → List ℕ → ℕ → ℕ → State → Turn
 rising T input r x s =
@@ -236,7 +244,7 @@ rising T input r x s =
             | true ↦ begin (afterAt T r) (withWord s (slotAt T r) x)
             | false ↦
                 elim (eqb (roleAt T r) added) [
-                  | true ↦ finished (parentAt T r) (sum32 (wordAt s (slotAt T r)) x) s
+                  | true ↦ computing plus (wordAt s (slotAt T r)) x (parentAt T r) s
                   | false ↦
                       elim (eqb (roleAt T r) tested) [
                         | true ↦ elim (eqb x 0) [ true ↦ begin (afterAt T r) s | false ↦ begin (afterAt T (afterAt T r)) s ]
@@ -258,6 +266,7 @@ weight (finished r x s) = suc (65536 * s .calls + r)
 weight (opens r s) = 0
 weight (ended x) = 0
 weight (deep r) = 0
+weight (broken op i j r) = 0
 weight stuck = 0
 
 -- ---- a call opens

@@ -3,8 +3,8 @@ use Prim.Native.Nat.{ℕ, suc, _+_, _≤_}
 use mathlib.Core.List.{List, [], _∷_}
 use mathlib.Core.Path.{_≡_}
 use Rattle.formats.specs.Results.{Result, done, andThen, each}
-use Rattle.formats.specs.Records.{Kind, Const, Var, Add, IfZero, Let, Leaf, Node, Case, Call}
-use Rattle.formats.specs.Programs.{Expr, const, var, add, ifZero, letIn, leafOf, nodeOf, caseOf, call, prefix, size, Placed, placedAt, CallsComplete, Every, InRange, Signature, signatureOf, Function, arityOf}
+use Rattle.formats.specs.Records.{Kind, Const, Var, Compute, IfZero, Let, Leaf, Node, Case, Call}
+use Rattle.formats.specs.Programs.{Expr, const, var, compute, ifZero, letIn, leafOf, nodeOf, caseOf, call, prefix, size, Placed, placedAt, CallsComplete, Every, InRange, Signature, signatureOf, Function, arityOf}
 use Rattle.formats.specs.Inner.Fields.{headerIn, functionIn}
 use Rattle.formats.specs.ProgramFiles.{RecordsAt}
 use Rattle.rules.specs.Scopes.{Scope, inside, entered}
@@ -20,7 +20,7 @@ Known s gs = each (functionIn s) (headerIn s .functions) 0 ≡ done gs
 unfoldable pub headOf : Expr → Kind
 headOf (const i) = Const i
 headOf (var a) = Var a
-headOf (add p q) = Add
+headOf (compute op p q) = Compute op
 headOf (ifZero t z o) = IfZero
 headOf (letIn p body) = Let
 headOf (leafOf p) = Leaf

@@ -1,0 +1,2 @@
+-- What contracts and proofs need, and nobody need believe.
+pub mod Sums

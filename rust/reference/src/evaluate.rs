@@ -1,5 +1,6 @@
 //! "The source evaluation": what a program gives for a tree, "without fuel or
-//! limits".
+//! limits". It ends, goes on for ever, or breaks off at a sum that is out of
+//! range.
 
 use crate::program::Program;
 use crate::tree::Tree;
@@ -62,6 +63,14 @@ pub enum Evaluation {
     },
     /// An expression more would begin than the caller allows.
     TooLong,
+    /// N3: "Such an evaluation has no result": the sum of the Add at that
+    /// record is out of range.
+    SumOutOfRange {
+        record: usize,
+        begun: u64,
+        /// The instructions that the templates perform before that add.
+        units: u64,
+    },
 }
 
 /// Evaluates a program that passes pass one on a tree, with at most so many
@@ -97,6 +106,7 @@ pub(crate) fn on_this_stack(
             begun: source.begun(),
         },
         Err(Halt::TooLong) => Evaluation::TooLong,
+        Err(Halt::SumOutOfRange) => source.out_of_range(),
     }
 }
 

@@ -16,6 +16,7 @@ pub mod random_damage;
 pub mod record_damage;
 pub mod runs;
 pub mod sources;
+pub mod sums;
 
 pub use bodies::Alphabet;
 pub use file_damage::FileDamage;
@@ -25,15 +26,20 @@ pub use record_damage::RecordDamage;
 pub use runs::any_run;
 pub use sources::any_source;
 
-/// Labels likely to be got wrong: the extremes, and labels whose bytes look
-/// like tags.
-pub const SPECIAL_LABELS: [i32; 10] = [
+/// Labels likely to be got wrong: the extremes, those next to them and their
+/// halves, which have sums just inside and just outside the range, and labels
+/// whose bytes look like tags.
+pub const SPECIAL_LABELS: [i32; 14] = [
     0,
     1,
     -1,
     2,
     i32::MIN,
     i32::MAX,
+    i32::MIN + 1,
+    i32::MAX - 1,
+    i32::MIN / 2,
+    i32::MAX / 2 + 1,
     0x0101_0101,
     0x0202_0202,
     0x0201_0201,

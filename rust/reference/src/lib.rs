@@ -14,6 +14,7 @@ pub mod program;
 pub mod random;
 pub mod run;
 pub mod source;
+pub mod sum;
 pub mod translate;
 pub mod tree;
 
@@ -33,6 +34,7 @@ pub use program::{FUNCTION_LIMIT, NODE_LIMIT, PARAMETER_LIMIT};
 pub use random::Random;
 pub use run::{run, RunCase};
 pub use source::{source, SourceCase, Sourced};
+pub use sum::{exact_sum, EndSums, SUM_OUT_OF_RANGE};
 pub use translate::{listing, translate, translate_into, translate_program};
 pub use tree::{
     read_tree, tree_bytes, tree_end, tree_refusal, Prefix, Refusal, Token, Tree, DEPTH_LIMIT,

@@ -1,6 +1,7 @@
 //! The stream run: any buffer run as code over an input, with fuel, into an
 //! output.
 
+use crate::sum::EndSums;
 use crate::tree::Refusal;
 
 mod instruction;
@@ -98,6 +99,7 @@ fn refused_13() -> (Ran, Trace) {
         address: 0,
         words: 0,
         open: 0,
+        end_sums: EndSums::default(),
         stop: Stop {
             mark: Mark::alone(Cause::WorkTooShort),
             hidden: None,

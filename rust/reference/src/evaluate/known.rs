@@ -1,5 +1,5 @@
 //! Evaluations with their results by hand: document 01's worked programs, its
-//! traps, and programs at the limits.
+//! traps, sums at the ends of the range, and programs at the limits.
 
 use crate::machine::known::programs::parsed;
 use crate::machine::known::text::{bytes, field};
@@ -42,6 +42,7 @@ pub fn in_order() -> Vec<Known> {
         tables::BRANCHES,
         tables::CALLS,
         tables::ENDLESS,
+        tables::SUMS,
     ];
     let mut all: Vec<Known> = tables.into_iter().flat_map(table).collect();
     all.extend(at_the_limits());
@@ -52,7 +53,8 @@ pub fn in_order() -> Vec<Known> {
 /// A table with an evaluation in each line: what it shows, the functions, the
 /// tokens of the tree in hexadecimal, and the result: `ended with NUMBER` or
 /// `ended` and `gave` the tokens, expressions `begun`, the most calls `open`,
-/// and `units`; or `too many` and the expressions `begun`.
+/// and `units`; or `too many` and the expressions `begun`; or `out of range at`
+/// a record, expressions `begun`, and `units`.
 fn table(text: &'static str) -> Vec<Known> {
     let lines = text.lines().filter(|line| !line.is_empty());
     lines.map(known).collect()
@@ -86,6 +88,13 @@ fn answer(text: &str) -> Evaluation {
         };
     }
     let first = text.split(", ").next().unwrap_or("");
+    if let Some(record) = first.strip_prefix("out of range at ") {
+        return Evaluation::SumOutOfRange {
+            record: parsed(record),
+            begun: count("begun"),
+            units: count("units"),
+        };
+    }
     let value = match first.strip_prefix("ended with ") {
         Some(number) => Value::Number(parsed(number)),
         None => Value::Tree(tree(&bytes(field(text, "gave").expect("a tree")))),

@@ -1,14 +1,16 @@
 //! The evaluation itself, by recursion on the expression and the tree.
 
 use crate::program::{Expr, Function, PARAMETER_LIMIT};
+use crate::sum::exact_sum;
 use crate::tree::Tree;
 
-use super::{Ended, Value};
+use super::{Ended, Evaluation, Value};
 
 /// Why an evaluation is given up.
 pub enum Halt {
     TooManyOpen,
     TooLong,
+    SumOutOfRange,
 }
 
 /// Where the names of an open call begin.
@@ -23,7 +25,10 @@ pub struct Source<'a> {
     most_open: usize,
     most_begun: u64,
     begun: u64,
+    /// The instructions that the templates have performed.
     units: u64,
+    /// The Add whose sum is out of range.
+    broken_at: Option<&'a Expr>,
     /// The calls open, and the greatest number of them so far.
     open: usize,
     greatest: usize,
@@ -43,6 +48,7 @@ impl<'a> Source<'a> {
             most_begun,
             begun: 0,
             units: 0,
+            broken_at: None,
             open: 0,
             greatest: 0,
             numbers: Vec::new(),
@@ -71,6 +77,20 @@ impl<'a> Source<'a> {
             value,
             begun: self.begun,
             open: self.greatest,
+            units: self.units,
+        }
+    }
+
+    /// Where the evaluation broke off. Function records stand before the
+    /// nodes, which stand "function by function, in prefix order".
+    pub fn out_of_range(&self) -> Evaluation {
+        let bodies = self.functions.iter();
+        let mut nodes = bodies.flat_map(|function| function.body.prefix());
+        let add = self.broken_at.expect("an Add");
+        let place = nodes.position(|node| std::ptr::eq(node, add));
+        Evaluation::SumOutOfRange {
+            record: 1 + self.functions.len() + place.expect("a node of the program"),
+            begun: self.begun,
             units: self.units,
         }
     }
@@ -112,16 +132,16 @@ impl<'a> Source<'a> {
         self.begin()?;
         match expr {
             Expr::IfZero(test, zero, other) => match self.take::<i32>(test)? {
-                0 => self.part_of(2, zero),
-                _ => self.part_of(1, other),
+                0 => self.part_of([1, 1], zero),
+                _ => self.part_of([1, 0], other),
             },
             Expr::Let(number, body) => {
                 let number = self.take(number)?;
-                self.with_number(1, number, body)
+                self.with_number([0, 1], number, body)
             }
             Expr::Case(a, leaf, node) => match self.tree_named(*a) {
-                Tree::Leaf(label) => self.with_number(4, *label, leaf),
-                Tree::Node(left, right) => self.with_trees(1, [left, right], node),
+                Tree::Leaf(label) => self.with_number([2, 2], *label, leaf),
+                Tree::Node(left, right) => self.with_trees([1, 0], [left, right], node),
             },
             Expr::Call(a, b, arguments) => {
                 let mut numbers = [0; PARAMETER_LIMIT];
@@ -129,23 +149,28 @@ impl<'a> Source<'a> {
                 for (number, argument) in numbers.iter_mut().zip(arguments) {
                     *number = self.take(argument)?;
                 }
-                self.units += 2;
-                self.call(*b, numbers, self.tree_named(*a))
+                self.units += 1;
+                let value = self.call(*b, numbers, self.tree_named(*a))?;
+                self.units += 1;
+                Ok(value)
             }
             _ => T::by_its_own_kinds(self, expr),
         }
     }
 
-    /// "IfZero, Let and Case have the value of the part taken last."
-    fn part_of<T: Given>(&mut self, units: u64, part: &'a Expr) -> Result<T, Halt> {
-        self.units += units;
-        self.take(part)
+    /// "IfZero, Let and Case have the value of the part taken last." Of their
+    /// instructions so many come before that part, and so many after it.
+    fn part_of<T: Given>(&mut self, [before, after]: [u64; 2], part: &'a Expr) -> Result<T, Halt> {
+        self.units += before;
+        let value = self.take(part)?;
+        self.units += after;
+        Ok(value)
     }
 
     /// The part last taken, where this number has the next name.
     fn with_number<T: Given>(
         &mut self,
-        units: u64,
+        units: [u64; 2],
         number: i32,
         part: &'a Expr,
     ) -> Result<T, Halt> {
@@ -159,7 +184,7 @@ impl<'a> Source<'a> {
     /// first".
     fn with_trees<T: Given>(
         &mut self,
-        units: u64,
+        units: [u64; 2],
         trees: [&'a Tree; 2],
         part: &'a Expr,
     ) -> Result<T, Halt> {
@@ -167,6 +192,14 @@ impl<'a> Source<'a> {
         let value = self.part_of(units, part)?;
         self.trees.truncate(self.trees.len() - trees.len());
         Ok(value)
+    }
+
+    /// The value of an Add, N3: "tested when both numbers stand".
+    fn sum(&mut self, add: &'a Expr, left: i32, right: i32) -> Result<i32, Halt> {
+        exact_sum(left, right).ok_or_else(|| {
+            self.broken_at = Some(add);
+            Halt::SumOutOfRange
+        })
     }
 
     fn number_named(&self, a: u8) -> i32 {
@@ -187,17 +220,18 @@ trait Given: Sized {
 
 impl Given for i32 {
     fn by_its_own_kinds<'a>(source: &mut Source<'a>, expr: &'a Expr) -> Result<i32, Halt> {
-        source.units += 1;
-        match expr {
-            Expr::Const(i) => Ok(*i),
-            Expr::Var(a) => Ok(source.number_named(*a)),
+        let number = match expr {
+            Expr::Const(i) => *i,
+            Expr::Var(a) => source.number_named(*a),
             Expr::Add(p, q) => {
-                let left: i32 = source.take(p)?;
+                let left = source.take(p)?;
                 let right = source.take(q)?;
-                Ok(left.wrapping_add(right))
+                source.sum(expr, left, right)?
             }
             _ => panic!("pass one: a number is expected"),
-        }
+        };
+        source.units += 1;
+        Ok(number)
     }
 }
 
@@ -205,8 +239,10 @@ impl Given for Tree {
     fn by_its_own_kinds<'a>(source: &mut Source<'a>, expr: &'a Expr) -> Result<Tree, Halt> {
         match expr {
             Expr::Leaf(number) => {
-                source.units += 2;
-                Ok(Tree::leaf(source.take(number)?))
+                source.units += 1;
+                let leaf = Tree::leaf(source.take(number)?);
+                source.units += 1;
+                Ok(leaf)
             }
             Expr::Node(p, q) => {
                 source.units += 1;

@@ -47,6 +47,23 @@ fn known_evaluations_at_their_limits() {
     }
 }
 
+/// An evaluation that breaks off does so with just as many expressions
+/// allowed, and is given up with fewer.
+#[test]
+fn known_evaluations_that_break_off_at_their_limits() {
+    let mut count = 0;
+    for known in known::all() {
+        let Evaluation::SumOutOfRange { begun, .. } = known.answer else {
+            continue;
+        };
+        let with = |begun| evaluate(&known.program, &known.tree, known.most_open, begun);
+        assert_eq!(with(begun), known.answer, "{}", known.name);
+        assert_eq!(with(begun - 1), Evaluation::TooLong, "{}", known.name);
+        count += 1;
+    }
+    assert!(count >= 15, "{count}");
+}
+
 #[test]
 fn bytes_and_numbers() {
     assert_eq!(Value::Number(-1).bytes(), []);

@@ -12,7 +12,8 @@ use super::{label, left_caterpillar, mixed_caterpillar, right_caterpillar, tree}
 #[cfg(test)]
 mod tests;
 
-/// Numbers that are often equal or sum to 0.
+/// Numbers that are often equal or sum to 0, and whose sums hardly ever leave
+/// the range.
 pub const SMALL_NUMBERS: [i32; 6] = [0, 0, 0, 1, -1, 2];
 
 /// A program that ends on every tree, or goes on for ever on some or all.
@@ -72,7 +73,7 @@ pub fn with_small_numbers(random: &mut Random, program: &Program) -> Program {
     let functions = program.functions.iter().map(|function| {
         let mut records = function.body.prefix_records();
         for (record, _) in &mut records {
-            if record.kind == kind::CONST && random.below(4) > 0 {
+            if record.kind == kind::CONST && random.below(8) > 0 {
                 record.i = random.pick(&SMALL_NUMBERS) as u32;
             }
         }
@@ -94,7 +95,7 @@ pub fn small_tree(random: &mut Random) -> Tree {
 /// The tree with small numbers in most of its leaves.
 fn with_small_labels(random: &mut Random, tree: &Tree) -> Tree {
     let tokens = tree.prefix().map(|token| match token {
-        Token::Leaf(_) if random.below(4) > 0 => Token::Leaf(random.pick(&SMALL_NUMBERS)),
+        Token::Leaf(_) if random.below(8) > 0 => Token::Leaf(random.pick(&SMALL_NUMBERS)),
         Token::Leaf(_) => Token::Leaf(label(random)),
         Token::Node => Token::Node,
     });

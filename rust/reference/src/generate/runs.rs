@@ -10,7 +10,7 @@ use crate::translate::translate_program;
 use crate::tree::Tree;
 
 use super::evaluated::{any_program, deep_tree, small_tree};
-use super::{changed_program, damaged, damaged_file};
+use super::{changed_program, damaged, damaged_file, sums};
 
 #[cfg(test)]
 mod tests;
@@ -21,8 +21,10 @@ const MODERATE: u64 = 100_000;
 /// Any run: mostly of a right file on a tree with space and fuel enough or
 /// nearly so, sometimes with a file, an input or space that is refused.
 pub fn any_run(random: &mut Random) -> RunCase {
-    let program = any_program(random);
-    let tree = any_tree(random);
+    let (program, tree) = match random.below(8) {
+        0 => sums::program_and_tree(random),
+        _ => (any_program(random), any_tree(random)),
+    };
     let tokens = tree.tokens();
     let (fuel, result) = fuel_and_result(random, &program, &tree);
     let code = INSTRUCTION_BYTES * translate_program(&program).len();
@@ -61,7 +63,8 @@ fn any_tree(random: &mut Random) -> Tree {
 
 /// Fuel and the length of the result; a length at random where there is none.
 /// Fuel is none, a little, any up to what is needed, just enough, one less,
-/// 4n + 1, or the most there is.
+/// 4n + 1, or the most there is. To be refused 21 a run needs a unit more than
+/// it performs.
 fn fuel_and_result(random: &mut Random, program: &Program, tree: &Tree) -> (u64, usize) {
     match evaluate(program, tree, OPEN_LIMIT, MODERATE) {
         Evaluation::Ended(ended) => {
@@ -81,6 +84,18 @@ fn fuel_and_result(random: &mut Random, program: &Program, tree: &Tree) -> (u64,
             (fuel, random.below(20_000))
         }
         Evaluation::TooLong => (random.below(10_000) as u64, random.below(2_000)),
+        Evaluation::SumOutOfRange { begun, units, .. } => {
+            let part = random.below(1 + units as usize) as u64;
+            let enough = [units + 1, 4 * begun + 1, u64::MAX];
+            let fuel = match random.below(8) {
+                0 => part,
+                1 | 2 => units,
+                _ => random.pick(&enough),
+            };
+            let most = 3 * begun as usize;
+            let less = random.below(most + 1);
+            (fuel, random.pick(&[most, most, less]))
+        }
     }
 }
 

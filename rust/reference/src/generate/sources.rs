@@ -9,7 +9,7 @@ use crate::source::SourceCase;
 use crate::tree::{Tree, DEPTH_LIMIT};
 
 use super::evaluated::{any_program as in_order, deep_tree, small_tree};
-use super::{changed_program, damaged, damaged_file, order_damage};
+use super::{changed_program, damaged, damaged_file, order_damage, sums};
 
 #[cfg(test)]
 mod tests;
@@ -44,7 +44,8 @@ pub fn any_source(random: &mut Random) -> SourceCase {
 /// pass two as well; few of the others do.
 pub fn any_program_and_tree(random: &mut Random) -> (Program, Tree) {
     match random.below(12) {
-        0..=3 => (in_order(random), any_tree(random)),
+        0 => sums::program_and_tree(random),
+        1..=3 => (in_order(random), any_tree(random)),
         4..=6 => (descending(random), any_tree(random)),
         7 | 8 => (unordered(random), any_tree(random)),
         9 => (crowded(random), any_tree(random)),

@@ -41,6 +41,7 @@ pub fn all() -> Vec<Known> {
         refusals::MISSING,
         refusals::BELOW_THE_BASE,
         refusals::OF_THE_CODE,
+        refusals::OF_SUMS,
         refusals::OF_THE_INPUT,
         refusals::OF_THE_OUTPUT,
         addresses::WITHOUT_INSTRUCTION,

@@ -1,5 +1,7 @@
 //! Where and why a run stops, finer than the numbers of the table.
 
+use crate::sum::{EndSums, SUM_OUT_OF_RANGE};
+
 /// Why a run stops.
 #[derive(Clone, Copy, Debug, PartialEq, Eq, PartialOrd, Ord, Hash)]
 pub enum Cause {
@@ -41,10 +43,12 @@ pub enum Cause {
     WordsBelowBase,
     /// 19: a word more than 16,384.
     SurplusWords,
+    /// 21: at add.
+    SumOutOfRange,
 }
 
 impl Cause {
-    pub const ALL: [Cause; 19] = [
+    pub const ALL: [Cause; 20] = [
         Cause::EndedWithNone,
         Cause::EndedWithOne,
         Cause::WorkTooShort,
@@ -64,6 +68,7 @@ impl Cause {
         Cause::MissingWords,
         Cause::WordsBelowBase,
         Cause::SurplusWords,
+        Cause::SumOutOfRange,
     ];
 
     /// The refusal's number; none where the run ended.
@@ -84,6 +89,7 @@ impl Cause {
             | Cause::MissingWords
             | Cause::WordsBelowBase
             | Cause::SurplusWords => Some(19),
+            Cause::SumOutOfRange => Some(SUM_OUT_OF_RANGE),
         }
     }
 }
@@ -118,7 +124,8 @@ impl Mark {
 }
 
 /// Where a run stopped, and the refusal that a later test would have reported:
-/// after a 14 any other, after a 19 one of 15 to 18.
+/// after a 14 any other, after a 19 one of 15 to 18, or 21 where the words of
+/// the sum stand below the frame's base.
 #[derive(Clone, Copy, Debug, PartialEq, Eq)]
 pub struct Stop {
     pub mark: Mark,
@@ -143,5 +150,7 @@ pub struct Trace {
     pub words: usize,
     /// The calls open there, the first frame included; 0 at 13.
     pub open: usize,
+    /// Of the adds performed.
+    pub end_sums: EndSums,
     pub stop: Stop,
 }

@@ -1,6 +1,7 @@
 //! The machine. The tests of an instruction stand apart from its effect, so
 //! that a stop can say what a later test would have reported.
 
+use crate::sum::{exact_sum, EndSums};
 use crate::tree::{Refusal, LEAF_TAG, NODE_TAG};
 
 use super::{instruction_at, opcode, Cause, Instruction, Mark, Ran, Stop, Trace};
@@ -28,6 +29,7 @@ pub struct Machine<'a> {
     units: u64,
     read: usize,
     written: usize,
+    end_sums: EndSums,
 }
 
 impl<'a> Machine<'a> {
@@ -47,6 +49,7 @@ impl<'a> Machine<'a> {
             units: 0,
             read: 0,
             written: 0,
+            end_sums: EndSums::default(),
         }
     }
 
@@ -85,7 +88,7 @@ impl<'a> Machine<'a> {
     }
 
     /// The next instruction, if it passes its tests: "At one instruction 19
-    /// comes before 15 to 18".
+    /// comes before 15 to 18", and before 21.
     fn tested(&self) -> Result<Instruction, Stop> {
         let instruction = self.fetch().map_err(Stop::plain)?;
         let at = |cause| Mark::at(instruction.opcode, cause);
@@ -134,7 +137,7 @@ impl<'a> Machine<'a> {
         }
     }
 
-    /// 15 to 18.
+    /// 15 to 18, and 21.
     fn test_bounds(&self, instruction: Instruction) -> Option<Cause> {
         match instruction.opcode {
             opcode::LEAF_TAG | opcode::NODE_TAG => self.test_output(1),
@@ -142,7 +145,20 @@ impl<'a> Machine<'a> {
             opcode::READ_TAG => self.test_tag(),
             opcode::READ_NUMBER => self.test_label(),
             opcode::CALL if self.open() >= OPEN_LIMIT => Some(Cause::CallsOpen),
+            opcode::ADD => self.test_sum(),
             _ => None,
+        }
+    }
+
+    /// 21, for the two upper words of the whole stack; where one of them
+    /// stands below the frame's base, it is hidden by 19.
+    fn test_sum(&self) -> Option<Cause> {
+        let frames = self.callers.iter().chain([&self.frame]).rev();
+        let mut words = frames.flat_map(|frame| frame.words.iter().rev());
+        let (right, left) = (words.next()?, words.next()?);
+        match exact_sum(*left, *right) {
+            None => Some(Cause::SumOutOfRange),
+            Some(_) => None,
         }
     }
 
@@ -207,11 +223,14 @@ impl<'a> Machine<'a> {
         self.frame.words.pop().expect("a word above the base")
     }
 
-    /// "add (modulo 2^32)"
+    /// N3: "Add now refuses where the exact sum lies outside" the range, so
+    /// that here it lies inside.
     fn add(&mut self) {
         let right = self.pop();
         let left = self.pop();
-        self.push(left.wrapping_add(right));
+        let sum = exact_sum(left, right).expect("a sum in range");
+        self.end_sums.count(sum);
+        self.push(sum);
     }
 
     /// "slide (remove the word under the top)"
@@ -306,6 +325,7 @@ impl<'a> Machine<'a> {
             address: self.address,
             words: self.words(),
             open: self.open(),
+            end_sums: self.end_sums,
             stop,
         }
     }

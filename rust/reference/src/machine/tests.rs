@@ -26,6 +26,28 @@ fn known_codes() {
     }
 }
 
+/// Runs with sums at the ends of the range, and how many of them each has.
+#[test]
+fn known_codes_with_sums_at_the_ends() {
+    let sums = [
+        ("add up to the greatest", (0, 1)),
+        ("add 0 to the greatest", (0, 1)),
+        ("add down to the least", (1, 0)),
+        ("add two halves", (1, 0)),
+        ("add both ends", (0, 0)),
+        ("add past the greatest", (0, 0)),
+        ("the second of two adds", (0, 1)),
+        ("Sum to the least", (1, 0)),
+        ("Grow next to the greatest", (0, 1)),
+    ];
+    for (name, (least, greatest)) in sums {
+        let mut codes = known::all().into_iter();
+        let known = codes.find(|known| known.name == name).expect(name);
+        let (_, trace, _) = ran(&known.case);
+        assert_eq!(trace.end_sums, EndSums { least, greatest }, "{name}");
+    }
+}
+
 #[test]
 fn known_codes_have_names_of_their_own() {
     let mut names = BTreeSet::new();
@@ -55,6 +77,10 @@ fn known_codes_where_they_stop() {
         ("and one word more", (19, 16_384, 1_024)),
         ("frames of 17 words", (13, 16_384, 964)),
         ("one call with a word", (2, 1, 1_024)),
+        ("Sum", (7, 2, 1)),
+        ("another word below", (3, 3, 1)),
+        ("in a call, arguments", (4, 2, 2)),
+        ("19 before 21, one word", (4, 2, 2)),
     ];
     for (name, stop) in stops {
         let mut codes = known::all().into_iter();

@@ -1,9 +1,11 @@
 //! The source evaluation with fuel once more, for tests: over flat records and
 //! tokens, with an explicit stack of what is still to be done, and with the
-//! result written as it comes. It shares nothing with `evaluate`.
+//! result written as it comes. It shares nothing with `evaluate` but the sum of
+//! two numbers.
 
 use crate::program::{kind, part_count, Record};
-use crate::tree::tree_end;
+use crate::sum::{exact_sum, EndSums};
+use crate::tree::{tree_end, Refusal};
 
 /// A program's records.
 pub struct Records {
@@ -18,8 +20,8 @@ pub struct Records {
 /// What an evaluation gives.
 #[derive(Clone, Debug, PartialEq, Eq)]
 pub struct Outcome {
-    /// The number of the refusal: 14 or 18.
-    pub refused: Option<u8>,
+    /// 14 or 18, at 0, or 21 at the Add's record.
+    pub refused: Option<Refusal>,
     pub begun: u64,
     /// What was written before the end or the refusal.
     pub written: Vec<u8>,
@@ -31,6 +33,7 @@ pub struct Outcome {
     pub greatest_name: usize,
     /// The greatest number of calls open.
     pub open: usize,
+    pub end_sums: EndSums,
 }
 
 /// The names of a call: its numbers, and where in the tokens its trees begin.
@@ -42,7 +45,7 @@ struct Names {
 /// What is still to be done, with the node that it is for.
 enum Task {
     Take(usize),
-    Add,
+    AddFor(usize),
     PickOf(usize),
     NameFor(usize),
     WriteLabel,
@@ -95,6 +98,7 @@ impl Records {
                 begun_kinds: vec![],
                 greatest_name: 0,
                 open: 1,
+                end_sums: EndSums::default(),
             },
         };
         run.finish();
@@ -146,15 +150,12 @@ impl Run<'_> {
 
     fn perform(&mut self, task: Task) {
         match task {
-            Task::Take(_) if self.outcome.begun == self.fuel => self.outcome.refused = Some(14),
+            Task::Take(_) if self.outcome.begun == self.fuel => self.refuse(14, 0),
             Task::Take(node) => {
                 self.outcome.begun += 1;
                 self.take(node);
             }
-            Task::Add => {
-                let (right, left) = (self.value(), self.value());
-                self.values.push(left.wrapping_add(right));
-            }
+            Task::AddFor(node) => self.add(node),
             Task::PickOf(node) => {
                 let which = if self.value() == 0 { 1 } else { 2 };
                 self.take_branch(node, which);
@@ -169,7 +170,7 @@ impl Run<'_> {
                 self.outcome.written.push(1);
                 self.outcome.written.extend(label.to_le_bytes());
             }
-            Task::OpenFor(_) if self.open == self.most_open => self.outcome.refused = Some(18),
+            Task::OpenFor(_) if self.open == self.most_open => self.refuse(18, 0),
             Task::OpenFor(node) => self.open(node),
             Task::Forget(numbers, trees) => {
                 self.names.numbers.truncate(numbers);
@@ -178,6 +179,22 @@ impl Run<'_> {
             Task::Close(caller) => {
                 self.names = caller;
                 self.open -= 1;
+            }
+        }
+    }
+
+    fn refuse(&mut self, number: u8, position: usize) {
+        self.outcome.refused = Some(Refusal { number, position });
+    }
+
+    /// The header and the function records stand before the nodes.
+    fn add(&mut self, node: usize) {
+        let (right, left) = (self.value(), self.value());
+        match exact_sum(left, right) {
+            None => self.refuse(21, 1 + self.records.entries.len() + node),
+            Some(sum) => {
+                self.outcome.end_sums.count(sum);
+                self.values.push(sum);
             }
         }
     }
@@ -200,7 +217,10 @@ impl Run<'_> {
         match kind {
             kind::CONST => self.values.push(i as i32),
             kind::VAR => self.values.push(self.names.numbers[usize::from(a)]),
-            kind::ADD => self.then(vec![Task::Take(parts[0]), Task::Take(parts[1]), Task::Add]),
+            kind::ADD => {
+                let (p, q) = (Task::Take(parts[0]), Task::Take(parts[1]));
+                self.then(vec![p, q, Task::AddFor(node)]);
+            }
             kind::IF_ZERO => self.then(vec![Task::Take(parts[0]), Task::PickOf(node)]),
             kind::LET => self.then(vec![Task::Take(parts[0]), Task::NameFor(node)]),
             kind::LEAF => self.then(vec![Task::Take(parts[0]), Task::WriteLabel]),

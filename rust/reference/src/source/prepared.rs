@@ -4,6 +4,7 @@
 use crate::evaluate::{on_this_stack, with_stack, Evaluation, Value};
 use crate::machine::OPEN_LIMIT;
 use crate::program::Program;
+use crate::sum::SUM_OUT_OF_RANGE;
 use crate::tree::{read_tree, Refusal, Tree};
 
 use super::{read_program, Sourced};
@@ -45,12 +46,13 @@ impl Prepared<'_> {
 
     /// The source run from the evaluation on. "The source run's fuel is
     /// expressions begun, looked at before each; a call's depth is tested
-    /// after its arguments."
+    /// after its arguments." 21 looks at no fuel.
     pub fn run_on(&self, tree: &Tree, fuel: u64, output: &mut [u8]) -> Sourced {
         match on_this_stack(self.program, tree, OPEN_LIMIT, fuel) {
             Evaluation::Ended(ended) => written(&ended.value, ended.begun, output),
             Evaluation::TooManyOpen { begun } => refused_at_0(CALLS_OPEN, begun),
             Evaluation::TooLong => refused_at_0(FUEL_USED_UP, fuel),
+            Evaluation::SumOutOfRange { record, begun, .. } => out_of_range(record, begun),
         }
     }
 }
@@ -71,6 +73,17 @@ fn written(value: &Value, begun: u64, output: &mut [u8]) -> Sourced {
             }
         }
     }
+}
+
+/// N3: "at the Add record in the source run".
+fn out_of_range(record: usize, begun: u64) -> Sourced {
+    Sourced::refused(
+        Refusal {
+            number: SUM_OUT_OF_RANGE,
+            position: record,
+        },
+        begun,
+    )
 }
 
 /// "source run 0": the position of 14, 17 and 18.

@@ -1,6 +1,7 @@
 //! Deep expressions in each of many open calls.
 
 use super::*;
+use crate::tree::Token;
 
 /// One function of so many expressions nested in each other around a Call of
 /// itself on tree 0.
@@ -64,6 +65,30 @@ fn calls_nested_in_arguments() {
     assert_eq!(answer, Evaluation::TooManyOpen { begun });
     let given_up = evaluate(&program, &Tree::leaf(0), usize::MAX, 1_000_000);
     assert_eq!(given_up, Evaluation::TooLong);
+}
+
+/// A sum out of range under 511 Adds in each of 1,024 calls: the innermost
+/// Add of the last call.
+#[test]
+fn a_sum_out_of_range_under_many_others() {
+    let function = |body| Function {
+        tree_valued: false,
+        parameters: 0,
+        body,
+    };
+    let below = Expr::case(0, Expr::plus(Expr::var(0), one()), Expr::call(1, 0, vec![]));
+    let body = (0..508).fold(below, |expr, _| Expr::plus(expr, one()));
+    let program = Program::new(vec![function(body)]);
+    let tokens = [vec![Token::Node; 1_023], vec![Token::Leaf(i32::MAX); 1_024]].concat();
+    let tree = Tree::from_prefix(&tokens).expect("a tree");
+    let answer = evaluate(&program, &tree, 1_024, LONG);
+    // 508 Adds and a Case stand before the innermost Add.
+    let expected = Evaluation::SumOutOfRange {
+        record: 2 + 508 + 1,
+        begun: 1_023 * (508 + 2) + 508 + 4,
+        units: 1_023 * 2 + 4,
+    };
+    assert_eq!(answer, expected);
 }
 
 /// A node for each of two calls more: the number of expressions doubles with

@@ -1,5 +1,6 @@
 //! Cases that stop at a given mark.
 
+use crate::generate::sums::{leaving, split};
 use crate::generate::tag_like_bytes;
 use crate::machine::mnemonic::{push, ret};
 use crate::machine::{opcode, Cause, Instruction, Mark, TestCase};
@@ -114,9 +115,13 @@ fn at_opcode(random: &mut Random, opcode: u8, cause: Cause) -> TestCase {
         Cause::EndedWithOne => ended(random, &mut draft, 1),
         Cause::ReturnByte => return_byte(random, &mut draft),
         Cause::MissingWords => missing(random, &mut draft, opcode, false),
+        Cause::WordsBelowBase if opcode == opcode::ADD && random.below(2) == 0 => {
+            out_of_range_below_base(random, &mut draft)
+        }
         Cause::WordsBelowBase => missing(random, &mut draft, opcode, true),
         Cause::SurplusWords => surplus(random, &mut draft, opcode),
         Cause::CallsOpen => calls_open(random, &mut draft),
+        Cause::SumOutOfRange => out_of_range(random, &mut draft),
         _ => words_enough(random, &mut draft, opcode),
     };
     draft.put(last);
@@ -237,6 +242,37 @@ fn surplus(random: &mut Random, draft: &mut Draft, opcode: u8) -> Instruction {
         made.operand = random.below(draft.above) as u16;
     }
     made
+}
+
+/// An add whose sum is out of range. The two numbers stand there, or have been
+/// handed on to a call, or the left one is itself a sum.
+fn out_of_range(random: &mut Random, draft: &mut Draft) -> Instruction {
+    let (left, right) = leaving(random);
+    let below = random.below(3);
+    draft.words(random, below);
+    match random.below(4) {
+        0 => {
+            let addends = split(random, i64::from(left));
+            draft.numbers(random, addends);
+            draft.add();
+            draft.number(random, right);
+        }
+        1 => {
+            draft.numbers(random, (left, right));
+            draft.call(2);
+        }
+        _ => draft.numbers(random, (left, right)),
+    }
+    instruction(random, opcode::ADD, draft.code.len())
+}
+
+/// An add whose sum would be out of range, with one or both words below the
+/// base.
+fn out_of_range_below_base(random: &mut Random, draft: &mut Draft) -> Instruction {
+    let pair = leaving(random);
+    draft.numbers(random, pair);
+    draft.call(random.below(2));
+    instruction(random, opcode::ADD, draft.code.len())
 }
 
 /// A call more than there may be.

@@ -2,6 +2,7 @@
 //! draft counts along what stands where control comes to its end.
 
 use crate::generate::label;
+use crate::generate::sums::fitting;
 use crate::machine::mnemonic::{add, call, drop_word, get, ifnot, jump, leaf_tag, node_tag};
 use crate::machine::mnemonic::{push, read_number, read_tag, ret, slide, write_number};
 use crate::machine::{Instruction, TestCase};
@@ -79,6 +80,26 @@ impl Draft {
         }
     }
 
+    /// This word: a number or a label.
+    pub fn number(&mut self, random: &mut Random, number: i32) {
+        if random.below(2) == 0 {
+            self.pushing(push(number));
+        } else {
+            self.input.extend(number.to_le_bytes());
+            self.pushing(read_number());
+        }
+    }
+
+    pub fn numbers(&mut self, random: &mut Random, (left, right): (i32, i32)) {
+        self.number(random, left);
+        self.number(random, right);
+    }
+
+    /// An add of the two upper words, whose sum fits.
+    pub fn add(&mut self) {
+        self.popping(add());
+    }
+
     pub fn words(&mut self, random: &mut Random, count: usize) {
         for _ in 0..count {
             self.word(random);
@@ -101,7 +122,7 @@ impl Draft {
 
     /// Some instructions that leave the words as they are.
     fn detour(&mut self, random: &mut Random) {
-        match random.below(8) {
+        match random.below(9) {
             0 => self.jump_over(random),
             1 => self.call_and_return(random),
             2 => self.write_tag(random),
@@ -119,9 +140,15 @@ impl Draft {
                 self.word(random);
                 self.popping(ifnot(self.here() + 1));
             }
-            _ => {
+            7 => {
                 self.words(random, 2);
-                self.popping(random.pick(&[add(), slide()]));
+                self.popping(slide());
+                self.popping(drop_word());
+            }
+            _ => {
+                let pair = fitting(random);
+                self.numbers(random, pair);
+                self.add();
                 self.popping(drop_word());
             }
         }

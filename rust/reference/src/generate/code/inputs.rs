@@ -1,8 +1,10 @@
 //! Inputs and outputs of a case.
 
+use crate::generate::sums::{total_in_range, total_out_of_range, with_total};
 use crate::generate::{damaged, mixed_caterpillar, tag_like_bytes, tree};
 use crate::machine::{TestCase, OPEN_LIMIT};
 use crate::random::Random;
+use crate::tree::Tree;
 
 /// Room for more than most runs write.
 const AMPLE: usize = 10_000;
@@ -14,7 +16,7 @@ pub fn input(random: &mut Random) -> Vec<u8> {
         1 | 2 => 1,
         _ => 1 + random.below(6),
     };
-    let mut tokens = tree(random, tips).tokens();
+    let mut tokens = any_tree(random, tips).tokens();
     match random.below(8) {
         0 => tokens.clear(),
         1 => tokens.truncate(random.below(tokens.len() + 1)),
@@ -23,6 +25,18 @@ pub fn input(random: &mut Random) -> Vec<u8> {
         _ => (),
     }
     tokens
+}
+
+/// A tree of so many tips; at times the sum of its labels is at an end of the
+/// range or next to it.
+fn any_tree(random: &mut Random, tips: usize) -> Tree {
+    let tree = tree(random, tips);
+    let total = match random.below(6) {
+        0 => total_in_range(random),
+        1 if tips > 1 => total_out_of_range(random),
+        _ => return tree,
+    };
+    with_total(random, &tree, total)
 }
 
 /// Tokens of a caterpillar about as deep as calls can be open.

@@ -3,6 +3,7 @@
 
 use crate::machine::{opcode, Instruction, TestCase};
 use crate::random::Random;
+use crate::sum::exact_sum;
 use crate::tree::{LEAF_TAG, NODE_TAG};
 
 use super::fuel::moderate;
@@ -82,6 +83,15 @@ impl Walk {
         self.words.len() - self.base
     }
 
+    /// The sum of the two upper words; none if they aren't above the base or
+    /// their sum is out of range.
+    fn sum(&self) -> Option<i32> {
+        match self.words[self.base..] {
+            [.., left, right] => exact_sum(left, right),
+            _ => None,
+        }
+    }
+
     /// Goes on by an instruction; none where the run stops.
     fn step(&mut self, random: &mut Random) -> Option<()> {
         let there = *self.code.get(self.address)?;
@@ -118,7 +128,7 @@ impl Walk {
     }
 
     /// Whether an instruction goes to an address with an instruction. The first
-    /// frame's return is let through at times.
+    /// frame's return and a sum out of range are let through at times.
     fn goes_on(&self, random: &mut Random, made: Instruction) -> bool {
         let next = self.address + 1;
         let to = usize::from(made.operand);
@@ -128,20 +138,24 @@ impl Walk {
             opcode::JUMP | opcode::CALL => to < count && to != self.address,
             opcode::IFNOT | opcode::READ_TAG => to < count && !last,
             opcode::RETURN => !self.callers.is_empty() || random.below(16) == 0,
+            opcode::ADD => !last && (self.sum().is_some() || random.below(16) == 0),
             _ => !last,
         }
     }
 
     /// The next address, once the instruction is performed; none at the first
-    /// frame's return.
+    /// frame's return and at a sum out of range.
     fn follow(&mut self, random: &mut Random, instruction: Instruction) -> Option<usize> {
         let next = self.address + 1;
         let operand = usize::from(instruction.operand);
         match instruction.opcode {
             opcode::PUSH => self.words.push(instruction.number as i32),
             opcode::GET => self.words.push(self.words[self.base + operand]),
-            opcode::ADD => self.combine(i32::wrapping_add),
-            opcode::SLIDE => self.combine(|_, top| top),
+            opcode::ADD => {
+                let sum = self.sum()?;
+                self.in_place_of_two(sum);
+            }
+            opcode::SLIDE => self.in_place_of_two(self.words[self.words.len() - 1]),
             opcode::IFNOT if self.words.pop() != Some(0) => return Some(operand),
             opcode::JUMP => return Some(operand),
             opcode::DROP => drop(self.words.pop()),
@@ -165,10 +179,9 @@ impl Walk {
     }
 
     /// Puts one word in the place of the two upper ones.
-    fn combine(&mut self, by: fn(i32, i32) -> i32) {
-        if let (Some(top), Some(under)) = (self.words.pop(), self.words.pop()) {
-            self.words.push(by(under, top));
-        }
+    fn in_place_of_two(&mut self, word: i32) {
+        self.words.truncate(self.words.len() - 2);
+        self.words.push(word);
     }
 
     fn read_tag(&mut self, random: &mut Random) -> u8 {

@@ -1,4 +1,4 @@
-//! Where a run can stop, by document 01.
+//! Where a run can stop, by document 01 and N3.
 
 use crate::machine::{opcode, Cause, Mark};
 
@@ -25,7 +25,7 @@ const NEEDING: [u8; 8] = [
 const PUSHING: [u8; 3] = [opcode::PUSH, opcode::GET, opcode::READ_NUMBER];
 
 /// The marks that are not for words, each with its opcode.
-const OTHERS: [(u8, Cause); 12] = [
+const OTHERS: [(u8, Cause); 13] = [
     (opcode::LEAF_TAG, Cause::OutputFull),
     (opcode::NODE_TAG, Cause::OutputFull),
     (opcode::WRITE_NUMBER, Cause::OutputFull),
@@ -35,6 +35,7 @@ const OTHERS: [(u8, Cause); 12] = [
     (opcode::READ_NUMBER, Cause::InputEnded),
     (opcode::READ_NUMBER, Cause::LabelNotWhole),
     (opcode::CALL, Cause::CallsOpen),
+    (opcode::ADD, Cause::SumOutOfRange),
     (opcode::RETURN, Cause::ReturnByte),
     (opcode::RETURN, Cause::EndedWithNone),
     (opcode::RETURN, Cause::EndedWithOne),
@@ -51,14 +52,16 @@ const ALONE: [Cause; 6] = [
 ];
 
 /// Hidden by a 19 for words: read number with 16,384 words and no label, write
-/// number with no word and no room, call without its words and 1,024 open. The
-/// tags need and push no words, so nothing stands before their 15 to 17.
-const BEHIND_WORDS: [(u8, Cause); 5] = [
+/// number with no word and no room, call without its words and 1,024 open, add
+/// of a sum out of range with a word below the frame's base. The tags need and
+/// push no words, so nothing stands before their 15 to 17.
+const BEHIND_WORDS: [(u8, Cause); 6] = [
     (opcode::READ_NUMBER, Cause::InputEnded),
     (opcode::READ_NUMBER, Cause::LabelNotWhole),
     (opcode::WRITE_NUMBER, Cause::OutputFull),
     (opcode::WRITE_NUMBER, Cause::OutputShort),
     (opcode::CALL, Cause::CallsOpen),
+    (opcode::ADD, Cause::SumOutOfRange),
 ];
 
 /// Every mark where a run can stop, 13 aside.
@@ -76,7 +79,7 @@ pub fn reachable() -> Vec<Mark> {
 
 /// Every pair of a refusal reported and a mark hidden by it that can occur:
 /// "Fuel is looked at first", so 14 stands before each refusal; "At one
-/// instruction 19 comes before 15 to 18".
+/// instruction 19 comes before 15 to 18", and before 21.
 pub fn hidden() -> Vec<(u8, Mark)> {
     let refused = |mark: &Mark| mark.number().is_some_and(|number| number != FUEL_USED_UP);
     let behind_fuel = reachable().into_iter().filter(refused);

@@ -13,34 +13,45 @@ fn programs_pass_both_passes() {
     }
 }
 
+/// They end, or break off at a sum.
 #[test]
 fn descending_programs_end() {
     let mut random = Random::new(302);
+    let (mut ended, mut broken) = (0, 0);
     for _ in 0..300 {
         let program = descending(&mut random);
         let tree = small_tree(&mut random);
-        let Evaluation::Ended(ended) = evaluate(&program, &tree, 1_024, 1_000_000) else {
-            panic!("{:?} on {tree:?}", program.functions);
-        };
-        assert!(ended.open <= tree.depth() + 1);
+        match evaluate(&program, &tree, 1_024, 1_000_000) {
+            Evaluation::Ended(end) => {
+                assert!(end.open <= tree.depth() + 1);
+                ended += 1;
+            }
+            Evaluation::SumOutOfRange { .. } => broken += 1,
+            _ => panic!("{:?} on {tree:?}", program.functions),
+        }
     }
+    println!("{ended} {broken}");
+    assert!(ended >= 100 && broken >= 20, "{ended} {broken}");
 }
 
-/// Of the others some end and some do not.
+/// Of the others some end, some break off at a sum, and some go on.
 #[test]
 fn others_end_or_go_on() {
     let mut random = Random::new(303);
-    let (mut ended, mut too_many) = (0, 0);
-    for _ in 0..300 {
+    let (mut ended, mut too_many, mut broken) = (0, 0, 0);
+    for _ in 0..600 {
         let program = partly_descending(&mut random);
         let tree = small_tree(&mut random);
         match evaluate(&program, &tree, 1_024, 10_000_000) {
             Evaluation::Ended(_) => ended += 1,
             Evaluation::TooManyOpen { .. } => too_many += 1,
             Evaluation::TooLong => panic!("{:?} on {tree:?}", program.functions),
+            Evaluation::SumOutOfRange { .. } => broken += 1,
         }
     }
-    assert!(ended > 100 && too_many > 30, "{ended} {too_many}");
+    let seen = [ended, too_many, broken];
+    println!("{seen:?}");
+    assert!(ended > 100 && too_many > 30 && broken > 15, "{seen:?}");
 }
 
 #[test]

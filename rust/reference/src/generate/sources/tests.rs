@@ -81,26 +81,40 @@ fn programs_are_various() {
 #[test]
 fn descending_programs_do_not_go_on_for_ever() {
     let mut random = Random::new(324);
-    let mut ended = 0;
+    let (mut ended, mut broken) = (0, 0);
     for _ in 0..300 {
         let program = descending(&mut random);
         let tree = small_tree(&mut random);
         match evaluate(&program, &tree, OPEN_LIMIT, 200_000) {
             Evaluation::Ended(_) => ended += 1,
             Evaluation::TooLong => {}
+            Evaluation::SumOutOfRange { .. } => broken += 1,
             Evaluation::TooManyOpen { .. } => panic!("{:?} on {tree:?}", program.functions),
         }
     }
-    assert!(ended >= 200, "{ended}");
+    println!("{ended} {broken}");
+    assert!(ended >= 150 && broken >= 10, "{ended} {broken}");
 }
 
-/// Every number that a source run can answer, and runs that end. A run that is
+/// Whether the run is refused 21 with fuel for an expression more.
+fn one_more_gives_21(case: &SourceCase) -> bool {
+    let more = SourceCase {
+        fuel: case.fuel.saturating_add(1),
+        ..case.clone()
+    };
+    let (sourced, _) = more.perform();
+    sourced.refused.is_some_and(|refusal| refusal.number == 21)
+}
+
+/// Every number that a source run can answer, and runs that end; 14 also where
+/// one more expression leads to 21. A run that is
 /// refused leaves the output untouched; one that is refused before its first
 /// expression answers 0 in every count.
 #[test]
 fn runs_answer_every_number() {
     let mut random = Random::new(325);
     let mut seen = BTreeMap::new();
+    let mut just_before_21 = 0;
     for _ in 0..4_000 {
         let case = any_source(&mut random);
         let (sourced, output) = case.perform();
@@ -111,26 +125,32 @@ fn runs_answer_every_number() {
         if number.is_some() {
             assert_eq!((sourced.written, sourced.number), (0, 0), "{case:?}");
         }
-        if !matches!(number, None | Some(14 | 17 | 18)) {
+        if !matches!(number, None | Some(14 | 17 | 18 | 21)) {
             assert_eq!(sourced.begun, 0, "{case:?}");
         }
+        just_before_21 += usize::from(number == Some(14) && one_more_gives_21(&case));
     }
     let others = [11, 12, 19];
-    let numbers = (1..=20).filter(|number| !others.contains(number));
+    let numbers = (1..=21).filter(|number| !others.contains(number));
     let all: Vec<Option<u8>> = [None].into_iter().chain(numbers.map(Some)).collect();
     assert_eq!(seen.keys().copied().collect::<Vec<_>>(), all, "{seen:?}");
-    let often = [None, Some(14), Some(17), Some(18)];
-    assert!(often.iter().all(|number| seen[number] >= 200), "{seen:?}");
+    println!("{seen:?}");
+    let often = [None, Some(14), Some(17), Some(18), Some(21)];
+    assert!(often.iter().all(|number| seen[number] >= 100), "{seen:?}");
+    println!("{just_before_21} just before 21");
+    assert!(just_before_21 >= 10, "{just_before_21}");
 }
 
 /// What the expressions begun come to: every kind, both parts of IfZero and
-/// Case, tree names up to 255, and up to 1,024 open calls.
+/// Case, tree names up to 255, up to 1,024 open calls, sums that are just the
+/// least and just the greatest number, and sums that are out of range.
 #[test]
 fn runs_come_to_everything() {
     let mut random = Random::new(326);
     let mut kinds = BTreeMap::new();
     let (mut great_names, mut most_open) = (0, 0);
-    for _ in 0..1_000 {
+    let mut sums = [0; 3];
+    for _ in 0..1_500 {
         let (program, tree) = any_program_and_tree(&mut random);
         if tree.depth() > DEPTH_LIMIT {
             continue;
@@ -143,11 +163,17 @@ fn runs_come_to_everything() {
         }
         great_names += usize::from(outcome.greatest_name >= 200);
         most_open += usize::from(outcome.open >= 900);
+        sums[0] += usize::from(outcome.end_sums.least > 0);
+        sums[1] += usize::from(outcome.end_sums.greatest > 0);
+        let number = outcome.refused.map(|refusal| refusal.number);
+        sums[2] += usize::from(number == Some(21));
     }
     assert_eq!(kinds.len(), 7 + 2 + 2, "{kinds:?}");
     assert!(kinds.values().all(|&count| count >= 1_000), "{kinds:?}");
     assert!(great_names >= 10, "{great_names}");
     assert!(most_open >= 10, "{most_open}");
+    println!("{sums:?}");
+    assert!(sums.iter().all(|&count| count >= 30), "{sums:?}");
 }
 
 #[test]

@@ -19,11 +19,13 @@ pub const FUEL: &str = "
 14 before no room, leaf    | leaf tag                        | fuel 0           | NoFuel over OutputFull at leaf tag, units 0
 14 before little room      | push 1, write number            | room 3, fuel 1   | FuelUsedUp over OutputShort at write number, units 1
 14 before two of them      | write number                    | room 3, fuel 0   | NoFuel over MissingWords at write number, units 0
+14 before 21               | push 2147483647, push 1, add    | fuel 2           | FuelUsedUp over SumOutOfRange at add, units 2
+21 with a unit             | push 2147483647, push 1, add    | fuel 3           | SumOutOfRange at add, units 2
 fuel is enough             | push 1, return 1                | fuel 2           | ended with 1, units 2
 fuel is more than enough   | push 1, return 1                | fuel 3           | ended with 1, units 2
 ";
 
-/// "At one instruction 19 comes before 15 to 18"
+/// "At one instruction 19 comes before 15 to 18", and before 21.
 pub const WORDS: &str = "
 19 before 17, no room      | write number                                                      | | MissingWords at write number over OutputFull at write number, units 0
 19 before 17, 3 bytes      | write number                                                      | room 3 | MissingWords at write number over OutputShort at write number, units 0
@@ -34,5 +36,11 @@ the base before 3 bytes    | push 1, call 3 with 0, return 0, write number      
 19 before 18               | read tag 3, call 0 with 0, return 0, call 2 with 1                | input 01*1023 02 | MissingWords at call over CallsOpen at call, units 2047, read 1024
 the base before 18         | push 7, read tag 4, call 1 with 0, return 0, call 3 with 1        | input 01*1023 02 | WordsBelowBase at call over CallsOpen at call, units 2048, read 1024
 18 where the words stand   | push 7, read tag 4, call 1 with 1, return 0, call 3 with 1        | input 01*1023 02 | CallsOpen at call, units 2048, read 1024
+19 before 21               | push 2147483647, push 1, call 4 with 0, return 0, add             | | WordsBelowBase at add over SumOutOfRange at add, units 3
+19 before 21, one word     | push 2147483647, push 1, call 4 with 1, return 0, add             | | WordsBelowBase at add over SumOutOfRange at add, units 3
+19 before a sum that fits  | push 2147483647, push -1, call 4 with 1, return 0, add            | | WordsBelowBase at add, units 3
+19 for a missing word      | push 2147483647, add                                              | | MissingWords at add, units 1
+14 before 19 before 21     | push 2147483647, push 1, call 4 with 1, return 0, add             | fuel 3 | FuelUsedUp over WordsBelowBase at add, units 3
+21 where the words stand   | push 2147483647, push 1, call 4 with 2, return 0, add             | | SumOutOfRange at add, units 3
 17 where the word stands   | push 7, write number                                              | room 3 | OutputShort at write number, units 1
 ";

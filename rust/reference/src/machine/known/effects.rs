@@ -13,10 +13,12 @@ get leaves the word       | push 4, push 5, get 0, add, add, return 1          |
 get the word got          | push 4, get 0, get 1, get 2, add, add, return 1    | | ended with 12, units 7
 add                       | push 5, push 7, add, return 1                      | | ended with 12, units 4
 add a negative number     | push 5, push -7, add, return 1                     | | ended with -2, units 4
-add past the greatest     | push 2147483647, push 1, add, return 1             | | ended with -2147483648, units 4
-add past the least        | push -2147483648, push -1, add, return 1           | | ended with 2147483647, units 4
-add the least twice       | push -2147483648, get 0, add, return 1             | | ended with 0, units 4
-add the greatest twice    | push 2147483647, get 0, add, return 1              | | ended with -2, units 4
+add up to the greatest    | push 2147483646, push 1, add, return 1             | | ended with 2147483647, units 4
+add down to the least     | push -2147483647, push -1, add, return 1           | | ended with -2147483648, units 4
+add 0 to the greatest     | push 0, push 2147483647, add, return 1             | | ended with 2147483647, units 4
+add 0 to the least        | push -2147483648, push 0, add, return 1            | | ended with -2147483648, units 4
+add two halves            | push -1073741824, get 0, add, return 1             | | ended with -2147483648, units 4
+add both ends             | push -2147483648, push 2147483647, add, return 1   | | ended with -1, units 4
 add takes two words       | push 1, push 2, push 4, add, drop, return 1        | | ended with 1, units 6
 add adds the upper two    | push 1, push 2, push 4, add, return 1              | | ended with 6, units 5
 slide keeps the top       | push 1, push 2, push 3, slide, return 1            | | ended with 3, units 5

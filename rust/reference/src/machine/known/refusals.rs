@@ -58,6 +58,27 @@ return with 255           | 255 times push 1, return 255                        
 return with 2 in a call   | push 1, push 2, call 4 with 2, return 0, return 2      | | ReturnByte at return, units 3
 ";
 
+/// 21. The sum is that of the two upper words alone.
+pub const OF_SUMS: &str = "
+add past the greatest     | push 2147483647, push 1, add, return 1                 | | SumOutOfRange at add, units 2
+add past the least        | push -2147483648, push -1, add, return 1               | | SumOutOfRange at add, units 2
+1 before the greatest     | push 1, push 2147483647, add, return 1                 | | SumOutOfRange at add, units 2
+add the least twice       | push -2147483648, get 0, add, return 1                 | | SumOutOfRange at add, units 2
+add the greatest twice    | push 2147483647, get 0, add, return 1                  | | SumOutOfRange at add, units 2
+add two halves above      | push 1073741824, get 0, add, return 1                  | | SumOutOfRange at add, units 2
+one below two halves      | push -1073741824, push -1073741825, add, return 1      | | SumOutOfRange at add, units 2
+another word below        | push -1, push 2147483647, push 1, add, add, return 1   | | SumOutOfRange at add, units 3
+the other order           | push 2147483647, push 1, push -1, add, add, return 1   | | ended with 2147483647, units 6
+the second of two adds    | push 2, push 2147483646, push 1, add, add, return 1    | | SumOutOfRange at add, units 4
+a label read and added    | read number, push 1, add, return 1                     | input ff ff ff 7f 03 | SumOutOfRange at add, units 2, read 4
+what was written before   | leaf tag, push 2147483647, push 1, add, write number   | room 5 | SumOutOfRange at add, units 3, wrote 01
+in a call, arguments      | push 2147483647, push 1, call 4 with 2, return 1, add, return 1 | | SumOutOfRange at add, units 3
+the result of a call      | push 2147483647, call 4 with 0, add, return 1, push 1, return 1 | | SumOutOfRange at add, units 4
+unused fields of such add | push 2147483647, push 1, raw 2 255 65535 -1, return 1  | | SumOutOfRange at add, units 2
+a sum not looked at       | push 2147483647, push 1, slide, return 1               | | ended with 1, units 4
+a sum passed over         | push 2147483647, push 1, jump 4, add, return 1         | | ended with 1, units 4
+";
+
 /// 15 and 16.
 pub const OF_THE_INPUT: &str = "
 no tag left               | read tag 1, read tag 2, return 0                       | input 01 | InputEnded at read tag, units 1, read 1

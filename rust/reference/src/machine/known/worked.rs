@@ -14,7 +14,7 @@ Call 0 on 0, fuel 1,023    | endless      | fuel 1023                           
 Call 0 on 0, fuel 1,024    | endless      | fuel 1024                                                | CallsOpen at call, units 1023
 a tree by it, fuel 1,023   | endless tree | fuel 1023                                                | FuelUsedUp over CallsOpen at call, units 1023
 a tree by it, fuel 1,024   | endless tree | fuel 1024                                                | CallsOpen at call, units 1023
-Sum                        | Sum          | input 02 01 ff ff ff 7f 01 01 00 00 00, fuel 17          | ended with -2147483648, units 17, read 11
+Sum                        | Sum          | input 02 01 ff ff ff 7f 01 01 00 00 00, fuel 17          | SumOutOfRange at add, units 15, read 11
 ";
 
 pub const OTHERS: &str = "
@@ -29,6 +29,12 @@ the label missing          | Grow         | input 01, room 5                    
 no room for the node tag   | Grow         | input 02, room 0                                         | OutputFull at node tag, units 1, read 1
 no room for the leaf tag   | Grow         | input 01 00 00 00 00, room 0                             | OutputFull at leaf tag, units 2, read 5
 no room for the label      | Grow         | input 01 00 00 00 00, room 1                             | OutputFull at write number, units 6, read 5, wrote 01
+Sum, fuel 16               | Sum          | input 02 01 ff ff ff 7f 01 01 00 00 00, fuel 16          | SumOutOfRange at add, units 15, read 11
+Sum, fuel 15               | Sum          | input 02 01 ff ff ff 7f 01 01 00 00 00, fuel 15          | FuelUsedUp over SumOutOfRange at add, units 15, read 11
+Sum to the greatest        | Sum          | input 02 01 fe ff ff 7f 01 01 00 00 00, fuel 17          | ended with 2147483647, units 17, read 11
+Sum to the least           | Sum          | input 02 01 00 00 00 c0 01 00 00 00 c0, fuel 17          | ended with -2147483648, units 17, read 11
+Grow on the greatest       | Grow         | input 02 01 05 00 00 00 01 ff ff ff 7f, room 11          | SumOutOfRange at add, units 19, read 11, wrote 02 01 06 00 00 00 01
+Grow next to the greatest  | Grow         | input 01 fe ff ff 7f, room 5                             | ended, units 10, read 5, wrote 01 ff ff ff 7f
 Sum of a leaf              | Sum          | input 01 fe ff ff ff, fuel 6                             | ended with -2, units 6, read 5
 Sum of three leaves        | Sum          | input 02 02 01 01 00 00 00 01 02 00 00 00 01 04 00 00 00 | ended with 7, units 28, read 17
 Fill                       | Fill         | input 02 01 00 00 00 00 01 07 00 00 00, room 11, fuel 35 | ended, units 35, read 11, wrote 02 01 0b 00 00 00 01 07 00 00 00

@@ -70,7 +70,8 @@ fn each_cause_is_listed_once_and_has_its_number() {
     };
     let numbers = [None, Some(13), Some(14), Some(15), Some(16)];
     assert_eq!(numbers.map(of), [2, 1, 2, 2, 1]);
-    assert_eq!([Some(17), Some(18), Some(19)].map(of), [2, 1, 8]);
+    let numbers = [Some(17), Some(18), Some(19), Some(21)];
+    assert_eq!(numbers.map(of), [2, 1, 8, 1]);
 }
 
 /// The listings stand in the order of the table, by their opcodes.

@@ -3,7 +3,7 @@ use opcode::*;
 
 /// Every cause with the opcodes where it is reported, none where it is reported
 /// without one; 13 aside.
-const TOLD: [(Cause, &[u8]); 18] = [
+const TOLD: [(Cause, &[u8]); 19] = [
     (Cause::EndedWithNone, &[RETURN]),
     (Cause::EndedWithOne, &[RETURN]),
     (Cause::NoFuel, &[]),
@@ -22,6 +22,7 @@ const TOLD: [(Cause, &[u8]); 18] = [
     (Cause::MissingWords, &TAKES_WORDS),
     (Cause::WordsBelowBase, &TAKES_WORDS),
     (Cause::SurplusWords, &[PUSH, GET, READ_NUMBER]),
+    (Cause::SumOutOfRange, &[ADD]),
 ];
 
 /// The opcodes that need words.
@@ -41,7 +42,7 @@ fn known_codes_stop_at_every_mark_and_no_other() {
     assert_eq!(stops.collect::<BTreeSet<Mark>>(), told());
 }
 
-/// 19 hides each of 15, 17 and 18 where both can stand at one instruction.
+/// 19 hides each of 15, 17, 18 and 21 where both can stand at one instruction.
 #[test]
 fn known_codes_hide_behind_19_all_that_can_be() {
     let behind = |mark: Mark| mark.number() == Some(19);
@@ -56,6 +57,7 @@ fn known_codes_hide_behind_19_all_that_can_be() {
         (Cause::WordsBelowBase, WRITE_NUMBER, Cause::OutputFull),
         (Cause::WordsBelowBase, WRITE_NUMBER, Cause::OutputShort),
         (Cause::WordsBelowBase, CALL, Cause::CallsOpen),
+        (Cause::WordsBelowBase, ADD, Cause::SumOutOfRange),
         (Cause::SurplusWords, READ_NUMBER, Cause::InputEnded),
         (Cause::SurplusWords, READ_NUMBER, Cause::LabelNotWhole),
     ];

@@ -30,7 +30,9 @@ Call 0 on 0, fuel 1,023   | number: Call 0 on 0                                 
 Call 0 on 0, fuel 1,024   | number: Call 0 on 0                                                     | fuel 1024                                                | refused 18, units 1023
 a tree by it, fuel 1,023  | tree: Call 0 on 0                                                       | fuel 1023                                                | refused 14, units 1023
 a tree by it, fuel 1,024  | tree: Call 0 on 0                                                       | fuel 1024                                                | refused 18, units 1023
-Sum                       | number: Case 0, Var 0, Add, Call 0 on 1, Call 0 on 2                    | input 02 01 ff ff ff 7f 01 01 00 00 00, fuel 17          | ended with -2147483648, units 17, read 11
+Sum                       | number: Case 0, Var 0, Add, Call 0 on 1, Call 0 on 2                    | input 02 01 ff ff ff 7f 01 01 00 00 00, fuel 17          | refused 21, units 15, read 11
+Sum, fuel 16              | number: Case 0, Var 0, Add, Call 0 on 1, Call 0 on 2                    | input 02 01 ff ff ff 7f 01 01 00 00 00, fuel 16          | refused 21, units 15, read 11
+Sum, fuel 15              | number: Case 0, Var 0, Add, Call 0 on 1, Call 0 on 2                    | input 02 01 ff ff ff 7f 01 01 00 00 00, fuel 15          | refused 14, units 15, read 11
 ";
 
 pub const OTHERS: &str = "
@@ -42,5 +44,9 @@ no room for the leaf tag  | tree: Case 0, Leaf, Add, Var 0, Const 1, Node, Call 
 no room for the label     | tree: Case 0, Leaf, Add, Var 0, Const 1, Node, Call 0 on 1, Call 0 on 2 | input 01 00 00 00 00, room 1                             | refused 17, units 6, read 5, wrote 01
 a leaf before its label   | tree: Leaf, Case 0, Var 0, Add, Call 1 on 1, Call 1 on 2 / number: Case 0, Const 1, Add, Call 1 on 1, Call 1 on 2 | input 03, room 5               | refused 16, units 1, read 0, wrote 01
 a label made of tags      | tree: Case 0, Leaf, Add, Var 0, Const 1, Node, Call 0 on 1, Call 0 on 2 | input 01 02 02 02 02, room 5                             | ended, units 10, read 5, wrote 01 03 02 02 02
+the greatest              | tree: Case 0, Leaf, Add, Var 0, Const 1, Node, Call 0 on 1, Call 0 on 2 | input 02 01 05 00 00 00 01 ff ff ff 7f, room 11          | refused 21, units 19, read 11, wrote 02 01 06 00 00 00 01
+17 before 21              | tree: Case 0, Leaf, Add, Var 0, Const 1, Node, Call 0 on 1, Call 0 on 2 | input 02 01 05 00 00 00 01 ff ff ff 7f, room 6           | refused 17, units 16, read 11, wrote 02 01 06 00 00 00
+21 with the leaf tag      | tree: Case 0, Leaf, Add, Var 0, Const 1, Node, Call 0 on 1, Call 0 on 2 | input 02 01 05 00 00 00 01 ff ff ff 7f, room 7           | refused 21, units 19, read 11, wrote 02 01 06 00 00 00 01
+21 and no tree after      | number: Case 0, Var 0, Add, Call 0 on 1, Call 0 on 2                    | input 02 02 01 ff ff ff 7f 01 01 00 00 00 03             | refused 21, units 17, read 12
 leaves until 17           | tree: Node, Leaf, Const 1, Call 0 on 0                                  | room 15                                                  | refused 17, units 13, wrote 02 01 01 00 00 00 02 01 01 00 00 00 02 01
 ";

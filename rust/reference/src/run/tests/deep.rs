@@ -1,8 +1,9 @@
 //! Deep trees, where about 1,024 calls are open.
 
-use super::evaluated::{ends, too_many, Subject};
+use super::evaluated::{breaks, ends, too_many, Subject};
 use crate::evaluate::Evaluation;
 use crate::generate::evaluated::{any_program, deep_tree};
+use crate::generate::sums::with_moderate_labels;
 use crate::machine::OPEN_LIMIT;
 use crate::program::Program;
 use crate::random::Random;
@@ -10,10 +11,12 @@ use crate::random::Random;
 /// No tree of these tests is deeper.
 const DEEPEST: usize = 4_000;
 
-/// The program on a tree of that depth; equal seeds give trees alike.
+/// The program on a tree of that depth; equal seeds give trees alike. Their
+/// labels alone have a sum that fits.
 fn at_depth(program: &Program, seed: u64, depth: usize) -> Subject {
-    let tree = deep_tree(&mut Random::new(seed), depth);
-    Subject::new(program.clone(), tree)
+    let random = &mut Random::new(seed);
+    let tree = deep_tree(random, depth);
+    Subject::new(program.clone(), with_moderate_labels(random, &tree))
 }
 
 fn ends_in_time(program: &Program, seed: u64, depth: usize) -> bool {
@@ -22,7 +25,8 @@ fn ends_in_time(program: &Program, seed: u64, depth: usize) -> bool {
 }
 
 /// A depth where the program ends with at most 1,024 calls open, while it does
-/// not with one level more, if there is one.
+/// not with one level more, if there is one. There it may also break off at a
+/// sum.
 fn last_depth(program: &Program, seed: u64) -> Option<usize> {
     let (mut low, mut high) = (0, DEEPEST);
     if !ends_in_time(program, seed, low) || ends_in_time(program, seed, high) {
@@ -42,7 +46,7 @@ fn last_depth(program: &Program, seed: u64) -> Option<usize> {
 #[test]
 fn about_1024_calls_open() {
     let mut random = Random::new(402);
-    let (mut all, mut exactly, mut one_more) = (0, 0, 0);
+    let (mut all, mut exactly, mut one_more, mut broken) = (0, 0, 0, 0);
     for seed in 0..80 {
         let program = any_program(&mut random);
         let Some(depth) = last_depth(&program, seed) else {
@@ -53,16 +57,22 @@ fn about_1024_calls_open() {
             panic!("{subject:?}");
         };
         ends(&mut random, &subject, &ended);
+        let subject = at_depth(&program, seed, depth + 1);
+        match subject.evaluate(OPEN_LIMIT) {
+            Evaluation::TooManyOpen { begun } => too_many(&mut random, &subject, begun),
+            Evaluation::SumOutOfRange { begun, units, .. } => {
+                breaks(&mut random, &subject, begun, units);
+                broken += 1;
+                continue;
+            }
+            _ => panic!("{subject:?}"),
+        }
         all += 1;
         exactly += usize::from(ended.open == OPEN_LIMIT);
-        let subject = at_depth(&program, seed, depth + 1);
-        let Evaluation::TooManyOpen { begun } = subject.evaluate(OPEN_LIMIT) else {
-            panic!("{subject:?}");
-        };
-        too_many(&mut random, &subject, begun);
         let with_one_more = subject.evaluate(OPEN_LIMIT + 1);
         one_more += usize::from(matches!(with_one_more, Evaluation::Ended(_)));
     }
     let seen = [all, exactly, one_more];
+    println!("{seen:?}, {broken} broken");
     assert!(seen.iter().all(|&count| count >= 40), "{seen:?}");
 }

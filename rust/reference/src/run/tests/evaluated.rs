@@ -169,6 +169,33 @@ pub fn too_many(random: &mut Random, subject: &Subject, begun: u64) {
     }
 }
 
+/// An evaluation that breaks off at a sum: 21 with fuel for a unit more than
+/// is performed and output enough, 14 with less fuel, 17 with less output.
+pub fn breaks(random: &mut Random, subject: &Subject, begun: u64, units: u64) {
+    let room = 3 * begun as usize;
+    let (ran, bytes) = subject.perform(random, units + 1, room);
+    assert_eq!((number(&ran), ran.units), (Some(21), units), "{subject:?}");
+    for fuel in [units + 2, 4 * begun + 1, u64::MAX] {
+        assert_eq!(subject.perform(random, fuel, room), (ran, bytes.clone()));
+    }
+    assert_eq!(subject.run(u64::MAX, room), (ran, bytes.clone()));
+    let just = subject.perform(random, u64::MAX, ran.written).0;
+    assert_eq!(just, ran, "{subject:?}");
+    for fuel in [random.below(1 + units as usize) as u64, units / 2, units] {
+        let (less, same) = subject.perform(random, fuel, room);
+        assert_eq!((number(&less), less.units), (Some(14), fuel), "{subject:?}");
+        assert_eq!(same[..less.written], bytes[..less.written]);
+        let all = (less.read, less.written) == (ran.read, ran.written);
+        assert!(fuel < units || all, "{subject:?}");
+    }
+    if ran.written > 0 {
+        let room = random.below(ran.written);
+        let (less, same) = subject.perform(random, u64::MAX, room);
+        assert_eq!(number(&less), Some(17), "{subject:?}");
+        assert_eq!(same[..less.written], bytes[..less.written]);
+    }
+}
+
 /// The branch that an instruction took, for those that have two.
 fn performed(subject: &Subject, trace: &Trace) -> BTreeMap<(u8, u8, bool), usize> {
     let mut counts = BTreeMap::new();
@@ -186,7 +213,7 @@ fn random_programs_on_random_trees() {
     let mut random = Random::new(401);
     let mut seen: BTreeMap<&str, usize> = BTreeMap::new();
     let mut instructions = BTreeMap::new();
-    for _ in 0..900 {
+    for _ in 0..1_800 {
         let program = any_program(&mut random);
         let tree = small_tree(&mut random);
         let subject = Subject::new(program, tree);
@@ -206,10 +233,15 @@ fn random_programs_on_random_trees() {
                 "18"
             }
             Evaluation::TooLong => panic!("{subject:?}"),
+            Evaluation::SumOutOfRange { begun, units, .. } => {
+                breaks(&mut random, &subject, begun, units);
+                "21"
+            }
         };
         *seen.entry(case).or_insert(0) += 1;
     }
-    let cases = ["a number", "a leaf", "a node", "18"];
+    println!("{seen:?}");
+    let cases = ["a number", "a leaf", "a node", "18", "21"];
     assert!(cases.iter().all(|case| seen[case] >= 50), "{seen:?}");
     // Ten opcodes with one way to go on, both ways of ifnot and read tag,
     // calls with 0 to 4 arguments, and both returns.

@@ -16,6 +16,7 @@ pub fn runs() -> Vec<Known> {
             Evaluation::Ended(ended) => of_ended(&known, ended),
             Evaluation::TooManyOpen { begun } => of_too_many(&known, *begun),
             Evaluation::TooLong => panic!("{}", known.name),
+            Evaluation::SumOutOfRange { record, begun, .. } => of_broken(&known, *record, *begun),
         })
         .collect()
 }
@@ -45,6 +46,22 @@ fn of_ended(known: &Evaluated, evaluated: &Ended) -> Vec<Known> {
         runs.push(with_answer(&name("less room"), less_room, answer, &[]));
     }
     runs
+}
+
+/// 21 with fuel for the expressions begun, whatever the output, and 14 with
+/// less.
+fn of_broken(known: &Evaluated, record: usize, begun: u64) -> Vec<Known> {
+    let of = |fuel, output, answer| {
+        let name = format!("{}, evaluated, fuel {fuel}, output {output}", known.name);
+        with_answer(&name, case(known, fuel, output), answer, &[])
+    };
+    let answer = refused(21, record, begun);
+    vec![
+        of(u64::MAX, 50, answer),
+        of(u64::MAX, 0, answer),
+        of(begun, 50, answer),
+        of(begun - 1, 50, refused(14, 0, begun - 1)),
+    ]
 }
 
 fn of_too_many(known: &Evaluated, begun: u64) -> Vec<Known> {

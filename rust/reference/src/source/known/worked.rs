@@ -17,9 +17,11 @@ Call 0 on 0, much fuel    | number: Call 0 on 0                                 
 a tree by it, fuel 1,023  | tree: Call 0 on 0                                                       | input 01 00 00 00 00, fuel 1023                          | refused 14 at 0, begun 1023
 a tree by it, fuel 1,024  | tree: Call 0 on 0                                                       | input 01 00 00 00 00, fuel 1024                          | refused 18 at 0, begun 1024
 Call 0 on 0 on no input   | number: Call 0 on 0                                                     | fuel 1024                                                | refused 15 at 0
-Sum                       | number: Case 0, Var 0, Add, Call 0 on 1, Call 0 on 2                    | input 02 01 ff ff ff 7f 01 01 00 00 00, fuel 8           | ended with -2147483648, begun 8
+Sum                       | number: Case 0, Var 0, Add, Call 0 on 1, Call 0 on 2                    | input 02 01 ff ff ff 7f 01 01 00 00 00, fuel 8           | refused 21 at 4, begun 8
 Sum, fuel 7               | number: Case 0, Var 0, Add, Call 0 on 1, Call 0 on 2                    | input 02 01 ff ff ff 7f 01 01 00 00 00, fuel 7           | refused 14 at 0, begun 7
-Sum with output           | number: Case 0, Var 0, Add, Call 0 on 1, Call 0 on 2                    | input 02 01 ff ff ff 7f 01 01 00 00 00, room 9           | ended with -2147483648, begun 8
+Sum with output           | number: Case 0, Var 0, Add, Call 0 on 1, Call 0 on 2                    | input 02 01 ff ff ff 7f 01 01 00 00 00, room 9           | refused 21 at 4, begun 8
+Sum, much fuel            | number: Case 0, Var 0, Add, Call 0 on 1, Call 0 on 2                    | input 02 01 ff ff ff 7f 01 01 00 00 00                   | refused 21 at 4, begun 8
+Sum of a broken tree      | number: Case 0, Var 0, Add, Call 0 on 1, Call 0 on 2                    | input 02 01 ff ff ff 7f 01 01 00 00                      | refused 15 at 7
 ";
 
 /// "The source run needs pass one only".
@@ -69,4 +71,12 @@ pub const REFUSALS: &str = "
 18 after its arguments  | number: Call 1 on 0, Const 1 / number 1: Call 1 on 0, Var 0             | input 01 00 00 00 00, fuel 2048                 | refused 18 at 0, begun 2048
 18 in an argument       | number: Call 1 on 0, Call 0 on 0 / number 1: Var 0                      | input 01 00 00 00 00                            | refused 18 at 0, begun 2048
 a label and no room     | tree: Leaf, Const 1                                                     | input 01 00 00 00 00, room 4                    | refused 17 at 0, begun 2
+21 before 17            | tree: Case 0, Leaf, Add, Var 0, Const 1, Node, Call 0 on 1, Call 0 on 2 | input 01 ff ff ff 7f                            | refused 21 at 4, begun 5
+21 with output enough   | tree: Case 0, Leaf, Add, Var 0, Const 1, Node, Call 0 on 1, Call 0 on 2 | input 01 ff ff ff 7f, room 5                    | refused 21 at 4, begun 5
+21 without fuel left    | tree: Case 0, Leaf, Add, Var 0, Const 1, Node, Call 0 on 1, Call 0 on 2 | input 01 ff ff ff 7f, room 5, fuel 5            | refused 21 at 4, begun 5
+14 before 21            | tree: Case 0, Leaf, Add, Var 0, Const 1, Node, Call 0 on 1, Call 0 on 2 | input 01 ff ff ff 7f, room 5, fuel 4            | refused 14 at 0, begun 4
+21 after a whole leaf   | tree: Case 0, Leaf, Add, Var 0, Const 1, Node, Call 0 on 1, Call 0 on 2 | input 02 01 05 00 00 00 01 ff ff ff 7f, room 11 | refused 21 at 4, begun 14
+18 before 21            | number: Add, Const 2147483647, Call 0 on 0                              | input 01 00 00 00 00                            | refused 18 at 0, begun 3072
+21 before 18            | number: Add, Add, Const 2147483647, Const 1, Call 0 on 0                | input 01 00 00 00 00                            | refused 21 at 3, begun 4
+16 before 21            | number: Add, Const 2147483647, Const 1                                  | input 00                                        | refused 16 at 0
 ";

@@ -6,7 +6,7 @@ use std::collections::BTreeMap;
 use super::*;
 use crate::evaluate::{evaluate, Ended, Evaluation};
 use crate::generate::sources::{any_program_and_tree, MODERATE};
-use crate::program::Program;
+use crate::program::{kind, Program, Record};
 use crate::random::Random;
 use crate::tree::Tree;
 
@@ -42,12 +42,23 @@ impl Subject {
     }
 
     /// The run is refused so, at 0, and nothing is written.
-    fn refused(&self, random: &mut Random, (fuel, output): (u64, usize), number: u8, begun: u64) {
-        let (sourced, _) = self.run(random, fuel, output);
+    fn refused(&self, random: &mut Random, given: (u64, usize), number: u8, begun: u64) {
         let refusal = Refusal {
             number,
             position: 0,
         };
+        self.refused_at(random, given, refusal, begun);
+    }
+
+    /// The run is refused so with this fuel and output.
+    fn refused_at(
+        &self,
+        random: &mut Random,
+        (fuel, output): (u64, usize),
+        refusal: Refusal,
+        begun: u64,
+    ) {
+        let (sourced, _) = self.run(random, fuel, output);
         let answer = Sourced::refused(refusal, begun);
         assert_eq!(sourced, answer, "{:?}", self.program.functions);
     }
@@ -93,11 +104,31 @@ fn too_many(random: &mut Random, subject: &Subject, begun: u64) {
     }
 }
 
+/// 21 at an Add's record with fuel for the expressions begun, whatever the
+/// output, and 14 with less.
+fn breaks(random: &mut Random, subject: &Subject, record: usize, begun: u64) {
+    let records = Record::list(&subject.program.records());
+    assert_eq!(records[record].kind, kind::ADD);
+    let refusal = Refusal {
+        number: 21,
+        position: record,
+    };
+    let room = random.below(100);
+    for fuel in [begun, begun + 1, u64::MAX] {
+        subject.refused_at(random, (fuel, room), refusal, begun);
+        subject.refused_at(random, (fuel, 0), refusal, begun);
+    }
+    let part = random.below(begun as usize) as u64;
+    for fuel in [0, part, begun - 1] {
+        subject.refused(random, (fuel, room), 14, fuel);
+    }
+}
+
 #[test]
 fn random_programs_on_random_trees() {
     let mut random = Random::new(411);
     let mut seen: BTreeMap<&str, usize> = BTreeMap::new();
-    for _ in 0..300 {
+    for _ in 0..450 {
         let (program, tree) = any_program_and_tree(&mut random);
         let subject = Subject::new(program, tree);
         if let Err(refusal) = read_tree(&subject.tokens) {
@@ -124,9 +155,14 @@ fn random_programs_on_random_trees() {
                 subject.refused(&mut random, (fuel, 0), 14, fuel);
                 "14"
             }
+            Evaluation::SumOutOfRange { record, begun, .. } => {
+                breaks(&mut random, &subject, *record, *begun);
+                "21"
+            }
         };
         *seen.entry(case).or_insert(0) += 1;
     }
-    assert_eq!(seen.len(), 4, "{seen:?}");
+    println!("{seen:?}");
+    assert_eq!(seen.len(), 5, "{seen:?}");
     assert!(seen.values().all(|&count| count >= 10), "{seen:?}");
 }

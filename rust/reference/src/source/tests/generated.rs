@@ -23,12 +23,11 @@ fn expected(case: &SourceCase) -> Result<(Sourced, Vec<u8>), Refusal> {
     let outcome = Records::new(&records).evaluate(&case.input, fuel, 1_024);
     assert!(outcome.begun <= MODERATE, "{case:?}");
     let long = outcome.written.len() > case.output;
-    let number = outcome.refused.or(long.then_some(17));
-    let refusal = number.map(|number| Refusal {
-        number,
+    let too_short = Refusal {
+        number: 17,
         position: 0,
-    });
-    Ok(match refusal {
+    };
+    Ok(match outcome.refused.or(long.then_some(too_short)) {
         Some(refusal) => (Sourced::refused(refusal, outcome.begun), vec![]),
         None => {
             let sourced = Sourced {

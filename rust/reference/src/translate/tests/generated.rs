@@ -88,7 +88,7 @@ fn leads_well(
 fn words_of_names_in_generated_programs() {
     let mut random = Random::new(202);
     let mut seen = [0; 5];
-    for _ in 0..400 {
+    for _ in 0..1_000 {
         let program = evaluated::any_program(&mut random);
         let code = translate_program(&program);
         let words = code.iter().filter(|one| one.opcode == opcode::GET);

@@ -4,6 +4,7 @@ use std::collections::BTreeMap;
 use std::fmt::Debug;
 
 use super::*;
+use crate::machine::opcode;
 
 /// So many cases of the mix.
 const CASES: usize = if cfg!(debug_assertions) {
@@ -34,15 +35,15 @@ fn every_cause_is_reachable_but_13() {
 }
 
 #[test]
-fn each_refusal_is_hidden_behind_14_and_15_17_18_behind_19() {
-    for number in 15..=19 {
+fn each_refusal_is_hidden_behind_14_and_15_17_18_21_behind_19() {
+    for number in [15, 16, 17, 18, 19, 21] {
         let told: Vec<u8> = hidden()
             .into_iter()
             .filter(|(_, mark)| mark.number() == Some(number))
             .map(|(told, _)| told)
             .collect();
         assert!(told.contains(&14), "{number}");
-        assert_eq!(told.contains(&19), [15, 17, 18].contains(&number));
+        assert_eq!(told.contains(&19), [15, 17, 18, 21].contains(&number));
     }
 }
 
@@ -51,8 +52,12 @@ fn the_mix_reaches_what_is_listed_and_nothing_else() {
     let mut random = Random::new(20);
     let mut marks = BTreeMap::new();
     let mut pairs = BTreeMap::new();
+    let mut ends = [0; 2];
     for _ in 0..CASES {
-        let stop = any_case(&mut random).perform_traced().1.stop;
+        let (_, trace, _) = any_case(&mut random).perform_traced();
+        ends[0] += usize::from(trace.end_sums.least > 0);
+        ends[1] += usize::from(trace.end_sums.greatest > 0);
+        let stop = trace.stop;
         *marks.entry(stop.mark).or_insert(0) += 1;
         if let (Some(told), Some(behind)) = (stop.mark.number(), stop.hidden) {
             *pairs.entry((told, behind)).or_insert(0) += 1;
@@ -60,6 +65,11 @@ fn the_mix_reaches_what_is_listed_and_nothing_else() {
     }
     compare("marks", &marks, reachable());
     compare("pairs", &pairs, hidden());
+    let sum = Mark::at(opcode::ADD, Cause::SumOutOfRange);
+    let sums = [marks[&sum], pairs[&(14, sum)], pairs[&(19, sum)]];
+    println!("sums out of range {sums:?}, at the ends {ends:?}");
+    assert!(ends.iter().all(|&count| count >= CASES / 200), "{ends:?}");
+    assert!(sums[0] >= CASES / 200, "{sums:?}");
 }
 
 /// Nothing is missing and nothing outside; the rarest is printed.

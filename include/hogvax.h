@@ -138,15 +138,16 @@ enum hogvax_refusal {
     /* A lent buffer. The position is 0. */
     HOGVAX_SPACE_TOO_SHORT = 13,  /* code, file, records, work or answer */
     /* A stream run: the position is the bytes read. A source run: for 14, 17
-     * and 18 the position is 0. The tree reader: 15, 16 and 20, at a byte of the
-     * input. */
+     * and 18 the position is 0, for 21 it is the record of the Add. The tree
+     * reader: 15, 16 and 20, at a byte of the input. */
     HOGVAX_FUEL_USED_UP = 14,     /* units, or expressions begun, are the fuel */
     HOGVAX_INPUT_ENDED = 15,      /* a tag or a whole label is not there */
     HOGVAX_NOT_A_TAG = 16,        /* a byte is not 1 or 2 */
     HOGVAX_OUTPUT_FULL = 17,      /* no room for a tag, a label or a result */
     HOGVAX_TOO_MANY_CALLS = 18,   /* a call with 1,024 open */
     HOGVAX_CANNOT_PERFORM = 19,   /* opcode, address, return byte, or words */
-    HOGVAX_TOO_DEEP = 20          /* a node tag under 1,024 others */
+    HOGVAX_TOO_DEEP = 20,         /* a node tag under 1,024 others */
+    HOGVAX_OUT_OF_RANGE = 21      /* a sum outside -2147483648 to 2147483647 */
 };
 
 /* ---- The tree reader */
@@ -231,8 +232,10 @@ uint32_t hogvax_translate(const uint8_t *file, size_t file_len,
  *
  * Refused with 13 where `values` or `returns` are too few, HOGVAX_VALUE_WORDS
  * and HOGVAX_RETURN_WORDS; all slots of the answer are then 0, and `output` is
- * untouched. Otherwise refused with 14 to 19 at an instruction: with 14 first,
- * then 19, then the others. That instruction is not counted and changes nothing.
+ * untouched. Otherwise refused with 14 to 19 or 21 at an instruction: with 14
+ * first, then 19, then the others. That instruction is not counted and changes
+ * nothing. 21 is an add of two words whose sum lies outside -2147483648 to
+ * 2147483647.
  *
  * What the run wrote stays at the start of `output`, also if it was refused; the
  * rest of `output` is untouched.
@@ -258,15 +261,20 @@ uint32_t hogvax_perform(const uint8_t *code, size_t code_len,
  *
  * Otherwise the code goes to the start of `code` and stays there, whatever the
  * run answers; the rest of `code` is untouched. The run ends or is refused with
- * 14 to 18, never with 19. What it wrote stays at the start of `output`, also if
- * it was refused; the rest of `output` is untouched.
+ * 14 to 18 or 21, never with 19. What it wrote stays at the start of `output`,
+ * also if it was refused; the rest of `output` is untouched.
  *
  * On a tree's tokens, with anything after them, every fuel from 4n + 1 up
- * suffices where the program's evaluation ends after n expressions with at most
- * 1,024 calls open at once and `output` has room for the result: the run ends,
- * HOGVAX_READ is the length of the tree, and the whole result has been written,
- * or HOGVAX_NUMBER is the number. For several trees, one after another, begin the
- * next call's input HOGVAX_READ bytes further on.
+ * suffices where the program's evaluation ends after n expressions, all its sums
+ * in range, with at most 1,024 calls open at once, and `output` has room for the
+ * result: the run ends, HOGVAX_READ is the length of the tree, and the whole
+ * result has been written, or HOGVAX_NUMBER is the number. For several trees, one
+ * after another, begin the next call's input HOGVAX_READ bytes further on.
+ *
+ * Where the evaluation comes to a sum outside -2147483648 to 2147483647, with at
+ * most 1,024 calls open at once, it has no result: with enough fuel and output
+ * the run is refused with 21. On a tree that hogvax_tree takes, hogvax_source then
+ * says at which record.
  *
  * The answer has HOGVAX_RUN_SLOTS slots. */
 uint32_t hogvax_run(const uint8_t *file, size_t file_len,
@@ -290,10 +298,12 @@ uint32_t hogvax_run(const uint8_t *file, size_t file_len,
  * where `values` or `returns` are too few, HOGVAX_VALUE_WORDS and
  * HOGVAX_RETURN_WORDS; then with 15, 16 or 20 where no tree begins `input`, as
  * by hogvax_tree. All slots of the answer after HOGVAX_POSITION are then 0.
- * Otherwise refused with 14 before an expression, or with 18 at a call, after its
- * arguments; last with 17 where the evaluation ended and `output` is shorter than
- * the result. For these three HOGVAX_POSITION is 0, and HOGVAX_SOURCE_BEGUN
- * counts the expressions begun.
+ * Otherwise refused with 14 before an expression, with 18 at a call, after its
+ * arguments, or with 21 at an Add, after its two numbers, whichever comes first;
+ * last with 17 where the evaluation ended and `output` is shorter than the result.
+ * For 14, 17 and 18 HOGVAX_POSITION is 0. For 21, where the sum of the two numbers
+ * lies outside -2147483648 to 2147483647, it is the record of the Add. For all
+ * four HOGVAX_SOURCE_BEGUN counts the expressions begun.
  *
  * A tree goes to the start of `output`, as tokens; the rest of `output` is
  * untouched. All of it is untouched where the result is a number, and on every

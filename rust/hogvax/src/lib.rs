@@ -41,7 +41,7 @@ pub use tree::{first_tree, tree, tree_into};
 /// A refusal: its number in the table of refusals (`docs/REFERENCE.md`), and its position.
 /// What that counts depends on the number: the tree reader's is a byte of the
 /// input, a program file's is a block or a record, a stream run's is the bytes
-/// read; a source run's own refusals are at 0.
+/// read; a source run's own refusals are at 0, but 21, which is at a record.
 #[derive(Clone, Copy, Debug, PartialEq, Eq)]
 pub struct Refused {
     pub number: u32,

@@ -102,7 +102,9 @@ impl Default for WorkSpace {
 ///   there;
 /// - 16, a tag is to be read and the byte is not 1 or 2;
 /// - 17, `output` has no room for the tag or label to be written;
-/// - 18, a call is to be made and 1,024 are open, the first frame counted.
+/// - 18, a call is to be made and 1,024 are open, the first frame counted;
+/// - 21, two words are to be added and their sum lies outside -2147483648 to
+///   2147483647.
 ///
 /// The position of each is the bytes read. Any bytes may be run as code, and any
 /// be its input. 13 does not come, since the run has its own work space.
@@ -161,6 +163,16 @@ pub fn perform(code: &[u8], input: &[u8], fuel: u64, output: &mut [u8]) -> Ran {
 /// assert_eq!(ran.to_string(), "ended units 2 read 0 written 0 number -3");
 /// let ran = hogvax::perform_in(&mut work, &code[8..], &[], 2, &mut []);
 /// assert_eq!(ran.to_string(), "refused 19 0 units 0 read 0 written 0 number 0");
+///
+/// // Push 2147483647, push 1, and add them: the sum is out of range.
+/// let code = [
+///     [0, 0, 0, 0, 0xff, 0xff, 0xff, 0x7f],
+///     [0, 0, 0, 0, 1, 0, 0, 0],
+///     [2, 0, 0, 0, 0, 0, 0, 0],
+/// ]
+/// .concat();
+/// let ran = hogvax::perform_in(&mut work, &code, &[], 3, &mut []);
+/// assert_eq!(ran.to_string(), "refused 21 0 units 2 read 0 written 0 number 0");
 /// ```
 pub fn perform_in(
     work: &mut WorkSpace,

@@ -11,10 +11,15 @@ use crate::{ffi, Ran, WorkSpace};
 ///
 /// On the tokens of a tree, whatever comes after them, the run reads opening
 /// bytes of the tree and writes opening bytes of what the program means. Where
-/// the program's evaluation ends after n expressions with at most 1,024 calls
-/// open at once, and `output` has room for the result, every fuel from 4n + 1
-/// up suffices: the whole tree is read, and the whole result written or the
-/// number given. For every other evaluation no fuel suffices.
+/// the program's evaluation ends after n expressions, all its sums in range, with
+/// at most 1,024 calls open at once, and `output` has room for the result, every
+/// fuel from 4n + 1 up suffices: the whole tree is read, and the whole result
+/// written or the number given. For every other evaluation no fuel suffices.
+///
+/// Where the evaluation comes to a sum outside -2147483648 to 2147483647, with at
+/// most 1,024 calls open at once, it has no result: with enough fuel and output
+/// the run is refused with 21, at the bytes read. On a tree that
+/// [`tree`](crate::tree) takes, [`source`](crate::source) says at which record.
 ///
 /// What the run wrote stays at the start of `output`, also if it was refused;
 /// the rest of `output` is left as it is.
@@ -41,6 +46,10 @@ use crate::{ffi, Ran, WorkSpace};
 /// assert_eq!(ran.to_string(), "refused 14 11 units 16 read 11 written 0 number 0");
 /// let ran = hogvax::run(&file[1..], &input, u64::MAX, &mut []);
 /// assert_eq!(ran.to_string(), "refused 1 0 units 0 read 0 written 0 number 0");
+/// // Leaves 2147483647 and 1: their sum is out of range.
+/// let input = [2, 1, 0xff, 0xff, 0xff, 0x7f, 1, 1, 0, 0, 0];
+/// let ran = hogvax::run(&file, &input, u64::MAX, &mut []);
+/// assert_eq!(ran.to_string(), "refused 21 11 units 15 read 11 written 0 number 0");
 /// ```
 pub fn run(file: &[u8], input: &[u8], fuel: u64, output: &mut [u8]) -> Ran {
     run_in(&mut WorkSpace::new(), file, input, fuel, output)

@@ -61,12 +61,13 @@ impl fmt::Display for Sourced {
 /// - 15, 16 and 20, no tree begins `input`, as [`tree`](crate::tree) says;
 /// - 14, the fuel is used up and an expression is to be begun; or 18, a call is
 ///   to be opened after its arguments and 1,024 are open, the first one
-///   counted; whichever the evaluation meets first;
+///   counted; or 21, an Add has its two numbers and their sum lies outside
+///   -2147483648 to 2147483647; whichever the evaluation meets first;
 /// - 17, the evaluation ended and `output` is shorter than the result.
 ///
-/// The position of 14, 17 and 18 is 0, and the expressions begun are counted. The
-/// other refusals have their own position, and 0 in every count. 13 does not
-/// come, since the run has its own work space.
+/// The position of 14, 17 and 18 is 0, that of 21 the record of the Add, and the
+/// expressions begun are counted. The other refusals have their own position, and
+/// 0 in every count. 13 does not come, since the run has its own work space.
 ///
 /// A tree goes to the start of `output` as tokens, and the rest of `output` is
 /// left as it is. A number and a refusal leave all of it as it is.
@@ -128,12 +129,16 @@ pub fn source(file: &[u8], input: &[u8], fuel: u64, output: &mut [u8]) -> Source
 /// let input = [2, 1, 0xff, 0xff, 0xff, 0x7f, 1, 1, 0, 0, 0];
 ///
 /// let mut work = hogvax::WorkSpace::new();
-/// let sourced = hogvax::source_in(&mut work, &file, &input, 1_000, &mut []);
-/// assert_eq!(sourced.to_string(), "ended begun 8 written 0 number -2147483648");
-/// let ran = hogvax::run_in(&mut work, &file, &input, 1_000, &mut []);
-/// assert_eq!(ran.number, sourced.number);
 /// let sourced = hogvax::source_in(&mut work, &file, &input[6..], 1_000, &mut []);
 /// assert_eq!(sourced.to_string(), "ended begun 2 written 0 number 1");
+/// let ran = hogvax::run_in(&mut work, &file, &input[6..], 1_000, &mut []);
+/// assert_eq!(ran.number, sourced.number);
+/// // The sum of both is 2147483648, which is out of range: the refusal is at the
+/// // record of the Add, and in the stream run at the bytes read.
+/// let sourced = hogvax::source_in(&mut work, &file, &input, 1_000, &mut []);
+/// assert_eq!(sourced.to_string(), "refused 21 4 begun 8 written 0 number 0");
+/// let ran = hogvax::run_in(&mut work, &file, &input, 1_000, &mut []);
+/// assert_eq!(ran.to_string(), "refused 21 11 units 15 read 11 written 0 number 0");
 /// ```
 pub fn source_in(
     work: &mut WorkSpace,

@@ -135,7 +135,7 @@ impl Found {
 }
 
 impl Detail {
-    fn new(text: impl Into<String>) -> Detail {
+    pub(super) fn new(text: impl Into<String>) -> Detail {
         Detail {
             record: None,
             text: text.into(),
@@ -143,7 +143,7 @@ impl Detail {
     }
 
     /// Of this record.
-    fn of(record: usize, text: impl Into<String>) -> Detail {
+    pub(super) fn of(record: usize, text: impl Into<String>) -> Detail {
         Detail {
             record: Some(record),
             text: text.into(),
@@ -152,7 +152,7 @@ impl Detail {
 }
 
 /// What a refusal's number alone says.
-fn general(refused: Refused) -> Explanation {
+pub(super) fn general(refused: Refused) -> Explanation {
     let message = match refused.number {
         4 => "the header is not that of these records",
         5 => "a field of this function is wrong",
@@ -163,6 +163,7 @@ fn general(refused: Refused) -> Explanation {
         10 => "no more than 16 numbers (words) may be held at a time",
         11 => "the trees are not taken in order, each once",
         12 => "no more than 16 trees may be pending",
+        21 => "the sum of its two numbers is out of range",
         _ => "the program is refused",
     };
     Explanation {

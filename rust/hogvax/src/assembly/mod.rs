@@ -18,9 +18,10 @@
 //!
 //! [`read`] gives its records, which [`pack`](crate::pack) turns into a program
 //! file; [`show`] is the way back. [`explain`] says in words why the records
-//! are refused, and [`misplaced`] finds a line that is indented as if it were a
-//! part of another record. What a program is, and whether it is refused, is
-//! decided by the proved calls alone.
+//! are refused, [`explain_sum`] which sum of a source run is out of range, and
+//! [`misplaced`] finds a line that is indented as if it were a part of another
+//! record. What a program is, and whether it is refused, is decided by the proved
+//! calls alone.
 
 mod explain;
 mod indentation;
@@ -31,6 +32,7 @@ mod read;
 pub(crate) mod records;
 mod rest;
 mod show;
+mod sums;
 mod wording;
 
 pub use explain::{explain, first_refusal, Detail, Explanation};
@@ -38,3 +40,4 @@ pub use indentation::{misplaced, Misplaced};
 pub use lines::LONGEST_TEXT;
 pub use read::{read, Text};
 pub use show::{show, Numbers};
+pub use sums::explain_sum;

@@ -3,7 +3,7 @@
 use std::ffi::OsStr;
 
 use hogvax::assembly::{self, Explanation, Text, LONGEST_TEXT};
-use hogvax::Refused;
+use hogvax::{Refused, Sourced};
 
 use crate::exit_status::Trouble;
 use crate::input::{self, Input};
@@ -21,14 +21,16 @@ pub struct Program {
     /// The bytes of its file; why there are none, if it is a text whose
     /// records are no program's.
     pub file: Result<Vec<u8>, Refused>,
+    /// How messages call the file that it was given as.
+    name: String,
     /// The text, if it was given as one.
-    text: Option<NamedText>,
+    text: Option<Text>,
 }
 
 /// A text, and how messages call its file.
-struct NamedText {
-    name: String,
-    text: Text,
+struct NamedText<'a> {
+    name: &'a str,
+    text: &'a Text,
 }
 
 /// The program in a file. So many bytes of a program file decide; those after them
@@ -37,7 +39,7 @@ pub fn load(file: &OsStr, longest: usize) -> Result<Given, Trouble> {
     let bytes = read(file, longest)?;
     Ok(match is_text(&bytes) {
         true => assemble(file, &bytes),
-        false => Given::Program(Program::from_file(bytes)),
+        false => Given::Program(Program::from_file(file, bytes)),
     })
 }
 
@@ -71,15 +73,17 @@ fn assemble(file: &OsStr, bytes: &[u8]) -> Given {
         Err(fault) => Given::Unread(format!("refused {name}:{fault}")),
         Ok(text) => Given::Program(Program {
             file: hogvax::pack(&text.records),
-            text: Some(NamedText { name, text }),
+            name,
+            text: Some(text),
         }),
     }
 }
 
 impl Program {
-    pub fn from_file(bytes: Vec<u8>) -> Program {
+    pub fn from_file(file: &OsStr, bytes: Vec<u8>) -> Program {
         Program {
             file: Ok(bytes),
+            name: input::name(file),
             text: None,
         }
     }
@@ -88,18 +92,36 @@ impl Program {
     /// answer: why the program is refused, if it is, and a line that does not
     /// stand where its indentation says.
     pub fn tell_of_text(&self, refused: Option<Refused>) -> Result<(), Trouble> {
-        let Some(named) = &self.text else {
+        let Some(text) = &self.text else {
             return Ok(());
         };
+        let named = self.named(text);
         if let Some(refused) = refused.filter(is_of_program) {
-            let explanation = assembly::explain(&named.text.records, refused);
+            let explanation = assembly::explain(&text.records, refused);
             output::tell(&named.explained(&explanation))?;
         }
-        if let Some(misplaced) = assembly::misplaced(&named.text) {
+        if let Some(misplaced) = assembly::misplaced(text) {
             let (place, message) = (named.place(misplaced.record), misplaced.message);
             output::tell(&format!("notice: {place}: {message}"))?;
         }
         Ok(())
+    }
+
+    /// Which sum is out of range in its source run, with this answer, on the tree
+    /// that begins the input. A program file has no lines to be named.
+    pub fn explained_sum(&self, input: &[u8], sourced: &Sourced) -> Option<String> {
+        let file = self.file.as_ref().ok()?;
+        let records = hogvax::unpack(file).ok()?;
+        let explanation = assembly::explain_sum(&records, input, sourced);
+        let places = Vec::new();
+        let unplaced = Text { records, places };
+        let text = self.text.as_ref().unwrap_or(&unplaced);
+        Some(self.named(text).explained(&explanation))
+    }
+
+    fn named<'a>(&'a self, text: &'a Text) -> NamedText<'a> {
+        let name = &self.name;
+        NamedText { name, text }
     }
 }
 
@@ -108,13 +130,13 @@ fn is_of_program(refused: &Refused) -> bool {
     (4..=12).contains(&refused.number)
 }
 
-impl NamedText {
+impl NamedText<'_> {
     /// Where a record stands in the text.
     fn place(&self, record: usize) -> String {
-        let name = &self.name;
+        let name = self.name;
         match self.text.places.get(record) {
             Some(place) => format!("{name}:{place}"),
-            None => name.clone(),
+            None => name.to_owned(),
         }
     }
 
@@ -158,7 +180,7 @@ mod tests {
     #[test]
     fn details_have_the_lines_of_their_records() {
         let text = assembly::read(b"\n\nfunction 0 takes tree 0 gives number\n  Const 5").unwrap();
-        let name = "five.txt".to_owned();
+        let (name, text) = ("five.txt", &text);
         let explanation = Explanation {
             record: 0,
             message: "so".to_owned(),

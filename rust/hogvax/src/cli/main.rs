@@ -12,6 +12,7 @@ mod output_space;
 mod printed_answer;
 mod progress;
 mod refusal_table;
+mod refused_sum;
 mod run_answer;
 mod run_over_tokens;
 mod token_file;

@@ -201,7 +201,7 @@ mod tests {
     /// Other refusals are no matter of space.
     #[test]
     fn only_a_full_output_grows() {
-        for number in (1..=20).filter(|&number| number != OUTPUT_FULL) {
+        for number in (1..=21).filter(|&number| number != OUTPUT_FULL) {
             let mut runs = 0;
             let answer = space(&[]).run(0, |output| {
                 runs += 1;

@@ -281,8 +281,8 @@ calls address 0 again and again:
         meaning: "\
 An opcode is above 13; an address is above 4,127 or has no 8 whole bytes of
 code; a return's byte 1 is not 0 or 1; words are missing above the frame's
-base; or more than 16,384 words would stand. It comes before 15 to 18. 'perform'
-may meet it, with code that is no program's; 'run' never does.",
+base; or more than 16,384 words would stand. It comes before 15 to 18 and 21.
+'perform' may meet it, with code that is no program's; 'run' never does.",
         position: "the bytes read.",
         example: "\
 an empty code buffer, fuel 1:
@@ -303,5 +303,29 @@ stream run has no such limit.",
   $ head -c 1025 /dev/zero | tr '\\0' '\\2' |
     ./hogvax source samples/programs/grow.program
   refused 20 1024 begun 0 written 0 number 0",
+    },
+    Refusal {
+        number: 21,
+        name: "sum out of range",
+        meaning: "\
+Numbers have 32 bits: they are -2147483648 to 2147483647. The exact sum of the
+two numbers of an Add lies outside, so the program has no result on this tree,
+and more fuel or space does not help. Sum smaller labels, such as thousands in
+place of ones, or fewer at a time: samples/texts/sum-clades-depth-2.txt sums
+clade by clade. 'source' says which Add it is, and its two numbers; so does
+'run', if 'tree' takes the tree. It comes after 14 and, in the stream run, after
+19.",
+        position: "\
+in the stream run the bytes read, in the source run the record of the
+Add; the header is record 0.",
+        example: "\
+the sample program Sum on a tree of read counts, its stream run, its
+code's and its source run; the first line of each, more is said after it:
+  $ ./hogvax run samples/programs/sum.program samples/trees/reads.tokens
+  refused 21 35 units 59 read 35 written 0 number 0
+  $ ./hogvax perform samples/code/sum.code samples/trees/reads.tokens --fuel 99
+  refused 21 35 units 59 read 35 written 0 number 0
+  $ ./hogvax source samples/programs/sum.program samples/trees/reads.tokens
+  refused 21 4 begun 32 written 0 number 0",
     },
 ];

@@ -58,6 +58,9 @@ pub struct RunVerb<A> {
     /// Whether a run may write before it is refused, so that there is
     /// `--partial`.
     pub partial: bool,
+    /// Reports on standard error which sum is out of range, if that is why the
+    /// run is refused.
+    pub tell_of_sum: fn(&A, &Program, &Opening) -> Result<(), Trouble>,
 }
 
 impl<A: Answer> RunVerb<A> {
@@ -66,7 +69,7 @@ impl<A: Answer> RunVerb<A> {
     pub fn run(&self, words: &[OsString]) -> Option<Outcome> {
         self.run_given(words, |file, longest| {
             let bytes = input::read_at_most(file, longest)?;
-            Ok(Given::Program(Program::from_file(bytes)))
+            Ok(Given::Program(Program::from_file(file, bytes)))
         })
     }
 
@@ -109,6 +112,7 @@ impl<A: Answer> RunVerb<A> {
             Err(refused) => (A::not_begun(*refused), Vec::new()),
         };
         let ended = hand_out(&answer, &data, words)?;
+        (self.tell_of_sum)(&answer, &first, &input)?;
         first.tell_of_text(answer.refused())?;
         tell_of_newick(&input, answer.refused())?;
         Ok(ended)

@@ -5,6 +5,7 @@ use std::ffi::OsString;
 use hogvax::Ran;
 
 use crate::exit_status::{Outcome, Trouble};
+use crate::refused_sum;
 use crate::run_over_tokens::RunVerb;
 use crate::verb::Verb;
 
@@ -22,9 +23,9 @@ performed, the bytes read and written, and the number that the code gave, 0 if
 it gave none.
 
 If the run is refused, it writes no data and prints 'refused NUMBER POSITION
-units U read R written W number 0' on standard error. The number is 14 to 19 and
-the position is the bytes read; 'hogvax why NUMBER' says more. With --partial it
-still writes what the run wrote before the refusal.
+units U read R written W number 0' on standard error. The number is 14 to 19 or
+21 and the position is the bytes read; 'hogvax why NUMBER' says more. With
+--partial it still writes what the run wrote before the refusal.
 
 With --space the output has room for M bytes. Without, it has room for 1 MiB or
 twice the input, whichever is more; where that is too little the run is made
@@ -49,6 +50,7 @@ const PERFORM: RunVerb<Ran> = RunVerb {
     call: hogvax::perform_in,
     data: |_, _, written| written,
     partial: true,
+    tell_of_sum: refused_sum::in_code,
 };
 
 fn run(words: &[OsString]) -> Option<Outcome> {

@@ -5,6 +5,7 @@ use std::ffi::OsString;
 use hogvax::Ran;
 
 use crate::exit_status::Outcome;
+use crate::refused_sum;
 use crate::run_over_tokens::{result, RunVerb};
 use crate::verb::Verb;
 
@@ -25,12 +26,14 @@ tree, which begins FILE; bytes after that tree are not looked at.
 If the program or the run is refused, it writes no data and prints 'refused
 NUMBER POSITION units U read R written W number 0' on standard error. The number
 is 1 to 12 if the program is refused, as in 'hogvax help check', and all counts
-are 0. It is 14 to 18 if the run is, and the position is then the bytes read.
-'hogvax why NUMBER' says more. With --partial it still writes what the run wrote
-before the refusal.
+are 0. It is 14 to 18 or 21 if the run is, and the position is then the bytes
+read. 'hogvax why NUMBER' says more. With --partial it still writes what the run
+wrote before the refusal.
 
 What is wrong with a text is said on standard error, too, with line and column.
 A text that can't be read is 'refused FILE:LINE:COLUMN:' and what is wrong.
+Where a sum is out of range, refusal 21, its Add and its two numbers are named,
+if 'hogvax tree' takes the tree.
 
 N is how many instructions may be performed. Without --fuel it is the most that
 there can be, 18446744073709551615: a program that is checked always ends, or is
@@ -59,6 +62,7 @@ const RUN: RunVerb<Ran> = RunVerb {
     call: hogvax::run_in,
     data: result,
     partial: true,
+    tell_of_sum: refused_sum::in_stream_run,
 };
 
 fn run(words: &[OsString]) -> Option<Outcome> {

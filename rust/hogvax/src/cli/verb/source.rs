@@ -5,6 +5,7 @@ use std::ffi::OsString;
 use hogvax::Sourced;
 
 use crate::exit_status::Outcome;
+use crate::refused_sum;
 use crate::run_over_tokens::{result, RunVerb};
 use crate::verb::Verb;
 
@@ -28,11 +29,12 @@ If the program, the input or the run is refused, it writes no data and prints
 number is 1 to 10 if the program is refused, as in 'hogvax help check', and 15,
 16 or 20 if no tree begins FILE, as in 'hogvax help tree'; B is then 0. It is 14
 if the fuel is used up, 18 if too many calls are open and 17 if the output is
-shorter than the result, and the position is then 0. 'hogvax why NUMBER' says
-more.
+shorter than the result, and the position is then 0. It is 21 if a sum is out of
+range, at the record of the Add. 'hogvax why NUMBER' says more.
 
 What is wrong with a text is said on standard error, too, with line and column.
 A text that can't be read is 'refused FILE:LINE:COLUMN:' and what is wrong.
+Where a sum is out of range, its two numbers are named as well.
 
 N is how many expressions may be begun, 1000000000 if --fuel is left out: a
 program that takes a tree more than once may begin more than any time allows.
@@ -62,6 +64,7 @@ const SOURCE: RunVerb<Sourced> = RunVerb {
     call: hogvax::source_in,
     data: result,
     partial: false,
+    tell_of_sum: refused_sum::in_source_run,
 };
 
 fn run(words: &[OsString]) -> Option<Outcome> {

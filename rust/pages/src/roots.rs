@@ -23,7 +23,7 @@ pub const CONTRACTS: [Contracts; 2] = [
 ];
 
 /// The statements of the demands: file and name.
-pub const STATEMENTS: [(&str, &str); 9] = [
+pub const STATEMENTS: [(&str, &str); 10] = [
     ("formats/specs/Reader", "TreeReader"),
     ("formats/specs/ProgramFiles", "ProgramFiles"),
     ("rules/specs/OrderChecker", "OrderChecker"),
@@ -31,13 +31,15 @@ pub const STATEMENTS: [(&str, &str); 9] = [
     ("meaning/specs/Meaning", "Meaning"),
     ("translation/specs/Demand3", "Demand3Holds"),
     ("translation/specs/EveryRun", "EveryRunHolds"),
+    ("translation/specs/OutOfRange", "OutOfRangeHolds"),
     ("translation/specs/CodeLimits", "CodeLimitsHold"),
     ("translation/specs/ThisCall", "AllRunnable"),
 ];
 
 /// Statements of definitions, that they say what they seem to: file and name.
-pub const OF_DEFINITIONS: [(&str, &str); 3] = [
+pub const OF_DEFINITIONS: [(&str, &str); 4] = [
     ("translation/specs/Listing", "NeverShort"),
     ("formats/specs/Written", "Wrote"),
+    ("formats/specs/Arithmetic", "ResultsStand"),
     ("run_answers/specs/RunSlots", "Extends"),
 ];

@@ -15,6 +15,7 @@ const NOT_A_TAG: u32 = 16;
 const OUTPUT_FULL: u32 = 17;
 const TOO_MANY_CALLS: u32 = 18;
 const CANNOT_PERFORM: u32 = 19;
+const OUT_OF_RANGE: u32 = 21;
 
 const LEAF_TAG: u8 = 1;
 const NODE_TAG: u8 = 2;
@@ -141,9 +142,14 @@ impl<'a> Machine<'a> {
 
     fn add(&mut self) -> Performed {
         self.needs(2)?;
-        let right = self.pop();
-        let left = self.pop();
-        self.push(left.wrapping_add(right))
+        let right = self.values[self.top - 1] as i32;
+        let left = self.values[self.top - 2] as i32;
+        let Some(sum) = left.checked_add(right) else {
+            return Err(Stop::Refused(OUT_OF_RANGE));
+        };
+        self.top -= 1;
+        self.values[self.top - 1] = sum as u32;
+        Ok(())
     }
 
     fn ifnot(&mut self, address: usize) -> Performed {

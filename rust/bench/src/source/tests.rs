@@ -6,7 +6,7 @@ use reference::source::known;
 use reference::{assemble, generate, Random};
 
 use super::*;
-use bench::trees::deepest_caterpillar;
+use bench::trees::{deepest_caterpillar, small_labels};
 
 /// The stream machine's benchmark has the code of the same programs.
 #[test]
@@ -47,7 +47,7 @@ fn both_ways_answer_known_runs() {
 #[test]
 fn every_program_is_measured() {
     let mut random = Random::new(4);
-    let trees = (1..20).map(|tips| generate::tree(&mut random, tips).tokens());
+    let trees = (1..20).map(|tips| small_labels(&generate::tree(&mut random, tips)));
     let input = Input {
         name: "small trees",
         trees: trees.collect(),

@@ -31,13 +31,14 @@ pub fn result_length(program: &Program, tips: usize) -> usize {
     }
 }
 
-/// The tokens of a tree with so many tips, at least 1, and random labels.
+/// The tokens of a tree with so many tips, at least 1, and random labels, from -32
+/// to 31: so the sum of the largest input is in range.
 pub fn tree(random: &mut Random, tips: usize) -> Vec<u8> {
     let mut tokens = Vec::with_capacity(length(tips));
     let mut pending = vec![tips];
     while let Some(tips) = pending.pop() {
         if tips == 1 {
-            Token::Leaf(random.number()).write(&mut tokens);
+            Token::Leaf(random.below(64) as i32 - 32).write(&mut tokens);
         } else {
             let left = left_tips(random, tips);
             Token::Node.write(&mut tokens);

@@ -41,14 +41,12 @@ fn all_ways_give_the_same_output_and_number() {
         assert!(run == plain && run == trees, "{tips} tips");
         let (given, output) = run;
         assert_eq!((given.written, given.number), (input.len(), 0));
-        let grown = labels(&input)
-            .into_iter()
-            .map(|label| label.wrapping_add(1));
+        let grown = labels(&input).into_iter().map(|label| label + 1);
         assert_eq!(labels(&output), grown.collect::<Vec<i32>>());
 
         let [run, plain, trees] = gone(&sum, &input, tips);
         assert!(run == plain && run == trees, "{tips} tips");
-        let number = labels(&input).into_iter().fold(0, i32::wrapping_add);
+        let number = labels(&input).into_iter().sum();
         let given = Given { written: 0, number };
         assert_eq!(run, (given, vec![]));
     }
@@ -77,6 +75,7 @@ fn the_input_is_one_tree_of_the_tips_asked_for() {
     }
     let largest = MEGABYTES.map(inputs::tips)[MEGABYTES.len() - 1];
     assert!(greatest_depth(largest) < 70);
+    assert!(32 * largest < 1 << 31);
 }
 
 #[test]

@@ -97,7 +97,7 @@ const SLOTS: [(&str, usize); 9] = [
 #[test]
 fn the_constants_are_right() {
     let refusals = refusals();
-    assert_eq!(refusals.len(), 20);
+    assert_eq!(refusals.len(), 21);
     let others = LENGTHS.iter().chain(&SLOTS);
     let others = others.map(|&(name, value)| (name.to_owned(), value));
     let expected: BTreeMap<String, usize> = others.chain(refusals).collect();

@@ -40,13 +40,15 @@ fn long_trees_go_through() {
     use reference::Token::{Leaf, Node};
     let tips = 1 << 18;
     let tree = reference::generate::balanced(&mut reference::Random::new(160), tips);
-    let mut grown = Vec::new();
+    let (mut tokens, mut grown) = (Vec::new(), Vec::new());
     for token in tree.prefix() {
-        let token = match token {
-            Leaf(label) => Leaf(label.wrapping_add(1)),
-            Node => Node,
+        // A label that is one more is in range.
+        let (token, more) = match token {
+            Leaf(label) => (Leaf(label / 2), Leaf(label / 2 + 1)),
+            Node => (Node, Node),
         };
-        token.write(&mut grown);
+        token.write(&mut tokens);
+        more.write(&mut grown);
     }
     // Each leaf takes 10 instructions, each node 5; and 5 expressions, and 4.
     let (units, length) = (10 * tips + 5 * (tips - 1), grown.len());
@@ -54,7 +56,7 @@ fn long_trees_go_through() {
     let begun = 5 * tips + 4 * (tips - 1);
     let sourced = format!("ended begun {begun} written {length} number 0\n");
     for (verb, line) in [(PERFORM, &streamed), (RUN, &streamed), (SOURCE, &sourced)] {
-        let output = verb.run_grow_on(&tree.tokens(), &["--fuel", "1000000000"]);
+        let output = verb.run_grow_on(&tokens, &["--fuel", "1000000000"]);
         assert_gives(&output, 0, &grown, line);
     }
 }

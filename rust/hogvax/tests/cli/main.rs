@@ -20,6 +20,7 @@ mod run_verbs;
 mod show;
 mod source;
 mod stream;
+mod sums;
 #[cfg(target_os = "linux")]
 mod terminal;
 mod texts;

@@ -50,8 +50,7 @@ fn run_code(code: &[u8], options: &[&str]) -> Output {
 fn sum_gives_a_number_and_no_data() {
     let output = run(&["perform", &sum(), &small(), "--fuel", "17"]);
     assert_gives(&output, 0, &[], SUMMED);
-    // Leaves 2147483647 and 1.
-    let input = [2, 1, 0xff, 0xff, 0xff, 0x7f, 1, 1, 0, 0, 0];
+    let input = two_leaves(-2147483647, -1);
     let output = run_on(&["perform", &sum(), "--fuel", "17"], &input);
     let line = "ended units 17 read 11 written 0 number -2147483648\n";
     assert_gives(&output, 0, &[], line);

@@ -6,8 +6,8 @@ use reference::{mend_checks, Expr, Random};
 use super::*;
 
 #[test]
-fn why_explains_the_numbers_1_to_20() {
-    for number in 1..=20 {
+fn why_explains_the_numbers_1_to_21() {
+    for number in 1..=21 {
         let text = printed(run(&["why", &number.to_string()]));
         assert!(text.starts_with(&format!("{number}: ")), "{text}");
         assert!(text.contains("\nPosition: "), "{text}");
@@ -18,9 +18,9 @@ fn why_explains_the_numbers_1_to_20() {
 
 #[test]
 fn why_knows_no_other_number() {
-    for number in (21..=30).chain([0]) {
+    for number in (22..=30).chain([0]) {
         let message = trouble(run(&["why", &number.to_string()]));
-        assert!(message.contains("1 to 20"), "{message}");
+        assert!(message.contains("1 to 21"), "{message}");
     }
     for number in ["4294967297", "18446744073709551617"] {
         trouble(run(&["why", number]));
@@ -65,13 +65,18 @@ fn typed(command: &str) -> Output {
 fn the_commands_are_true() {
     let (mut performed, mut run_programs) = (Vec::new(), Vec::new());
     let mut sourced = Vec::new();
-    for number in 1..=20 {
+    for number in 1..=21 {
         let text = printed(run(&["why", &number.to_string()]));
         for (command, line) in commands(&text) {
             let output = typed(&command);
             assert_eq!(output.status.code(), Some(1), "{command}");
             let said = [output.stdout, output.stderr].concat();
-            assert_eq!(String::from_utf8(said).unwrap(), line, "{command}");
+            let mut said = String::from_utf8(said).unwrap();
+            // Which sum it is, is not shown there.
+            if number == 21 {
+                said.truncate(line.len());
+            }
+            assert_eq!(said, line, "{command}");
             if command.contains("./hogvax perform ") {
                 performed.push(number);
             }
@@ -83,9 +88,9 @@ fn the_commands_are_true() {
             }
         }
     }
-    assert_eq!(performed, [14, 15, 16, 17, 18, 19]);
-    assert_eq!(run_programs, [11, 14, 17]);
-    assert_eq!(sourced, [14, 15, 16, 17, 20]);
+    assert_eq!(performed, [14, 15, 16, 17, 18, 19, 21]);
+    assert_eq!(run_programs, [11, 14, 17, 21]);
+    assert_eq!(sourced, [14, 15, 16, 17, 20, 21]);
 }
 
 /// The example of 13, which this command never meets.

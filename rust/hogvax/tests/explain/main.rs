@@ -6,6 +6,7 @@ mod known_names;
 mod known_order;
 mod known_rows;
 mod mended;
+mod sums;
 mod walk;
 
 use std::sync::OnceLock;

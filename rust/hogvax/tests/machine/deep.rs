@@ -1,5 +1,6 @@
 //! Worked programs on trees about as deep as calls can be open.
 
+use reference::generate::sums::with_moderate_labels;
 use reference::generate::{left_caterpillar, mixed_caterpillar, right_caterpillar};
 use reference::machine::known::computed::results;
 use reference::machine::known::programs::{FILL, GROW, SUM};
@@ -30,7 +31,7 @@ fn the_deepest_trees_are_gone_through() {
         for depth in [DEEPEST - 2, DEEPEST - 1, DEEPEST] {
             let tree = make(&mut random, depth);
             for result in results(&tree) {
-                if depth <= deepest(result.0) {
+                if depth <= deepest(result.listing) {
                     check(&mut lent, &tree, &result, &[1]);
                 }
             }
@@ -41,8 +42,8 @@ fn the_deepest_trees_are_gone_through() {
 /// 18 at a call, with fuel and room enough; what was written opens the result.
 fn refused(lent: &mut Lent, listing: &str, tree: &Tree) -> Gave {
     let all = results(tree);
-    let result = all.iter().find(|result| result.0 == listing);
-    let bytes = &result.expect("a program").1;
+    let result = all.iter().find(|result| result.listing == listing);
+    let bytes = &result.expect("a program").wrote;
     let case = worked(listing, tree.tokens(), u64::MAX, bytes.len());
     let (gave, trace) = lent.answer_traced(&case);
     assert_eq!(gave.number, 18, "{case:?}");
@@ -58,6 +59,7 @@ fn deeper_trees_give_18() {
     for make in [left_caterpillar, right_caterpillar, mixed_caterpillar] {
         for depth in [DEEPEST + 1, DEEPEST + 2, 2 * DEEPEST, 10_000] {
             let tree = make(&mut random, depth);
+            let tree = with_moderate_labels(&mut random, &tree);
             for listing in [GROW, SUM, FILL] {
                 let gave = refused(&mut lent, listing, &tree);
                 let writes = listing != SUM;
@@ -77,6 +79,8 @@ fn the_call_that_is_refused() {
     let mut lent = Lent::new();
     let left = left_caterpillar(&mut random, DEEPEST + 1);
     let right = right_caterpillar(&mut random, DEEPEST + 1);
+    let left = with_moderate_labels(&mut random, &left);
+    let right = with_moderate_labels(&mut random, &right);
     for (listing, tree, each_read, each, last) in [
         (GROW, &left, 1, 3, 2),
         (SUM, &left, 1, 2, 1),

@@ -51,5 +51,5 @@ fn larger_fuels_change_nothing() {
         }
     }
     println!("{seen:?}");
-    assert!(seen.keys().eq(&[0, 15, 16, 17, 18, 19]), "{seen:?}");
+    assert!(seen.keys().eq(&[0, 15, 16, 17, 18, 19, 21]), "{seen:?}");
 }

@@ -1,6 +1,7 @@
 //! Worked programs on trees.
 
 use reference::generate;
+use reference::generate::sums::with_moderate_labels;
 use reference::machine::known::computed::results;
 use reference::machine::known::programs::GROW;
 use reference::{Random, Token, Tree};
@@ -84,7 +85,8 @@ fn broken_trees_are_refused_where_the_tree_reader_refuses() {
     let mut seen = [0; 17];
     for _ in 0..10_000 {
         let tips = 1 + random.below(20);
-        let tokens = generate::tree(&mut random, tips).tokens();
+        let tree = generate::tree(&mut random, tips);
+        let tokens = with_moderate_labels(&mut random, &tree).tokens();
         let input = generate::damaged(&mut random, &tokens);
         let case = worked(GROW, input, 1_000, 200);
         let ran = lent.call(&case).ran();

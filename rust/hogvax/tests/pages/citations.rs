@@ -1,11 +1,13 @@
 //! Every citation of the customer's description, 01, names a heading of
-//! `docs/REFERENCE.md`, and every citation of a paper something that its
-//! section "Papers" lists.
+//! `docs/REFERENCE.md`, every citation of a paper something that its section
+//! "Papers" lists, and what is quoted of a change request stands in its section
+//! "Change requests".
 //!
-//! In the comments of the crates each mention of 01, 000 or 003 is a citation:
-//! `01, Tokens: ".."`, `000, Figure 6`. What stands inside quotation marks is
-//! the cited text and may mention them otherwise. In the documents a citation
-//! is a mention that is followed by a capital or by a name in quotation marks.
+//! In the comments of the crates each mention of 01, 000, 003 or a change request
+//! is a citation: `01, Tokens: ".."`, `000, Figure 6`, `N3: ".."`. What stands
+//! inside quotation marks is the cited text and may mention them otherwise. In the
+//! documents a citation is a mention that is followed by a capital or by a name in
+//! quotation marks; of a change request, one that is followed by a quotation.
 
 use std::fs;
 use std::path::{Path, PathBuf};
@@ -17,23 +19,49 @@ use crate::trial;
 /// The page with the headings.
 pub const PAGE: &str = "docs/REFERENCE.md";
 
-/// What may be cited: the headings of the page, and what it lists of papers.
+/// What may be cited: the headings of the page, what it lists of papers, and the
+/// change requests.
 pub struct Citable {
     headings: Vec<String>,
     papers: String,
+    requests: Vec<String>,
 }
 
 impl Citable {
     pub fn new(page: &str) -> Citable {
-        let papers = section(page, "Papers");
+        let requests = section(page, "Change requests");
+        let texts = requests.split("\n\n").map(str::trim);
+        let requests = texts.filter(|text| text.starts_with('>'));
         Citable {
             headings: headings(page),
-            papers,
+            papers: section(page, "Papers"),
+            requests: requests.map(|text| text.replace("\n> ", " ")).collect(),
         }
+    }
+
+    /// The text of a change request, on one line.
+    fn request(&self, source: &str) -> Option<&String> {
+        let beginning = format!("> **{source}. ");
+        let mut requests = self.requests.iter();
+        requests.find(|text| text.starts_with(&beginning))
+    }
+
+    /// Whether the text of the change request has what is quoted; `..` stands for
+    /// words left out.
+    fn has(&self, source: &str, quoted: &str) -> bool {
+        let mut rest = self.request(source).map(String::as_str);
+        for piece in quoted.split("..").map(str::trim) {
+            let found = rest.and_then(|text| text.split_once(piece));
+            rest = found.map(|(_, after)| after);
+        }
+        rest.is_some()
     }
 
     /// Whether what follows a mention of the source makes a citation of it.
     fn holds(&self, source: &str, after: &str) -> bool {
+        if is_request(source) {
+            return self.request(source).is_some();
+        }
         let Some(name) = after.strip_prefix(", ") else {
             return false;
         };
@@ -78,8 +106,12 @@ fn begins(text: &str, name: &str) -> bool {
     })
 }
 
-/// The documents that are cited by a number.
-const SOURCES: [&str; 3] = ["01", "000", "003"];
+/// What is cited by a number: documents, then change requests.
+const SOURCES: [&str; 4] = ["01", "000", "003", "N3"];
+
+fn is_request(source: &str) -> bool {
+    source.starts_with('N')
+}
 
 /// Each mention of a source in a text, with what follows it. A byte of a row of
 /// bytes, as in `02 01 05`, and a part of a number or a name are none.
@@ -150,10 +182,31 @@ fn unquoted(text: &str) -> String {
     }
 }
 
+/// The quotations of a comment, each with its source: the one mentioned last
+/// between it and the quotation before it, or that one's where no word is between.
+fn quotations(comment: &str) -> Vec<(&'static str, &str)> {
+    let pieces: Vec<&str> = comment.split('"').collect();
+    let (mut found, mut last) = (Vec::new(), None);
+    for pair in pieces.chunks_exact(2) {
+        let mentions = mentions(pair[0]);
+        let nearest = mentions.iter().min_by_key(|(_, after)| after.len());
+        let goes_on = !pair[0].contains(char::is_alphanumeric);
+        last = nearest
+            .map(|(source, _)| *source)
+            .or(last.filter(|_| goes_on));
+        found.extend(last.map(|source| (source, pair[1])));
+    }
+    found
+}
+
 /// The citations of a source file that are wrong, and how many it has.
 fn in_source(text: &str, citable: &Citable) -> (Vec<String>, usize) {
     let (mut wrong, mut all) = (Vec::new(), 0);
     for (line, comment) in comments(text) {
+        let quoted = quotations(&comment).into_iter();
+        let misquoted =
+            quoted.filter(|(source, quoted)| is_request(source) && !citable.has(source, quoted));
+        wrong.extend(misquoted.map(|(source, quoted)| format!("{line}: {source}: {quoted:?}")));
         let comment = unquoted(&comment);
         let mentions = mentions(&comment);
         all += mentions.len();
@@ -170,15 +223,23 @@ fn in_document(text: &str, citable: &Citable) -> (Vec<String>, usize) {
     let outside: Vec<&str> = text.split("\n```").step_by(2).collect();
     let joined = outside.join("\n").replace('\n', " ");
     let mut cited = mentions(&joined);
-    cited.retain(|(_, after)| {
+    cited.retain(|(source, after)| {
         let name = after.strip_prefix(", ").unwrap_or("");
-        name.starts_with(|letter: char| letter.is_uppercase() || letter == '"')
+        let is_named = name.starts_with(|letter: char| letter.is_uppercase() || letter == '"');
+        is_named || is_request(source) && quotation(after).is_some()
     });
-    let wrong = cited
-        .iter()
-        .filter(|(source, after)| !citable.holds(source, after));
+    let wrong = cited.iter().filter(|(source, after)| {
+        let is_quoted = quotation(after).is_none_or(|quoted| citable.has(source, quoted));
+        !citable.holds(source, after) || is_request(source) && !is_quoted
+    });
     let wrong = wrong.map(|(source, after)| format!("{source}{}", opening(after)));
     (wrong.collect(), cited.len())
+}
+
+/// What is quoted right after a mention.
+fn quotation(after: &str) -> Option<&str> {
+    let quoted = after.strip_prefix(": \"")?;
+    quoted.split('"').next().filter(|text| *text != "..")
 }
 
 /// The first letters of a text, to show where it stands.
@@ -222,9 +283,12 @@ fn every_citation_names_a_heading() {
 
 #[test]
 fn a_citation_without_a_heading_is_found() {
-    let page = "# Title\n\n## Papers\n\n| 000, Figure 6 | rules |\n\n## Tokens\n\n### Pass one\n";
+    let page = "# Title\n\n## Papers\n\n| 000, Figure 6 | rules |\n\n## Change requests\n\n\
+        > **N3. Sums.** Add now refuses\n> where the sum lies outside.\n\n\
+        ## Tokens\n\n### Pass one\n";
     let citable = Citable::new(page);
-    assert_eq!(citable.headings, ["Papers", "Tokens", "Pass one"]);
+    let headings = ["Papers", "Change requests", "Tokens", "Pass one"];
+    assert_eq!(citable.headings, headings);
     for (comment, wrong, all) in [
         ("-- 01, Tokens: \"A node is byte 2\".", 0, 1),
         ("-- 01: \"A node is byte 2\".", 1, 1),
@@ -241,6 +305,17 @@ fn a_citation_without_a_heading_is_found() {
         ),
         ("x01 = 01 -- no comment of its own", 0, 0),
         ("// 000's fix", 1, 1),
+        (
+            "-- N3: \"Add now refuses\n-- where\"; \"Add .. outside.\"",
+            0,
+            1,
+        ),
+        ("-- N3: \"Add refuses\".", 1, 1),
+        ("-- N3: \"outside. .. Add\".", 1, 1),
+        ("-- N3: \"Add\"; \"Add refuses\".", 1, 1),
+        ("-- N3: \"Add\". An \"other\" one.", 0, 1),
+        ("-- 01, Tokens: \"Add refuses\". N3 says it too.", 0, 2),
+        ("-- N3 says it, and 01, Tokens: \"Add refuses\".", 0, 2),
     ] {
         let (missed, found) = in_source(comment, &citable);
         assert_eq!((missed.len(), found), (wrong, all), "{comment}");
@@ -249,4 +324,7 @@ fn a_citation_without_a_heading_is_found() {
         "01 has it; 01, Tokens has it; ## Document 01, \"Pass one\"\n\n01, Words; 01, the rest";
     let (missed, found) = in_document(text, &citable);
     assert_eq!((missed.len(), found), (1, 3), "{missed:?}");
+    let text = "N3 has it, `N3: \"..\"`; N3: \"Add now\nrefuses\"; N3: \"Add refuses\"";
+    let (missed, found) = in_document(text, &citable);
+    assert_eq!((missed.len(), found), (1, 2), "{missed:?}");
 }

@@ -65,7 +65,7 @@ fn the_table_of_refusals_has_every_refusal() {
         .collect();
     let defined = numbers(&text("crates/formats/specs/Refusals.antt"));
     assert_eq!(table, defined);
-    assert_eq!(table.len(), 20);
+    assert_eq!(table.len(), 21);
     let constants = constants();
     for (name, number) in &table {
         let constant = constants.get(&constant_of(name));
@@ -82,7 +82,7 @@ fn the_positions_of_all_refusals_are_said() {
     let numbers = others.flat_map(|cells| cells[0].split(", "));
     let mut numbers: Vec<u64> = numbers.map(|number| number.parse().unwrap()).collect();
     numbers.sort_unstable();
-    assert_eq!(numbers, (1..=20).collect::<Vec<u64>>());
+    assert_eq!(numbers, (1..=21).collect::<Vec<u64>>());
 }
 
 #[test]

@@ -71,7 +71,7 @@ fn work_words_that_are_too_few_give_13() {
 #[test]
 fn space_that_is_enough() {
     let mut lent = Lent::new();
-    let mut seen = [0; 19];
+    let mut seen = [0; 22];
     for case in cases() {
         let need = translate(&case.file).expect("code").len();
         let expected = lent.answer(&with_space(&case, need, ENOUGH[0]));
@@ -85,7 +85,7 @@ fn space_that_is_enough() {
         }
         seen[expected.number as usize] += 1;
     }
-    for number in [0, 14, 15, 16, 17, 18] {
+    for number in [0, 14, 15, 16, 17, 18, 21] {
         assert!(seen[number] > 0, "answer {number} was not seen");
     }
 }
@@ -97,7 +97,7 @@ fn one_of_each() -> Vec<(RunCase, Gave)> {
     let all = known_runs::one_of_each(super::known::all());
     let mut numbers: Vec<u32> = all.iter().map(|(_, gave)| gave.number).collect();
     numbers.sort_unstable();
-    assert!(numbers.into_iter().eq(0..=18));
+    assert_eq!(numbers, super::known::ANSWERS);
     all
 }
 

@@ -1,6 +1,7 @@
 //! Trees that stand one after the other, and trees deeper than the tree
 //! reader reads.
 
+use reference::generate::sums::with_moderate_labels;
 use reference::generate::{self, left_caterpillar, mixed_caterpillar, right_caterpillar};
 use reference::{evaluate, Evaluation, Random, Tree};
 
@@ -10,8 +11,8 @@ use super::*;
 /// So many trees in one buffer.
 const TREES: usize = 1_000;
 
-/// What a program means on a tree: the bytes of its result, its number, and
-/// the units of its run.
+/// What a program means on a tree, on which no sum is out of range: the bytes of
+/// its result, its number, and the units of its run.
 fn meant(program: &Program, tree: &Tree) -> (Vec<u8>, i32, u64) {
     match evaluate(program, tree, 1_024, u64::MAX) {
         Evaluation::Ended(ended) => (ended.value.bytes(), ended.value.number(), ended.units + 1),
@@ -48,7 +49,8 @@ fn a_thousand_trees_one_after_the_other() {
     let mut lent = Lent::new();
     let mut tree = || {
         let tips = 1 + random.below(30);
-        generate::tree(&mut random, tips)
+        let tree = generate::tree(&mut random, tips);
+        with_moderate_labels(&mut random, &tree)
     };
     let trees: Vec<Tree> = (0..TREES).map(|_| tree()).collect();
     for program in samples() {

@@ -104,5 +104,6 @@ fn the_code_gives_what_the_readme_says() {
         "ended units 17 read 11 written 0 number 12"
     );
     let ran = hogvax::perform(&sum, &two_leaves(i32::MAX, 1), 17, &mut []);
-    assert_eq!(ran.number, i32::MIN);
+    let line = "refused 21 11 units 15 read 11 written 0 number 0";
+    assert_eq!(ran.to_string(), line);
 }

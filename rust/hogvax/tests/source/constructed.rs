@@ -3,7 +3,7 @@
 
 mod maker;
 
-use reference::generate;
+use reference::generate::{self, sums::with_moderate_labels};
 use reference::{Expr, Program, Random, Tree};
 
 use super::{number_valued, tree_valued};
@@ -24,6 +24,8 @@ pub struct Constructed {
     pub number: i32,
     pub bytes: Vec<u8>,
     pub begun: u64,
+    /// Whether all its sums are in range. Where they are not it gives nothing.
+    pub fits: bool,
 }
 
 impl Constructed {
@@ -45,7 +47,9 @@ impl Constructed {
             scope.bind_parts(name);
             name = (left + usize::from(goes_right)) as u8;
         }
-        let mut made = Maker { random }.expression(&scope, tree_result, size);
+        let mut maker = Maker { random, fits: true };
+        let mut made = maker.expression(&scope, tree_result, size);
+        let fits = maker.fits;
         for name in names.into_iter().rev() {
             let leaf = match tree_result {
                 true => Expr::leaf(Expr::var(0)),
@@ -65,6 +69,7 @@ impl Constructed {
             number,
             bytes,
             begun: made.begun,
+            fits,
         }
     }
 }
@@ -122,5 +127,6 @@ fn tree_with_path(random: &mut Random, nodes: usize) -> (Tree, Vec<bool>) {
 
 fn small_tree(random: &mut Random) -> Tree {
     let tips = 1 + random.below(4);
-    generate::tree(random, tips)
+    let tree = generate::tree(random, tips);
+    with_moderate_labels(random, &tree)
 }

@@ -17,8 +17,10 @@ const SHORT: usize = 40;
 struct Meant {
     file: Vec<u8>,
     tokens: Vec<u8>,
-    /// The number 0, and the bytes of the result; or the refusal 18.
+    /// The number 0, and the bytes of the result; or the refusal 18 or 21, and
+    /// its position.
     number: u32,
+    position: u64,
     result: Vec<u8>,
     /// The expressions begun, and the number given.
     begun: u64,
@@ -31,11 +33,12 @@ impl Meant {
         let (file, tokens) = (file(program), tree.tokens());
         let case = SourceCase::new(&file, &tokens, MODERATE, 100_000);
         let gave = lent.answer(&case);
-        let [_, begun, written, given] = gave.slots;
-        matches!(gave.number, 0 | 18).then(|| Meant {
+        let [position, begun, written, given] = gave.slots;
+        matches!(gave.number, 0 | 18 | 21).then(|| Meant {
             file,
             tokens,
             number: gave.number,
+            position,
             result: gave.output[..written as usize].to_vec(),
             begun,
             given,
@@ -43,14 +46,14 @@ impl Meant {
     }
 
     /// What a run with this fuel and an output of so many bytes gives: 14 with
-    /// less fuel than expressions begin; else 18, or 17 with less room than the
-    /// result has bytes.
+    /// less fuel than expressions begin; else 18 or 21, or 17 with less room than
+    /// the result has bytes.
     fn with(&self, fuel: u64, room: usize) -> Gave {
         let mut output = vec![FILLER; room];
         let (number, slots) = if fuel < self.begun {
             (14, [0, fuel, 0, 0])
-        } else if self.number == 18 {
-            (18, [0, self.begun, 0, 0])
+        } else if self.number != 0 {
+            (self.number, [self.position, self.begun, 0, 0])
         } else if room < self.result.len() {
             (17, [0, self.begun, 0, 0])
         } else {
@@ -91,7 +94,7 @@ impl Meant {
 
     /// Every fuel with room for the result and with any room; every room with
     /// just enough fuel, one unit less, and any fuel. Counts the answers.
-    fn check(&self, lent: &mut Lent, random: &mut Random, seen: &mut [usize; 21]) {
+    fn check(&self, lent: &mut Lent, random: &mut Random, seen: &mut [usize; 22]) {
         let (fuels, rooms) = (self.fuels(random), self.rooms(random));
         let mut check = |fuel, room| {
             let case = SourceCase::new(&self.file, &self.tokens, fuel, room);
@@ -111,8 +114,8 @@ impl Meant {
     }
 }
 
-fn assert_all_seen(seen: [usize; 21]) {
-    for number in [0, 14, 17, 18] {
+fn assert_all_seen(seen: [usize; 22]) {
+    for number in [0, 14, 17, 18, 21] {
         assert!(seen[number] > 0, "answer {number} was not seen: {seen:?}");
     }
 }
@@ -120,7 +123,7 @@ fn assert_all_seen(seen: [usize; 21]) {
 #[test]
 fn fuels_and_rooms_of_random_programs() {
     let mut random = Random::new(420);
-    let (mut lent, mut seen) = (Lent::new(), [0; 21]);
+    let (mut lent, mut seen) = (Lent::new(), [0; 22]);
     let mut stopped = 0;
     for _ in times(150, 1_500) {
         let (program, tree) = any_program_and_tree(&mut random);
@@ -142,7 +145,7 @@ fn fuels_and_rooms_of_random_programs() {
 #[test]
 fn fuels_and_rooms_of_known_evaluations() {
     let mut random = Random::new(421);
-    let (mut lent, mut seen) = (Lent::new(), [0; 21]);
+    let (mut lent, mut seen) = (Lent::new(), [0; 22]);
     for known in known::all() {
         if let Some(meant) = Meant::new(&mut lent, &known.program, &known.tree) {
             meant.check(&mut lent, &mut random, &mut seen);

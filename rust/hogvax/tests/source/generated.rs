@@ -82,7 +82,7 @@ fn random_cases_are_answered_as_the_reference_does() {
         }
     }
     println!("{seen:?} {short:?}");
-    let answers = (0..=10).chain(13..=18).chain([20]);
+    let answers = (0..=10).chain(13..=18).chain([20, 21]);
     assert!(seen.keys().copied().eq(answers), "{seen:?}");
     for alone in [[true, false], [false, true]] {
         assert!(short.contains_key(&alone), "{alone:?}: {short:?}");
@@ -90,7 +90,8 @@ fn random_cases_are_answered_as_the_reference_does() {
 }
 
 /// Programs that pass pass one. Of those that pass pass two and of the others
-/// some end, some open too many calls and some have a tree that is too deep.
+/// some end, some open too many calls, some come to a sum that is out of range and
+/// some have a tree that is too deep.
 #[test]
 fn random_programs_are_answered_as_the_reference_does() {
     let mut random = Random::new(411);
@@ -105,7 +106,7 @@ fn random_programs_are_answered_as_the_reference_does() {
     }
     println!("{seen:?}");
     for in_order in [false, true] {
-        for number in [0, 18, 20] {
+        for number in [0, 18, 20, 21] {
             let count = seen.get(&(in_order, number)).copied().unwrap_or(0);
             assert!(count > 3, "{in_order}, {number}: {seen:?}");
         }
@@ -152,7 +153,7 @@ fn each_damage_to_a_file_gives_its_refusal() {
             let gave = lent.answer(&case);
             let (number, position) = (u32::from(refusal.number), refusal.position as u64);
             match number {
-                11 | 12 => assert!(matches!(gave.number, 0 | 14 | 17 | 18), "{case:?}"),
+                11 | 12 => assert!(matches!(gave.number, 0 | 14 | 17 | 18 | 21), "{case:?}"),
                 _ => assert_eq!((gave.number, gave.slots), (number, [position, 0, 0, 0])),
             }
             seen[number as usize] += 1;

@@ -7,7 +7,9 @@ use super::known_runs::{assert_answers, assert_answers_alone, assert_sign_extend
 use super::*;
 
 /// The refusals that a source run gives: all but those of pass two and 19.
-const REFUSALS: [u32; 17] = [1, 2, 3, 4, 5, 6, 7, 8, 9, 10, 13, 14, 15, 16, 17, 18, 20];
+const REFUSALS: [u32; 18] = [
+    1, 2, 3, 4, 5, 6, 7, 8, 9, 10, 13, 14, 15, 16, 17, 18, 20, 21,
+];
 
 /// The reference's known source runs.
 pub fn all() -> Vec<Known<SourceCase, 4>> {
@@ -127,12 +129,23 @@ fn call_0_on_0() {
 }
 
 /// "Sum (Case 0, Var 0, Add, Call 0 on 1, Call 0 on 2) of leaves 2147483647
-/// and 1: −2147483648."
+/// and 1". N3: "The Sum case of document 01 becomes this refusal." The Add is
+/// record 4, and no fuel is looked at once both numbers stand.
 #[test]
-fn sum_is_modulo_2_to_the_32() {
+fn sum_of_two_leaves_is_out_of_range() {
     let body = Expr::case(0, Expr::var(0), Expr::plus(call(1), call(2)));
     let sum = alone(number_valued(0, body));
     let input = [2, 1, 0xff, 0xff, 0xff, 0x7f, 1, 1, 0, 0, 0];
-    let line = "ended begun 8 written 0 number -2147483648".to_owned();
+    for fuel in 0..8 {
+        let line = format!("refused 14 0 begun {fuel} written 0 number 0");
+        assert_eq!(source(&sum, &input, fuel), (line, [9; 3]));
+    }
+    for fuel in [8, 9, u64::MAX] {
+        let line = "refused 21 4 begun 8 written 0 number 0".to_owned();
+        assert_eq!(source(&sum, &input, fuel), (line, [9; 3]));
+    }
+    // One less is the greatest number.
+    let input = [2, 1, 0xfe, 0xff, 0xff, 0x7f, 1, 1, 0, 0, 0];
+    let line = "ended begun 8 written 0 number 2147483647".to_owned();
     assert_eq!(source(&sum, &input, 8), (line, [9; 3]));
 }

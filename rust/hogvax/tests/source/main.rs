@@ -17,6 +17,7 @@ mod run_call;
 mod run_space;
 mod space;
 mod stream;
+mod sums;
 
 use std::time::{Duration, Instant};
 

@@ -15,6 +15,7 @@ fn check(lent: &mut Lent, constructed: &Constructed) {
         number,
         bytes,
         begun,
+        ..
     } = constructed;
     let (written, room) = (bytes.len(), bytes.len() + 3);
     let output = [&bytes[..], &[FILLER; 3]].concat();
@@ -31,13 +32,20 @@ fn check(lent: &mut Lent, constructed: &Constructed) {
     assert_eq!((gave.number, gave.slots), (14, slots), "{program:?}");
 }
 
+/// A sum is out of range: so say the library and the reference.
+fn assert_refused(lent: &mut Lent, constructed: &Constructed) {
+    let file = file(&constructed.program);
+    let case = SourceCase::new(&file, &constructed.tokens, constructed.begun, 100_000);
+    assert_eq!(lent.answer(&case).number, 21, "{:?}", constructed.program);
+}
+
 /// Small expressions and large ones, with up to 128 Cases around them: tree
 /// names up to 255 are bound.
 #[test]
 fn constructed_programs_give_what_is_known() {
     let mut random = Random::new(450);
     let mut lent = Lent::new();
-    let (mut checked, mut all_names, mut trees) = (0, 0, 0);
+    let (mut checked, mut all_names, mut trees, mut outside) = (0, 0, 0, 0);
     for _ in times(200, 2_000) {
         let cases = random.pick(&[0, 1, 4, 20, 60, 127, 128]);
         let size = 1 + random.below(400);
@@ -45,13 +53,19 @@ fn constructed_programs_give_what_is_known() {
         if constructed.program.nodes() > NODE_LIMIT {
             continue;
         }
+        if !constructed.fits {
+            assert_refused(&mut lent, &constructed);
+            outside += 1;
+            continue;
+        }
         check(&mut lent, &constructed);
         checked += 1;
         all_names += usize::from(cases == 128);
         trees += usize::from(!constructed.bytes.is_empty());
     }
-    println!("{checked}, {all_names} with all names, {trees} trees");
+    println!("{checked}, {all_names} with all names, {trees} trees; {outside} out of range");
     assert!(checked > 20 && all_names > 3 && trees > 5, "{checked}");
+    assert!(outside > 3, "{outside}");
     assert!(trees < checked, "no numbers");
 }
 
@@ -69,6 +83,7 @@ fn lets_are_nested_up_to_16_words() {
             number,
             bytes: vec![],
             begun,
+            fits: true,
         };
         check(&mut lent, &constructed);
     }
@@ -83,7 +98,7 @@ fn lets(random: &mut Random, names: &mut Vec<i32>, words: usize) -> (Expr, i32, 
     }
     if random.below(3) == 0 {
         let (rest, other, more) = lets(random, names, words + 1);
-        let sum = value.wrapping_add(other);
+        let sum = value.checked_add(other).expect("small numbers");
         return (Expr::plus(number, rest), sum, 1 + begun + more);
     }
     names.push(value);
@@ -99,7 +114,8 @@ fn named(random: &mut Random, names: &[i32]) -> (Expr, i32, u64) {
         return (Expr::constant(number), number, 1);
     }
     let [left, right] = [0, 1].map(|_| random.below(names.len()));
-    let sum = names[left].wrapping_add(names[right]);
+    let sum = names[left].checked_add(names[right]);
+    let sum = sum.expect("small numbers");
     let expr = Expr::plus(Expr::var(left as u8), Expr::var(right as u8));
     (expr, sum, 3)
 }

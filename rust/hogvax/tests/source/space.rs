@@ -19,7 +19,7 @@ fn one_of_each() -> Vec<(SourceCase, Gave)> {
     let mut all = known_runs::one_of_each(super::known::all());
     all.retain(|(_, gave)| gave.number != 13);
     let numbers: Vec<u32> = all.iter().map(|(_, gave)| gave.number).collect();
-    for number in (0..=10).chain([14, 15, 16, 17, 18, 20]) {
+    for number in (0..=10).chain([14, 15, 16, 17, 18, 20, 21]) {
         assert!(numbers.contains(&number), "no known run answers {number}");
     }
     all
@@ -93,7 +93,7 @@ fn a_call_refused_before_its_run_touches_nothing_else() {
                 assert_touches_nothing_else(&case, lengths, 13, [0; 4]);
             }
         }
-        if ![0, 14, 17, 18].contains(&gave.number) {
+        if ![0, 14, 17, 18, 21].contains(&gave.number) {
             assert_touches_nothing_else(&case, case.lengths(), gave.number, gave.slots);
         }
     }

@@ -3,6 +3,7 @@
 use std::collections::BTreeMap;
 
 use reference::generate::evaluated::{any_program, deep_tree, small_tree};
+use reference::generate::sums::{self, with_moderate_labels};
 use reference::generate::{balanced, mixed_caterpillar};
 use reference::{check_program, Tree};
 
@@ -68,37 +69,47 @@ fn number(both: &Both) -> u32 {
     both.sourced.refused.map_or(0, |refused| refused.number)
 }
 
+/// A program in order and a tree; one in ten with sums at the ends of the range.
+fn any_program_and_tree(random: &mut Random) -> (Program, Tree) {
+    match random.below(10) {
+        0 => sums::program_and_tree(random),
+        _ => (any_program(random), any_tree(random)),
+    }
+}
+
 /// Where the source run ends, so does the stream run, and gives the same;
-/// where the source run is refused with 18, so is the stream run.
+/// where the source run is refused with 18 or 21, so is the stream run.
 #[test]
 fn checked_programs_mean_what_they_give() {
     let mut random = Random::new(440);
     let (mut lent, mut seen) = (Lent::new(), BTreeMap::new());
-    for _ in times(300, 3_000) {
-        let program = any_program(&mut random);
+    for _ in times(900, 9_000) {
+        let (program, tree) = any_program_and_tree(&mut random);
         assert!(check_program(&program).is_ok(), "{program:?}");
-        let file = file(&program);
-        for _ in 0..3 {
-            let tokens = any_tree(&mut random).tokens();
-            // Deeper trees are refused by the source run alone.
-            let case = SourceCase::new(&file, &tokens, MODERATE, ROOM);
-            let refused = lent.source(&case).0.refused;
-            if refused.is_some_and(|refused| [14, 20].contains(&refused.number)) {
-                continue;
-            }
-            let both = Both::new(&mut lent, &file, &tokens, MODERATE, ROOM);
-            match number(&both) {
-                0 => both.assert_equal(&tokens),
-                18 => assert_eq!(both.ran.refused.map(|refused| refused.number), Some(18)),
-                other => panic!("{other}: {program:?}"),
-            }
-            let kind = (number(&both), program.functions[0].tree_valued);
-            *seen.entry(kind).or_insert(0) += 1;
+        let (file, tokens) = (file(&program), tree.tokens());
+        // Deeper trees are refused by the source run alone.
+        let case = SourceCase::new(&file, &tokens, MODERATE, ROOM);
+        let refused = lent.source(&case).0.refused;
+        if refused.is_some_and(|refused| [14, 20].contains(&refused.number)) {
+            continue;
         }
+        let both = Both::new(&mut lent, &file, &tokens, MODERATE, ROOM);
+        match number(&both) {
+            0 => both.assert_equal(&tokens),
+            other @ (18 | 21) => {
+                let refused = both.ran.refused.map(|refused| refused.number);
+                assert_eq!(refused, Some(other), "{program:?}");
+            }
+            other => panic!("{other}: {program:?}"),
+        }
+        let kind = (number(&both), program.functions[0].tree_valued);
+        *seen.entry(kind).or_insert(0) += 1;
     }
     println!("{seen:?}");
-    for kind in [(0, false), (0, true), (18, false), (18, true)] {
-        assert!(seen.get(&kind).is_some_and(|&count| count > 20), "{seen:?}");
+    for number in [0, 18, 21] {
+        for kind in [(number, false), (number, true)] {
+            assert!(seen.get(&kind).is_some_and(|&count| count > 20), "{seen:?}");
+        }
     }
 }
 
@@ -114,7 +125,7 @@ fn sample_programs_mean_what_they_give() {
         mixed_caterpillar(&mut random, 1_000),
     ];
     for tree in trees {
-        let tokens = tree.tokens();
+        let tokens = with_moderate_labels(&mut random, &tree).tokens();
         for name in ["depth", "grow", "prune", "sum", "tips"] {
             let file = std::fs::read(format!("{folder}/{name}.program")).unwrap();
             let both = Both::new(&mut lent, &file, &tokens, 10_000_000, tokens.len());

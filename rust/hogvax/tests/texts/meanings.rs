@@ -6,7 +6,7 @@ mod depth;
 mod mask;
 pub mod parts;
 mod prune;
-mod relabel;
+pub mod relabel;
 mod select;
 mod sum;
 mod threshold;
@@ -48,7 +48,7 @@ pub const MEANINGS: [(&str, Meaning); 43] = [
     ("mask-all-but-1-to-4", Gives(mask::all_but_1_to_4)),
     ("mask-label-7", Gives(mask::label_7)),
     ("mask-odd-depth", Gives(mask::odd_depth)),
-    ("mask-odd-labels", Gives(mask::odd_labels)),
+    ("mask-odd-to-9", Gives(mask::odd_to_9)),
     ("prune-depth-3", Gives(prune::depth_3)),
     ("prune-ladder-0", Gives(prune::ladder_0)),
     ("prune-outgroup", Gives(prune::outgroup)),
@@ -69,10 +69,7 @@ pub const MEANINGS: [(&str, Meaning); 43] = [
     ("sum-even-depth", Number(sum::even_depth, &[0, 1, 7])),
     ("sum-known", Number(sum::known, &[0, 1, 7])),
     ("sum-labels", Number(sum::labels, &[-1, 0, 1, 7])),
-    (
-        "sum-left-minus-right",
-        Number(sum::left_minus_right, &[-1, 0, 1, 7]),
-    ),
+    ("sum-left-part", Number(sum::left_part, &[-1, 0, 1, 7])),
     ("threshold-depth-2", Gives(threshold::depth_2)),
     (
         "threshold-greatest-depth-5",

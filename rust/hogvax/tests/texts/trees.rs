@@ -11,7 +11,7 @@ use reference::Tree;
 use crate::{bytes, files, hogvax_at_root, samples, trees_in};
 
 /// The files, without their endings.
-const NAMES: [&str; 5] = ["deep", "forest", "small", "thousand", "wide"];
+const NAMES: [&str; 6] = ["deep", "forest", "reads", "small", "thousand", "wide"];
 
 #[test]
 fn there_are_no_other_trees() {
@@ -56,7 +56,7 @@ fn the_script_makes_the_newick_files() {
         let made = fs::read(folder.join(format!("new/trees/{name}.nwk"))).unwrap();
         assert!(made == bytes(&format!("trees/{name}.nwk")), "{name}");
     }
-    assert_eq!(fs::read_dir(folder.join("new/trees")).unwrap().count(), 5);
+    assert_eq!(fs::read_dir(folder.join("new/trees")).unwrap().count(), 6);
 }
 
 /// Other seeds give other trees of the same numbers, and one seed the same.
@@ -129,7 +129,7 @@ fn the_token_files_are_printed_and_read_again() {
 /// Newick without names, lengths and comments is what `newick` prints.
 #[test]
 fn the_plain_newick_files_are_printed() {
-    for name in ["deep", "small", "thousand", "wide"] {
+    for name in ["deep", "reads", "small", "thousand", "wide"] {
         let printed = newick::print(&bytes(&format!("trees/{name}.tokens"))).unwrap();
         assert!(
             printed.into_bytes() == bytes(&format!("trees/{name}.nwk")),

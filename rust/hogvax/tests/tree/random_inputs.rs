@@ -68,5 +68,5 @@ fn damage_to_a_tree_of_greatest_depth_is_found() {
         seen.count(assert_like_reference(&whole));
         seen.count(assert_like_reference(&damaged(&mut random, whole)));
     }
-    seen.assert_at_least(150);
+    seen.assert_at_least(100);
 }

@@ -17,6 +17,9 @@ pub enum Meaning {
     /// It opens more than 1,024 calls, and has no result as far as it was
     /// followed.
     Endless,
+    /// It breaks off at a sum that is out of range, with at most 1,024 calls
+    /// open at once: its code performs so many instructions before.
+    Breaks { units: u64 },
 }
 
 impl Meaning {
@@ -26,6 +29,7 @@ impl Meaning {
             Evaluation::Ended(ended) => return Some(Meaning::Ends(ended)),
             Evaluation::TooLong => return None,
             Evaluation::TooManyOpen { .. } => {}
+            Evaluation::SumOutOfRange { units, .. } => return Some(Meaning::Breaks { units }),
         }
         match evaluate(program, tree, 4 * MOST_OPEN, MOST_BEGUN) {
             Evaluation::Ended(ended) => Some(Meaning::EndsBeyond(ended)),
@@ -37,7 +41,7 @@ impl Meaning {
     pub fn ended(&self) -> Option<&Ended> {
         match self {
             Meaning::Ends(ended) | Meaning::EndsBeyond(ended) => Some(ended),
-            Meaning::Endless => None,
+            Meaning::Endless | Meaning::Breaks { .. } => None,
         }
     }
 

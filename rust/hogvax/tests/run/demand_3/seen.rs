@@ -3,7 +3,7 @@
 use std::collections::BTreeMap;
 
 /// What is to come up.
-const BRANCHES: [&str; 20] = [
+const BRANCHES: [&str; 22] = [
     "program refused",
     "ended with a tree",
     "ended with a number",
@@ -11,6 +11,8 @@ const BRANCHES: [&str; 20] = [
     "cut by the output",
     "too many calls, with a result",
     "too many calls, without a result",
+    "a sum out of range",
+    "cut by fuel at a sum out of range",
     "nothing read",
     "part read",
     "all read",

@@ -74,6 +74,12 @@ impl Trial<'_> {
     /// All fuels where they are few; else those about the ones that matter,
     /// and some others.
     fn fuels(&self, random: &mut Random) -> Vec<u64> {
+        if let Meaning::Breaks { units } = self.meaning {
+            let some = (0..20).map(|_| random.below(1 + units as usize) as u64);
+            return some
+                .chain([units, units + 1, units + 2, u64::MAX])
+                .collect();
+        }
         let Some(ended) = self.meaning.within() else {
             let some = (0..20).map(|_| random.below(5_000) as u64);
             return some.chain([0, 1, 2, 1_023, 1_024, u64::MAX]).collect();
@@ -144,7 +150,7 @@ impl Trial<'_> {
     /// "every fuel from 4n + 1 up suffices, given output space for the
     /// result", and so does every fuel from the units on. 14 tells that the
     /// fuel is used up, 17 that the result has no room, 18 that there are too
-    /// many calls.
+    /// many calls, 21 that a sum is out of range.
     fn check_refusal(&self, ran: &Ran, fuel: u64, room: usize) {
         let refused = ran.refused.expect("a refusal");
         assert_eq!(
@@ -154,11 +160,14 @@ impl Trial<'_> {
         );
         assert_eq!(refused.number == 14, ran.units == fuel, "{ran}, {self}");
         let free = room - ran.written;
-        match (self.meaning.within(), refused.number) {
-            (Some(ended), 14) => assert!(fuel <= ended.units, "{ran}, {self}"),
-            (Some(_), 17) => assert!(room < self.length(), "{ran}, {self}"),
-            (None, 14 | 18) => {}
-            (None, 17) => assert!(free < 4, "{ran}, {self}"),
+        match (&self.meaning, refused.number) {
+            (Meaning::Ends(ended), 14) => assert!(fuel <= ended.units, "{ran}, {self}"),
+            (Meaning::Ends(_), 17) => assert!(room < self.length(), "{ran}, {self}"),
+            (Meaning::Ends(_), _) => panic!("{ran}, fuel {fuel}, {self}"),
+            (Meaning::Breaks { units }, 14) => assert!(fuel <= *units, "{ran}, {self}"),
+            (Meaning::Breaks { units }, 21) => assert_eq!(ran.units, *units, "{self}"),
+            (Meaning::EndsBeyond(_) | Meaning::Endless, 14 | 18) => {}
+            (_, 17) => assert!(free < 4, "{ran}, {self}"),
             _ => panic!("{ran}, fuel {fuel}, {self}"),
         }
     }
@@ -178,6 +187,10 @@ impl Trial<'_> {
             "too many calls, without a result",
             number == 18 && !has_result,
         );
+        seen.see("a sum out of range", number == 21);
+        let just_before = |units: u64| number == 14 && ran.units == units;
+        let cut = matches!(self.meaning, Meaning::Breaks { units } if just_before(units));
+        seen.see("cut by fuel at a sum out of range", cut);
         seen.see("nothing read", ran.read == 0);
         seen.see("part read", ran.read > 0 && !all_read);
         seen.see("all read", all_read);

@@ -1,6 +1,6 @@
 //! Expressions made at random, each with its value and the expressions begun.
 
-use reference::generate::SPECIAL_LABELS;
+use reference::generate::{evaluated::SMALL_NUMBERS, SPECIAL_LABELS};
 use reference::{Expr, Random, Token, Tree};
 
 use super::{MIRRORED, SUM, WEIGHED, WEIGHTS};
@@ -15,24 +15,6 @@ const MOST_NAMES: usize = 256;
 fn counts(tree: &Tree) -> (u64, u64) {
     let leaves = tree.tips() as u64;
     (leaves, leaves - 1)
-}
-
-fn sum(tree: &Tree) -> i32 {
-    tree.prefix().fold(0, |sum, token| match token {
-        Token::Leaf(label) => sum.wrapping_add(label),
-        Token::Node => sum,
-    })
-}
-
-fn mirrored(tree: &Tree, number: i32, bytes: &mut Vec<u8>) {
-    match tree {
-        Tree::Leaf(label) => Token::Leaf(label.wrapping_add(number)).write(bytes),
-        Tree::Node(left, right) => {
-            Token::Node.write(bytes);
-            mirrored(right, number, bytes);
-            mirrored(left, number, bytes);
-        }
-    }
 }
 
 /// The numbers and trees that are named, and the words that stand.
@@ -106,9 +88,49 @@ impl Made {
 
 pub struct Maker<'r> {
     pub random: &'r mut Random,
+    /// Whether all sums that are evaluated are in range so far.
+    pub fits: bool,
 }
 
 impl Maker<'_> {
+    /// Any number where the sum is out of range.
+    fn add(&mut self, left: i32, right: i32) -> i32 {
+        let sum = left.checked_add(right);
+        self.fits &= sum.is_some();
+        sum.unwrap_or(0)
+    }
+
+    /// What `SUM` gives.
+    fn sum(&mut self, tree: &Tree) -> i32 {
+        match tree {
+            Tree::Leaf(label) => *label,
+            Tree::Node(left, right) => {
+                let (left, right) = (self.sum(left), self.sum(right));
+                self.add(left, right)
+            }
+        }
+    }
+
+    /// What `MIRRORED` gives.
+    fn mirrored(&mut self, tree: &Tree, number: i32, bytes: &mut Vec<u8>) {
+        match tree {
+            Tree::Leaf(label) => Token::Leaf(self.add(*label, number)).write(bytes),
+            Tree::Node(left, right) => {
+                Token::Node.write(bytes);
+                self.mirrored(right, number, bytes);
+                self.mirrored(left, number, bytes);
+            }
+        }
+    }
+
+    /// An expression that is not evaluated, whose sums do not matter.
+    fn not_taken(&mut self, scope: &Scope, tree: bool, size: usize) -> Made {
+        let fits = self.fits;
+        let made = self.expression(scope, tree, size);
+        self.fits = fits;
+        made
+    }
+
     /// An expression of about so many records that gives a tree or a number. A
     /// number always has room for its own word.
     pub fn expression(&mut self, scope: &Scope, tree: bool, size: usize) -> Made {
@@ -149,14 +171,17 @@ impl Maker<'_> {
                 let tree = scope.trees[usize::from(name)];
                 let (leaves, nodes) = counts(tree);
                 let begun = 1 + 2 * leaves + 4 * nodes;
-                (Expr::call(name, SUM, vec![]), sum(tree), begun)
+                (Expr::call(name, SUM, vec![]), self.sum(tree), begun)
             }
             1 | 2 if !scope.numbers.is_empty() => {
                 let name = self.random.below(scope.numbers.len());
                 (Expr::var(name as u8), scope.numbers[name], 1)
             }
             _ => {
-                let number = self.random.pick(&SPECIAL_LABELS);
+                let number = match self.random.below(16) {
+                    0 => self.random.pick(&SPECIAL_LABELS),
+                    _ => self.random.pick(&SMALL_NUMBERS),
+                };
                 (Expr::constant(number), number, 1)
             }
         };
@@ -187,7 +212,7 @@ impl Maker<'_> {
         let left = self.number(scope, first);
         let right = self.number(&scope.with_words(1), second);
         Made {
-            value: Value::Number(left.number().wrapping_add(right.number())),
+            value: Value::Number(self.add(left.number(), right.number())),
             expr: Expr::plus(left.expr, right.expr),
             begun: 1 + left.begun + right.begun,
         }
@@ -222,7 +247,7 @@ impl Maker<'_> {
         let (first, rest) = self.split(size);
         let test = self.number(scope, first);
         let taken = self.expression(scope, tree, rest / 2);
-        let other = self.expression(scope, tree, rest / 2);
+        let other = self.not_taken(scope, tree, rest / 2);
         let begun = 1 + test.begun + taken.begun;
         let expr = match test.number() {
             0 => Expr::if_zero(test.expr, taken.expr, other.expr),
@@ -243,13 +268,22 @@ impl Maker<'_> {
             Tree::Leaf(label) => *label,
             Tree::Node(..) => 0,
         };
-        let leaf = self.expression(&scope.with_number(label), tree, first);
+        let labelled = scope.with_number(label);
         let mut parts = scope.clone();
         parts.bind_parts(name);
-        let node = self.expression(&parts, tree, second);
-        let (value, begun) = match named {
-            Tree::Leaf(_) => (leaf.value, leaf.begun),
-            Tree::Node(..) => (node.value, node.begun),
+        let (leaf, node, is_leaf) = match named {
+            Tree::Leaf(_) => {
+                let leaf = self.expression(&labelled, tree, first);
+                (leaf, self.not_taken(&parts, tree, second), true)
+            }
+            Tree::Node(..) => {
+                let leaf = self.not_taken(&labelled, tree, first);
+                (leaf, self.expression(&parts, tree, second), false)
+            }
+        };
+        let (value, begun) = match is_leaf {
+            true => (leaf.value, leaf.begun),
+            false => (node.value, node.begun),
         };
         Made {
             expr: Expr::case(name, leaf.expr, node.expr),
@@ -264,8 +298,8 @@ impl Maker<'_> {
         let argument = |k| self.number(&scope.with_words(k), size / 4);
         let arguments: Vec<Made> = (0..4).map(argument).collect();
         let tree = scope.trees[usize::from(name)];
-        let weighed = WEIGHTS.iter().fold(sum(tree), |sum, &k| {
-            sum.wrapping_add(arguments[usize::from(k)].number())
+        let weighed = WEIGHTS.iter().fold(self.sum(tree), |sum, &k| {
+            self.add(sum, arguments[usize::from(k)].number())
         });
         let (leaves, nodes) = counts(tree);
         let body = 2 * WEIGHTS.len() as u64 + 1 + 2 * leaves + 4 * nodes;
@@ -283,7 +317,7 @@ impl Maker<'_> {
         let argument = self.number(scope, size - 1);
         let tree = scope.trees[usize::from(name)];
         let mut bytes = Vec::new();
-        mirrored(tree, argument.number(), &mut bytes);
+        self.mirrored(tree, argument.number(), &mut bytes);
         let (leaves, nodes) = counts(tree);
         Made {
             expr: Expr::call(name, MIRRORED, vec![argument.expr]),

@@ -21,6 +21,6 @@ pub fn odd_depth(tree: &Tree) -> Tree {
     kept(tree, |tip| tip.depth() % 2 == 0)
 }
 
-pub fn odd_labels(tree: &Tree) -> Tree {
-    kept(tree, |tip| tip.label % 2 == 0)
+pub fn odd_to_9(tree: &Tree) -> Tree {
+    kept(tree, |tip| ![1, 3, 5, 7, 9].contains(&tip.label))
 }

@@ -92,9 +92,10 @@ pub fn is_tip(tree: &Tree) -> bool {
     matches!(tree, Tree::Leaf(_))
 }
 
-/// A sum as numbers have it: modulo 2^32.
+/// The exact sum, which a program that ended has found to be in range.
 pub fn sum(numbers: impl IntoIterator<Item = i32>) -> i32 {
-    numbers.into_iter().fold(0, i32::wrapping_add)
+    let sum: i64 = numbers.into_iter().map(i64::from).sum();
+    sum.try_into().expect("a sum in range")
 }
 
 /// The same tree with each tip labelled anew.

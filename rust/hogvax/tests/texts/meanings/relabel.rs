@@ -5,7 +5,9 @@ use reference::Tree;
 use super::parts::{labelled, Step, Tip};
 
 pub fn add_one(tree: &Tree) -> Tree {
-    labelled(tree, |tip| tip.label.wrapping_add(1))
+    labelled(tree, |tip| {
+        tip.label.checked_add(1).expect("a label in range")
+    })
 }
 
 pub fn swap_0_1(tree: &Tree) -> Tree {
@@ -24,13 +26,17 @@ pub fn purines(tree: &Tree) -> Tree {
     })
 }
 
+/// The deepest tips whose numbers are in range: such a number has a bit for each
+/// step, and one besides.
+pub const DEEPEST_PATH: usize = 30;
+
 pub fn by_path(tree: &Tree) -> Tree {
-    labelled(tree, |tip| number_of(tip) as i32)
+    labelled(tree, number_of)
 }
 
-/// Modulo 2^32 it has the last 32 steps.
-fn number_of(tip: &Tip) -> u32 {
-    tip.way.iter().fold(1, |number: u32, step| match step {
+fn number_of(tip: &Tip) -> i32 {
+    assert!(tip.way.len() <= DEEPEST_PATH);
+    tip.way.iter().fold(1, |number, step| match step {
         Step::Left => number << 1,
         Step::Right => number << 1 | 1,
     })

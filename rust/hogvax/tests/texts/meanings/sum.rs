@@ -23,9 +23,9 @@ pub fn clades_depth_2(tree: &Tree) -> Tree {
     replaced(tree, 2, labels)
 }
 
-pub fn left_minus_right(tree: &Tree) -> i32 {
+pub fn left_part(tree: &Tree) -> i32 {
     match tree {
         Tree::Leaf(label) => *label,
-        Tree::Node(left, right) => labels(left).wrapping_sub(labels(right)),
+        Tree::Node(left, _) => labels(left),
     }
 }

@@ -9,7 +9,8 @@ use lib.ListN.{take, replicate}
 use Rattle.formats.specs.Numbers.{bytesOf, numberOf, numberAt, signed32}
 use Rattle.formats.specs.Arithmetic.{plus, unbounded, wordFor, resultOf}
 use Rattle.formats.specs.Written.{written}
-use Rattle.formats.specs.Tokens.{Tree, leaf, node, tips, depth, nodeTag, tokens, tagOf, tagAt, labelAt, branchesAt, treeByTag, treeAt, firstTree, ownBytes, endFrom, firstEnd}
+use Rattle.formats.specs.Inner.Trees.{labelEnd, endByTag, endAt}
+use Rattle.formats.specs.Tokens.{Tree, leaf, node, tips, depth, nodeTag, mostDepth, tokens, tagOf, tagAt, labelAt, branchesAt, treeByTag, treeAt, firstTree, ownBytes, endFrom, firstEnd}
 use Rattle.formats.specs.Results.{done, refusal}
 
 -- tree T (01, Worked programs), and its bytes 02 01 05 00 00 00 01 07 00 00 00
@@ -95,6 +96,13 @@ other-ends : map firstEnd ((3 ∷ []) ∷ (0 ∷ t-bytes) ∷ (2 ∷ 1 ∷ 2 ∷
     ≡ refusal 16 0 ∷ refusal 16 0 ∷ refusal 16 6 ∷ done 5 ∷ refusal 20 1024 ∷ []
 unfolding firstEnd endFrom firstTree treeAt treeByTag branchesAt tagAt tagOf labelAt numberAt numberOf tokens bytesOf deep t-bytes
 other-ends = refl
+
+-- tags alone, with labels of no bytes: a leaf; a node; anything after a tree; a tag that is not
+-- there; no tag; a node too deep
+tag-ends : map (λ (s : List ℕ). endAt 0 mostDepth s 0) ((1 ∷ []) ∷ (2 ∷ 1 ∷ 1 ∷ []) ∷ (2 ∷ 2 ∷ 1 ∷ 1 ∷ 1 ∷ 9 ∷ []) ∷ (2 ∷ 1 ∷ []) ∷ (2 ∷ 3 ∷ []) ∷ deep ∷ [])
+    ≡ done 1 ∷ done 3 ∷ done 5 ∷ refusal 15 2 ∷ refusal 16 1 ∷ refusal 20 1024 ∷ []
+unfolding endAt endByTag labelEnd tagAt tagOf deep
+tag-ends = refl
 
 -- left before right; the tree's own bytes alone, and none on a refusal
 read-trees : map firstTree (t-bytes ∷ (t-bytes ++ t-bytes) ∷ (1 ∷ 2 ∷ 1 ∷ 0 ∷ 0 ∷ []) ∷ [])

@@ -1,3 +1,3 @@
 -- Laws that the proofs of the tree reader's functions cite.
+pub mod Marks
 pub mod Laws
-pub mod EndNumbers

@@ -2,19 +2,20 @@
 // refusal with its position.
 use refusal::Refusal;
 ghost use mathlib.Core.Path.{_≡_};
-ghost use Rattle.formats.specs.Tokens.{firstEnd, firstTree, ownBytes};
+ghost use Rattle.formats.specs.Tokens.{mostDepth, firstEnd, firstTree, ownBytes};
 ghost use Rattle.formats.specs.Inner.Trees.{endAt};
 ghost use Rattle.tree.specs.Inner.TreeResults.{treeResult};
-ghost use Rattle.tree.specs.Inner.EndNumbers.{InBuffer, refusalAt, endReported};
 
 const LEAF_TAG: u8 = 1;
 
 const NODE_TAG: u8 = 2;
 
+const LABEL_BYTES: usize = 4;
+
 // A leaf's tag and its label.
 const LEAF_BYTES: usize = 5;
 
-// The most nodes above a leaf.
+// The most nodes above a leaf, and so the most that are open at a time.
 const MOST_DEPTH: usize = 1024;
 
 // What the tree reader finds. `treeResult` gives each case its number and values.
@@ -25,84 +26,70 @@ pub enum TreeAnswer {
     Refused(Refusal, usize),
 }
 
-// The end of the tree that begins at offset `at`, with room for at most `room` nodes above its
-// leaves. A node's left tree is taken first, then its right tree, which begins where the left one
-// ends. The bytes left fall at each call, and the calls nest no deeper than the room.
+// Where the first tree ends, or why there is none and the position of the refusal. Labels have
+// `width` bytes: with 0 the input is tags alone. N4: "Find a tree's end by a loop with a table of
+// 1,024 marks for the nodes still open."
 //
-// The answer is one number (`endReported` says how), and the slice is passed by a reference to it,
-// so that all is passed in registers. With an enum for the answer and the slice itself the reader
-// takes 1.6 to 2.2 times as long.
-fn tree_end(input: &&[u8], at: usize, room: usize) -> usize
-    requires { ⌜ InBuffer (now (now input)) at ⌝ }
-    ensures { λ r. ⌜ endReported (now (now (input .entry))) r ≡ endAt room
-        (now (now (input .entry))) at ⌝ }
+// A tag is due at `at`, and `above` nodes are open above it. The right tree that comes next is that
+// of the innermost node whose left tree is not done: `above_next` nodes are above it, 0 if there is
+// none. The mark of an open node is what `above_next` was before that node. So a leaf closes all
+// nodes that are done with it in one step, however many they are.
+fn walk(input: &[u8], width: usize) -> TreeAnswer
+    ensures { λ r. ⌜ treeResult r ≡ endAt width mostDepth (now (input .entry)) 0 ⌝ }
 {
-    if input.len() <= at {
-        return usize::MAX - at;
-    }
-    let tag = input[at];
-    if tag == LEAF_TAG {
-        if input.len() - at < LEAF_BYTES {
-            return usize::MAX - at;
+    let mut marks = [0u16; MOST_DEPTH];
+    let mut above = 0;
+    let mut above_next = 0;
+    let mut at = 0;
+    while at < input.len() {
+        let tag = input[at];
+        if tag == NODE_TAG {
+            if above == MOST_DEPTH {
+                return TreeAnswer::Refused(Refusal::TooDeep, at);
+            }
+            marks[above] = above_next as u16;
+            above = above + 1;
+            above_next = above;
+            at = at + 1;
+        } else {
+            if tag != LEAF_TAG {
+                return TreeAnswer::Refused(Refusal::NotATag, at);
+            }
+            let label = at + 1;
+            if input.len() - label < width {
+                return TreeAnswer::Refused(Refusal::InputEnded, label);
+            }
+            at = label + width;
+            if above_next == 0 {
+                return TreeAnswer::Tree(at);
+            }
+            above = above_next;
+            above_next = marks[above - 1] as usize;
         }
-        return at + LEAF_BYTES;
     }
-    if tag != NODE_TAG {
-        return usize::MAX - at;
-    }
-    if room == 0 {
-        return usize::MAX - at;
-    }
-    let left = at + 1;
-    let end = tree_end(input, left, room - 1);
-    if input.len() < end {
-        return end;
-    }
-    tree_end(input, end, room - 1)
-}
-
-// Where the first tree ends, or where it is refused, as one number (`endReported` says how).
-fn first_end(input: &[u8]) -> usize
-    ensures { λ r. ⌜ endReported (now (input .entry)) r ≡ firstEnd (now (input .entry)) ⌝ }
-{
-    tree_end(&input, 0, MOST_DEPTH)
-}
-
-// The refusal of a tree whose tag is due at offset `at`, by what stands there.
-fn refusal_at(input: &[u8], at: usize) -> TreeAnswer
-    ensures { λ r. ⌜ treeResult r ≡ refusalAt (now (input .entry)) at ⌝ }
-{
-    if input.len() <= at {
-        return TreeAnswer::Refused(Refusal::InputEnded, at);
-    }
-    let tag = input[at];
-    if tag == LEAF_TAG {
-        return TreeAnswer::Refused(Refusal::InputEnded, at + 1);
-    }
-    if tag == NODE_TAG {
-        return TreeAnswer::Refused(Refusal::TooDeep, at);
-    }
-    TreeAnswer::Refused(Refusal::NotATag, at)
+    TreeAnswer::Refused(Refusal::InputEnded, at)
 }
 
 // The first tree's length in bytes, or why there is none and the position of the refusal.
 pub fn tree_answer(input: &[u8]) -> TreeAnswer
     ensures { λ r. ⌜ treeResult r ≡ firstEnd (now (input .entry)) ⌝ }
 {
-    let end = first_end(input);
-    if end <= input.len() {
-        return TreeAnswer::Tree(end);
+    // A leaf alone needs no marks, which take longer to clear than it takes to read.
+    if LEAF_BYTES <= input.len() {
+        if input[0] == LEAF_TAG {
+            return TreeAnswer::Tree(LEAF_BYTES);
+        }
     }
-    refusal_at(input, usize::MAX - end)
+    walk(input, LABEL_BYTES)
 }
 
 // The first tree's own bytes, a part of the input; empty on a refusal, which `tree_answer` names.
 pub fn first_tree(input: &[u8]) -> &[u8]
     ensures { λ r. ⌜ now r ≡ ownBytes (firstTree (now (input .entry))) ⌝ }
 {
-    let end = first_end(input);
-    if end <= input.len() {
-        return &input[..end];
+    let found = tree_answer(input);
+    match found {
+        TreeAnswer::Tree(end) => &input[..end],
+        TreeAnswer::Refused(why, position) => &input[..0],
     }
-    &input[..0]
 }

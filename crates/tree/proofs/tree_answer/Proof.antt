@@ -1,25 +1,15 @@
--- `tree::tree_answer` meets its contract: what `first_end` reports is the first tree's end, or
--- where it is refused.
+-- `tree::tree_answer` meets its contract: a leaf that stands whole at the start is the first tree;
+-- else, with labels of 4 bytes, what the walk finds is the end of the first tree, or its refusal.
 use borrow.Author.Needs.{needs}
-use Rattle.tree.proofs.Laws.{first-reported}
+use Rattle.tree.proofs.Laws.{answers-first}
 use Rattle.tree.proofs.tree_answer.Statement.{statement}
 use Rattle.tree.proofs.tree_answer.Tie as tie
 
-first-end-requires : tie.Need-first-end-requires
-first-end-requires c κs = search needs
-
-returns : tie.Need-returns
-returns c = search first-reported
-
-sub-refusal-at : tie.Need-sub-refusal-at
-sub-refusal-at c = search needs
-
-refusal-at-requires : tie.Need-refusal-at-requires
-refusal-at-requires c κs = search needs
-
-returns-2 : tie.Need-returns-2
-returns-2 c = search first-reported
-
 pub tree-answer-spec : {M : Type 1} → statement M
 tree-answer-spec =
-    tie.close (tie.spec first-end-requires returns sub-refusal-at refusal-at-requires returns-2)
+    tie.close
+    (tie.spec
+    (λ c. search needs)
+    (λ c. search answers-first)
+    (λ c κs. search needs)
+    (λ c. search answers-first))

@@ -1,15 +1,22 @@
-/* Hogvax: small tree programs over token streams. The calls of libhogvax_c.a.
+/* Hogvax: small tree programs over token streams. The calls of two static
+ * libraries, of which a program links one:
+ *
+ * - libhogvax_c.a has all calls.
+ * - libhogvax_view.a has the tree reader's calls alone, under the same names and
+ *   with the same contracts, for programs that may hold no recursive routine:
+ *   none is in it. (Tested on its machine code, not proved.)
  *
  * docs/CALLING.md shows C programs that use them. docs/REFERENCE.md, the
  * specification, says what trees, programs, code and refusals are.
  *
- * What is proved: every function of the library meets its contract, which is in
- * crates/hogvax_c/src/lib.rt. Whatever the buffers lent to it hold, a call gives
- * the answer that the contract states, reads and writes inside these buffers and
- * nowhere else, keeps no pointer, has no state of its own, and returns.
+ * What is proved: every function of either library meets its contract, which is
+ * in crates/hogvax_c/src/lib.rt or crates/hogvax_view/src/lib.rt. Whatever the
+ * buffers lent to it hold, a call gives the answer that the contract states,
+ * reads and writes inside these buffers and nowhere else, keeps no pointer, has
+ * no state of its own, and returns.
  *
  * What is not proved: this header. Its declarations and constants are tested
- * against the library; its comments say in words what the contracts state. The
+ * against the libraries; its comments say in words what the contracts state. The
  * compiler, the linker, the operating system and the machine are trusted to do
  * what the languages say (docs/RELYING.md).
  *
@@ -28,7 +35,10 @@
  *   are not const.
  * - A call may use up to 1 MiB of the thread's stack, as it nearly does for the
  *   deepest programs. Where threads have less, ask for more when you create one,
- *   for example with pthread_attr_setstacksize. (Tested, not proved.)
+ *   for example with pthread_attr_setstacksize. The calls of libhogvax_view.a use
+ *   less than 4 KiB, however long or deep the input is; in the first of them the
+ *   loader may use some KiB to find memset, unless the linker was given -z now.
+ *   (Tested, not proved.)
  *
  * What each call answers, hogvax_tree_bytes aside:
  *
@@ -153,7 +163,9 @@ enum hogvax_refusal {
 /* ---- The tree reader */
 
 /* Returns the length in bytes of the tree that begins `input`; 0 if no tree
- * begins it, and hogvax_tree then says why. Bytes after the tree do not matter. */
+ * begins it, and hogvax_tree then says why. Bytes after the tree do not matter.
+ *
+ * In both libraries. */
 size_t hogvax_tree_bytes(const uint8_t *input, size_t input_len);
 
 /* Finds the end of the tree that begins `input`; HOGVAX_BYTES is its length.
@@ -161,7 +173,7 @@ size_t hogvax_tree_bytes(const uint8_t *input, size_t input_len);
  * Refused with 15 at the start of the tag or label that is not whole, or with 16
  * or 20 at the tag. Bytes after the tree do not matter.
  *
- * The answer has HOGVAX_ANSWER_SLOTS slots. */
+ * The answer has HOGVAX_ANSWER_SLOTS slots. In both libraries. */
 uint32_t hogvax_tree(const uint8_t *input, size_t input_len,
                      uint64_t *answer, size_t answer_len);
 

@@ -9,11 +9,16 @@ pub struct Contracts {
 }
 
 /// The program's `main` has no contract of its own: what it prints is what `put_listing` gives.
-pub const CONTRACTS: [Contracts; 2] = [
+pub const CONTRACTS: [Contracts; 3] = [
     Contracts {
         place: "hogvax_c/src/lib",
         functions: &[],
         what: "the exported calls",
+    },
+    Contracts {
+        place: "hogvax_view/src/lib",
+        functions: &[],
+        what: "the tree reader's calls, exported alone",
     },
     Contracts {
         place: "listing/src/main",

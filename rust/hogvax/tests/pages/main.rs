@@ -4,6 +4,8 @@
 
 #![cfg(unix)]
 
+#[path = "../shared/archives.rs"]
+mod archives;
 mod calling;
 mod citations;
 mod columns;

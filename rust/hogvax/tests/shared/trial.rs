@@ -6,6 +6,7 @@ use std::os::unix::fs::symlink;
 use std::path::{Path, PathBuf};
 use std::process::{Command, Stdio};
 
+use crate::archives;
 use crate::compiler::repository;
 use crate::page::{Act, Page};
 
@@ -63,15 +64,17 @@ fn run(command: &str, folder: &Path) -> String {
 }
 
 /// A new folder that looks like the repository's root: the command line is
-/// `./hogvax` there, and samples, header, examples and library are in place.
+/// `./hogvax` there, and samples, header, examples and libraries are in place.
 pub fn folder(name: &str) -> PathBuf {
     let path = Path::new(env!("CARGO_TARGET_TMPDIR")).join("pages");
     let path = path.join(name);
     let _ = fs::remove_dir_all(&path);
     fs::create_dir_all(path.join("target/staticlib")).unwrap();
     symlink(env!("CARGO_BIN_EXE_hogvax"), path.join("hogvax")).unwrap();
-    let archive = path.join("target/staticlib/libhogvax_c.a");
-    symlink(env!("HOGVAX_ARCHIVE"), archive).unwrap();
+    for archive in [archives::whole(), archives::view()] {
+        let name = archive.file_name().unwrap();
+        symlink(&archive, path.join("target/staticlib").join(name)).unwrap();
+    }
     for name in ["samples", "include", "examples"] {
         symlink(repository(name), path.join(name)).unwrap();
     }

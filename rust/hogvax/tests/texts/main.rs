@@ -9,6 +9,9 @@ mod runs;
 mod trees;
 
 #[cfg(unix)]
+#[path = "../shared/archives.rs"]
+mod archives;
+#[cfg(unix)]
 #[allow(dead_code)]
 #[path = "../shared/compiler.rs"]
 mod compiler;

@@ -1,4 +1,4 @@
-//! What the benchmarks share: rounds of two ways in turn, what they took,
+//! What the benchmarks share: rounds of several ways in turn, what they took,
 //! programs, and trees.
 
 #![forbid(unsafe_code)]
@@ -8,9 +8,13 @@ pub mod trees;
 
 use std::time::Instant;
 
-/// Goes each of two ways in turn, round after round, so that both meet the
-/// same load of the machine: the seconds that each took, for each round.
-pub fn in_turn<T: Copy>(rounds: usize, ways: [T; 2], mut go: impl FnMut(T)) -> Vec<[f64; 2]> {
+/// Goes each of some ways in turn, round after round, so that all meet the same
+/// load of the machine: the seconds that each took, for each round.
+pub fn in_turn<T: Copy, const N: usize>(
+    rounds: usize,
+    ways: [T; N],
+    mut go: impl FnMut(T),
+) -> Vec<[f64; N]> {
     let mut round = || ways.map(|way| seconds(|| go(way)));
     (0..rounds).map(|_| round()).collect()
 }
@@ -48,11 +52,11 @@ mod tests {
     use super::*;
 
     #[test]
-    fn both_ways_are_gone_in_every_round() {
+    fn all_ways_are_gone_in_every_round() {
         let mut gone = Vec::new();
-        let times = in_turn(3, ['a', 'b'], |way| gone.push(way));
-        assert_eq!(times.len(), 3);
-        assert_eq!(gone, ['a', 'b', 'a', 'b', 'a', 'b']);
+        let times = in_turn(2, ['a', 'b', 'c'], |way| gone.push(way));
+        assert_eq!(times.len(), 2);
+        assert_eq!(gone, ['a', 'b', 'c', 'a', 'b', 'c']);
     }
 
     #[test]

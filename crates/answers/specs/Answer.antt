@@ -9,7 +9,7 @@ use Rattle.answers.specs.Slots.{Answered}
 abbrev pub answerSlots : ℕ
 answerSlots = 2
 
--- How many bytes the tree has, or how many were written; 0 on a refusal.
+-- How many bytes were written; 0 on a refusal.
 unfoldable pub byteCount : Result ℕ → ℕ
 byteCount (done bytes) = bytes
 byteCount (refusal number position) = 0

@@ -9,7 +9,8 @@ use lib.ListN.{take, replicate}
 use Rattle.formats.specs.Numbers.{bytesOf, numberOf, numberAt, signed32}
 use Rattle.formats.specs.Arithmetic.{plus, unbounded, wordFor, resultOf}
 use Rattle.formats.specs.Written.{written}
-use Rattle.formats.specs.Inner.Trees.{labelEnd, endByTag, endAt}
+use Rattle.formats.specs.Measures.{Measures, measuresOf, firstMeasures, measuresOr0}
+use Rattle.formats.specs.Inner.Trees.{labelEnd, endByTag, endAt, measuresBy}
 use Rattle.formats.specs.Tokens.{Tree, leaf, node, tips, depth, nodeTag, mostDepth, tokens, tagOf, tagAt, labelAt, branchesAt, treeByTag, treeAt, firstTree, ownBytes, endFrom, firstEnd}
 use Rattle.formats.specs.Results.{done, refusal}
 
@@ -97,12 +98,57 @@ other-ends : map firstEnd ((3 ∷ []) ∷ (0 ∷ t-bytes) ∷ (2 ∷ 1 ∷ 2 ∷
 unfolding firstEnd endFrom firstTree treeAt treeByTag branchesAt tagAt tagOf labelAt numberAt numberOf tokens bytesOf deep t-bytes
 other-ends = refl
 
--- tags alone, with labels of no bytes: a leaf; a node; anything after a tree; a tag that is not
--- there; no tag; a node too deep
-tag-ends : map (λ (s : List ℕ). endAt 0 mostDepth s 0) ((1 ∷ []) ∷ (2 ∷ 1 ∷ 1 ∷ []) ∷ (2 ∷ 2 ∷ 1 ∷ 1 ∷ 1 ∷ 9 ∷ []) ∷ (2 ∷ 1 ∷ []) ∷ (2 ∷ 3 ∷ []) ∷ deep ∷ [])
-    ≡ done 1 ∷ done 3 ∷ done 5 ∷ refusal 15 2 ∷ refusal 16 1 ∷ refusal 20 1024 ∷ []
-unfolding endAt endByTag labelEnd tagAt tagOf deep
-tag-ends = refl
+-- bytes, tips and depth
+of : (bytes tips depth : ℕ) → Measures
+of bytes tips depth = record { bytes = bytes; tips = tips; depth = depth }
+
+-- N5: "nodes above the deepest leaf, 0 for a lone leaf": a leaf alone; a node; the deepest leaves
+-- last, first, in between (twice); four leaves equally deep; and six tips
+measured-trees : List Tree
+measured-trees =
+    leaf 7
+    ∷ node (leaf 1) (leaf 2)
+    ∷ node (leaf 1) (node (leaf 2) (leaf 3))
+    ∷ node (node (leaf 1) (leaf 2)) (leaf 3)
+    ∷ node (node (leaf 1) (node (leaf 2) (leaf 3))) (leaf 4)
+    ∷ node (leaf 1) (node (node (leaf 2) (leaf 3)) (leaf 4))
+    ∷ node (node (leaf 1) (leaf 2)) (node (leaf 3) (leaf 4))
+    ∷ node (node (node (leaf 1) (leaf 2)) (leaf 3)) (node (node (leaf 4) (leaf 5)) (leaf 6))
+    ∷ []
+
+-- with a whole tree after each, which does not count
+measures-of : map (λ (u : Tree). firstMeasures (tokens u ++ t-bytes)) measured-trees
+    ≡ done (of 5 1 0)
+    ∷ done (of 11 2 1)
+    ∷ done (of 17 3 2)
+    ∷ done (of 17 3 2)
+    ∷ done (of 23 4 3)
+    ∷ done (of 23 4 3)
+    ∷ done (of 23 4 2)
+    ∷ done (of 35 6 3)
+    ∷ []
+unfolding firstMeasures measuresOf tips depth firstTree treeAt treeByTag branchesAt tagAt tagOf labelAt numberAt numberOf tokens bytesOf of measured-trees t-bytes
+measures-of = refl
+
+-- N5: "A refusal of the reader .. gives 0 for both": input that ends, no tag after a whole leaf, a
+-- node too deep
+measures-refused : map (λ (s : List ℕ). measuresOr0 (firstMeasures s)) (take 10 t-bytes ∷ (2 ∷ 1 ∷ 2 ∷ 2 ∷ 2 ∷ 2 ∷ 3 ∷ []) ∷ deep ∷ t-bytes ∷ [])
+    ≡ of 0 0 0 ∷ of 0 0 0 ∷ of 0 0 0 ∷ of 11 2 1 ∷ []
+unfolding measuresOr0 firstMeasures measuresOf tips depth firstTree treeAt treeByTag branchesAt tagAt tagOf labelAt numberAt numberOf tokens bytesOf of deep t-bytes
+measures-refused = refl
+
+-- tags alone, with labels of no bytes: a leaf; a node; the deepest leaf last; the deepest leaf in
+-- between, and bytes after the tree; a tag that is not there; no tag; a node too deep
+tag-measures : map (measuresBy 0) ((1 ∷ []) ∷ (2 ∷ 1 ∷ 1 ∷ []) ∷ (2 ∷ 1 ∷ 2 ∷ 1 ∷ 1 ∷ []) ∷ (2 ∷ 2 ∷ 1 ∷ 2 ∷ 1 ∷ 1 ∷ 1 ∷ 9 ∷ 9 ∷ []) ∷ (2 ∷ 1 ∷ []) ∷ (2 ∷ 3 ∷ []) ∷ deep ∷ [])
+    ≡ done (of 1 1 0) ∷ done (of 3 2 1) ∷ done (of 5 3 2) ∷ done (of 7 4 3) ∷ refusal 15 2 ∷ refusal 16 1 ∷ refusal 20 1024 ∷ []
+unfolding measuresBy endAt endByTag labelEnd tagAt tagOf of deep
+tag-measures = refl
+
+-- labels of two bytes; and one that would be longer than any buffer
+other-widths : measuresBy 2 (2 ∷ 1 ∷ 0 ∷ 0 ∷ 2 ∷ 2 ∷ 1 ∷ 0 ∷ 0 ∷ 1 ∷ 0 ∷ 0 ∷ 1 ∷ 0 ∷ 0 ∷ []) ∷ measuresBy 18446744073709551615 (1 ∷ []) ∷ []
+    ≡ done (of 15 4 3) ∷ refusal 15 1 ∷ []
+unfolding measuresBy endAt endByTag labelEnd tagAt tagOf of
+other-widths = refl
 
 -- left before right; the tree's own bytes alone, and none on a refusal
 read-trees : map firstTree (t-bytes ∷ (t-bytes ++ t-bytes) ∷ (1 ∷ 2 ∷ 1 ∷ 0 ∷ 0 ∷ []) ∷ [])

@@ -7,6 +7,7 @@ pub mod Written
 pub mod Tokens
 pub mod Reader
 pub mod Endings
+pub mod Measures
 pub mod Records
 pub mod Prefix
 pub mod Programs

@@ -22,7 +22,7 @@ use Rattle.formats.specs.Results.{done, refusal}
 use Rattle.formats.proofs.Results.{Outcome, gave, stopped, outcome, done-not}
 
 -- 01, Tokens: "A tree of n leaves takes 6n − 1 bytes."
-six-a-tip : (t : Tree) → suc (length (tokens t)) ≡ 6 * tips t
+pub six-a-tip : (t : Tree) → suc (length (tokens t)) ≡ 6 * tips t
 unfolding tokens tips
 six-a-tip (leaf x) = ap (λ (n : ℕ). suc (suc n)) (length-bytesOf labelBytes x)
 six-a-tip (node l r) =

@@ -13,6 +13,7 @@ pub mod Rows
 pub mod Blocks
 pub mod ProgramFiles
 pub mod Reader
+pub mod Measures
 pub mod Characters
 pub mod Decimal
 pub mod Inner

@@ -4,7 +4,8 @@ ghost use mathlib.Core.Path.{_≡_};
 ghost use lib.ListN.{length};
 ghost use Rattle.formats.specs.Blocks.{readInto, writeInto};
 ghost use Rattle.formats.specs.Results.{onValue};
-ghost use Rattle.formats.specs.Tokens.{firstEnd, firstTree, ownBytes};
+ghost use Rattle.formats.specs.Tokens.{firstTree, ownBytes};
+ghost use Rattle.formats.specs.Measures.{firstMeasures};
 ghost use Rattle.rules.specs.PassTwo.{checkRecords, checkFile};
 ghost use Rattle.meaning.specs.Running.{streamRun};
 ghost use Rattle.meaning.specs.SourceRun.{sourceRun};
@@ -14,6 +15,7 @@ ghost use Rattle.answers.specs.Fills.{Fills};
 ghost use Rattle.run_answers.specs.RunCall.{StreamCall};
 ghost use Rattle.run_calls.specs.ProgramCall.{ProgramCall};
 ghost use Rattle.source_answers.specs.SourceCall.{SourceCall};
+ghost use Rattle.tree_calls.specs.TreeCall.{TreeCall};
 
 // How many bytes the input's first tree has; 0 where there is none.
 #[no_mangle]
@@ -23,10 +25,10 @@ pub extern "C" fn hogvax_tree_bytes(input: &[u8]) -> usize
     tree_calls::tree_bytes(input)
 }
 
-// The length of the tree that begins the input, or why there is none.
+// The length, tips and depth of the tree that begins the input, or why there is none.
 #[no_mangle]
 pub extern "C" fn hogvax_tree(input: &[u8], answer: &mut [u64]) -> u32
-    ensures { λ r. ⌜ Answers (firstEnd (now (input .entry))) (now (answer .entry))
+    ensures { λ r. ⌜ TreeCall (firstMeasures (now (input .entry))) (now (answer .entry))
         (now (answer .exit)) r ⌝ }
 {
     tree_calls::tree(input, answer)
@@ -130,9 +132,9 @@ pub extern "C" fn hogvax_source(
 ) -> u32
     ensures { λ r. ⌜ SourceCall (sourceRun (now (file .entry)) (now (input .entry))
         (now (output .entry)) fuel (length (now (values .entry))) (length (now (returns .entry))))
-        (now (output .entry)) (now (output .exit)) (now (values .entry)) (now (values .exit))
-        (now (returns .entry)) (now (returns .exit)) (now (answer .entry)) (now (answer .exit))
-        r ⌝ }
+        (now (input .entry)) (now (output .entry)) (now (output .exit)) (now (values .entry))
+        (now (values .exit)) (now (returns .entry)) (now (returns .exit)) (now (answer .entry))
+        (now (answer .exit)) r ⌝ }
 {
     source_calls::source(file, input, fuel, output, values, returns, answer)
 }

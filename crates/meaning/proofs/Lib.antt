@@ -29,5 +29,6 @@ pub mod WorkWords
 pub mod Meaning
 pub mod MeaningCases
 pub mod ReductionCases
+pub mod SourceMeasures
 pub mod SourceCases
 pub mod Witnesses

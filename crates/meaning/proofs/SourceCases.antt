@@ -8,7 +8,8 @@ use Rattle.formats.specs.Numbers.{bytesOf, numberOf, numberAt, signed32}
 use Rattle.formats.specs.Arithmetic.{unbounded, wordFor, resultOf}
 use Rattle.formats.specs.Results.{done, refusal, each}
 use Rattle.formats.specs.Written.{written}
-use Rattle.formats.specs.Tokens.{Tree, leaf, node, tokens, tagOf, tagAt, labelAt, branchesAt, treeByTag, treeAt, firstTree}
+use Rattle.formats.specs.Measures.{Measures, measuresOf, firstMeasures, noMeasures, measuresOr0}
+use Rattle.formats.specs.Tokens.{Tree, leaf, node, tips, depth, tokens, tagOf, tagAt, labelAt, branchesAt, treeByTag, treeAt, firstTree}
 use Rattle.formats.specs.Records.{bytesOfRecord, flat, recordAt, fieldsOf, kinds, nth, kindOf, sameFields, functionBelow, nodeRecord}
 use Rattle.formats.specs.Programs.{const, prefix, prefixes, size, sortNumber, signatureRecord, arityOf, sumOfCounts, signatureOf, Program, nodes, headerRecord, headerOf, recordsOf, flatOf, mostParameters}
 use Rattle.formats.specs.Rows.{headerFrom, headerRow, sorts, functionFrom, functionAt, functionRow, nodeAt, nodeRow, popArgs, build, exprsOf, exactlyOne, bodies, prefixRow, readProgram}
@@ -22,8 +23,15 @@ use Rattle.meaning.specs.Levels.{atLevel}
 use Rattle.meaning.specs.Running.{valueWords, returnWords}
 use Rattle.meaning.specs.Evaluation.{resultBytes, resultNumber}
 use Rattle.meaning.specs.OpenCalls.{refusalOf, followedBy, numberOr, treeOr, resultTree, computed, evaluate, evaluateArgs, firstRecord, called, evaluation, withFuel}
-use Rattle.meaning.specs.SourceRun.{SourceRan, reported, positionOf, reportFrom, checkSource, sourceRun}
+use Rattle.meaning.specs.SourceRun.{SourceRan, reported, positionOf, reportFrom, checkSource, sourceRun, unlessRefused, passedOn}
 use Rattle.meaning.proofs.MeaningCases.{two-leaves, again, sum}
+
+-- A tree whose deepest leaves come first, and its measures.
+three-leaves : Tree
+three-leaves = node (node (leaf 1) (leaf 2)) (leaf 3)
+
+three-tips : Measures
+three-tips = record { bytes = 17; tips = 3; depth = 2 }
 
 record Row : Type 0 where
   file : List ℕ
@@ -116,9 +124,29 @@ work-space =
     ∷ bare (fileOf (flatOf sum)) (tokens two-leaves) 8 16384 2048 (ended-with 8 0 12 (blank 2))
     ∷ []
 
+-- N5: calls on a tree of three tips and depth 2. They end, without and with bytes after the tree;
+-- or they are refused with 14, 17, 18, 21, 16, 13.
+on-three : List Row
+on-three =
+    row grow three-leaves 23 17 (ended-with 23 17 0 (tokens (node (node (leaf 2) (leaf 3)) (leaf 4))))
+    ∷ bare (fileOf (flatOf (programOf (numbered (const 9) ∷ [])))) (tokens three-leaves ++ tokens two-leaves) 1 16384 2048 (ended-with 1 0 9 (blank 2))
+    ∷ row grow three-leaves 22 17 (refused-with 14 0 22 (blank 17))
+    ∷ row grow three-leaves 23 16 (refused-with 17 0 23 (blank 16))
+    ∷ row again three-leaves 1024 2 (refused-with 18 0 1024 (blank 2))
+    ∷ row sum (node (node (leaf 2147483647) (leaf 1)) (leaf 2)) 20 3 (refused-with 21 4 11 (blank 3))
+    ∷ bare (fileOf (flatOf grow)) (2 ∷ tokens two-leaves ++ (3 ∷ [])) 23 16384 2048 (refused-with 16 12 0 (blank 2))
+    ∷ bare (fileOf (flatOf grow)) (tokens three-leaves) 23 16383 2048 (refused-with 13 0 0 (blank 2))
+    ∷ []
+
 cases : List Row
-cases = worked ++ (broken ++ (first-refusal ++ work-space))
+cases = worked ++ (broken ++ (first-refusal ++ (work-space ++ on-three)))
 
 as-reported : map ran cases ≡ map (λ r. r .gives) cases
-unfolding sourceRun checkSource reportFrom positionOf refusalOf reported withFuel evaluation called evaluate evaluateArgs followedBy resultNumber resultBytes resultTree numberOr treeOr atLevel signed32 unbounded wordFor resultOf computed firstRecord written tokens firstTree treeAt treeByTag branchesAt labelAt tagAt tagOf passOne passOver atEntry hasRoom wordsTested bareNumber typeFits nameBound enteredAll entered enteredArgs inside startOf resultType isInt isOutputTree hasType programIn flatIn lengthRow blockRow blockAt usedOf fieldsFit usedFits zeros concatenated fileOf blocksFor blocksFrom blockOf blockBody checkWord wordSum readProgram headerRow headerFrom functionRow functionAt functionFrom sorts mostParameters nodeRow nodeAt nodeRecord kindOf kinds nth sameFields functionBelow fieldsOf each prefixRow bodies exactlyOne exprsOf build popArgs arityOf sumOfCounts recordAt flat bytesOfRecord bytesOf numberAt numberOf flatOf recordsOf headerRecord headerOf signatureRecord signatureOf sortNumber nodes size prefix prefixes grow swap again sum wrong numbered treed programOf on two-leaves blank ended-with refused-with ran row bare worked broken first-refusal work-space cases
+unfolding sourceRun checkSource reportFrom positionOf refusalOf reported withFuel evaluation called evaluate evaluateArgs followedBy resultNumber resultBytes resultTree numberOr treeOr atLevel signed32 unbounded wordFor resultOf computed firstRecord written tokens firstTree treeAt treeByTag branchesAt labelAt tagAt tagOf passOne passOver atEntry hasRoom wordsTested bareNumber typeFits nameBound enteredAll entered enteredArgs inside startOf resultType isInt isOutputTree hasType programIn flatIn lengthRow blockRow blockAt usedOf fieldsFit usedFits zeros concatenated fileOf blocksFor blocksFrom blockOf blockBody checkWord wordSum readProgram headerRow headerFrom functionRow functionAt functionFrom sorts mostParameters nodeRow nodeAt nodeRecord kindOf kinds nth sameFields functionBelow fieldsOf each prefixRow bodies exactlyOne exprsOf build popArgs arityOf sumOfCounts recordAt flat bytesOfRecord bytesOf numberAt numberOf flatOf recordsOf headerRecord headerOf signatureRecord signatureOf sortNumber nodes size prefix prefixes grow swap again sum wrong numbered treed programOf on two-leaves blank ended-with refused-with ran row bare worked broken first-refusal work-space cases on-three three-leaves
 as-reported = refl
+
+-- what they pass on of their tree: nothing where they are refused
+passed-on : map (λ r. passedOn (ran r .answer .outcome) (r .input)) on-three
+    ≡ three-tips ∷ three-tips ∷ noMeasures ∷ noMeasures ∷ noMeasures ∷ noMeasures ∷ noMeasures ∷ noMeasures ∷ []
+unfolding sourceRun checkSource reportFrom positionOf refusalOf reported withFuel evaluation called evaluate evaluateArgs followedBy resultNumber resultBytes resultTree numberOr treeOr atLevel signed32 unbounded wordFor resultOf computed firstRecord written tokens firstTree treeAt treeByTag branchesAt labelAt tagAt tagOf passOne passOver atEntry hasRoom wordsTested bareNumber typeFits nameBound enteredAll entered enteredArgs inside startOf resultType isInt isOutputTree hasType programIn flatIn lengthRow blockRow blockAt usedOf fieldsFit usedFits zeros concatenated fileOf blocksFor blocksFrom blockOf blockBody checkWord wordSum readProgram headerRow headerFrom functionRow functionAt functionFrom sorts mostParameters nodeRow nodeAt nodeRecord kindOf kinds nth sameFields functionBelow fieldsOf each prefixRow bodies exactlyOne exprsOf build popArgs arityOf sumOfCounts recordAt flat bytesOfRecord bytesOf numberAt numberOf flatOf recordsOf headerRecord headerOf signatureRecord signatureOf sortNumber nodes size prefix prefixes grow swap again sum wrong numbered treed programOf on two-leaves blank ended-with refused-with ran row bare worked broken first-refusal work-space cases unlessRefused measuresOr0 firstMeasures measuresOf tips depth on-three three-leaves three-tips
+passed-on = refl

@@ -13,3 +13,4 @@ pub mod Reductions
 pub mod SourceRun
 pub mod WorkWords
 pub mod Meaning
+pub mod SourceMeasures

@@ -7,6 +7,7 @@ use lib.Dec.{leb}
 use Rattle.formats.specs.Refusals.{spaceTooShort, outputFull}
 use Rattle.formats.specs.Results.{Result, done, refusal, andThen, valueIf}
 use Rattle.formats.specs.Tokens.{Tree, firstTree}
+use Rattle.formats.specs.Measures.{Measures, firstMeasures, noMeasures, measuresOr0}
 use Rattle.formats.specs.Programs.{Program}
 use Rattle.formats.specs.Blocks.{programIn}
 use Rattle.formats.specs.Written.{written}
@@ -16,6 +17,7 @@ use Rattle.meaning.specs.Evaluation.{Value, resultBytes, resultNumber}
 use Rattle.meaning.specs.OpenCalls.{Reason, no-fuel, no-call, no-result, refusalOf, Outcome, gives, stops, begins, evaluation, withFuel}
 
 -- 01, The source run: "The source run's gives expressions begun, bytes written and the number".
+-- N5's tips and depth are given beside it, by `passedOn`.
 pub record SourceAnswer : Type 0 where
   -- ended, or the refusal's number and position
   pub outcome : Result (Unit {0})
@@ -91,3 +93,14 @@ sourceRun file input output fuel values returns =
       | done c ↦ reportFrom 0 (withFuel fuel (evaluation (c .program) mostCalls (c .tree))) output
       | refusal number position ↦ refusedAfter 0 number position output
     ]
+
+-- N5: "A refusal of .. the source run gives 0 for both", also one that comes after the tree was
+-- accepted.
+unfoldable pub unlessRefused : (outcome : Result (Unit {0})) → Measures → Measures
+unlessRefused (done u) m = m
+unlessRefused (refusal number position) m = noMeasures
+
+-- N5: "The source run's answer passes both on": what the reader measured of the tree that was
+-- evaluated. A run that ended has read its tree.
+abbrev pub passedOn : (outcome : Result (Unit {0})) (input : List ℕ) → Measures
+passedOn outcome input = unlessRefused outcome (measuresOr0 (firstMeasures input))

@@ -1,3 +1,2 @@
 -- Laws for the function that finds a named tree.
-pub mod Ends
 pub mod Offsets

@@ -11,13 +11,17 @@ use borrow.Author.Tests.{eq-eqb, ne-eqb, le-leb, lt-leb}
 use lib.ListN.{length, drop, take, length-drop}
 use lib.Seq.{take-all}
 use Rattle.formats.specs.Tokens.{firstEnd}
+use Rattle.formats.specs.Measures.{firstMeasures}
+use Rattle.formats.specs.Results.{Result, onValue}
+use Rattle.formats.proofs.Endings.{end-within}
+use Rattle.formats.proofs.Measures.{first-end}
 use Rattle.refusal.specs.declared.Refusal.{Refusal}
+use Rattle.tree.specs.declared.Measures.{Measures}
 use Rattle.tree.specs.declared.TreeAnswer.{TreeAnswer}
 use Rattle.tree.specs.declared.TreeAnswer.the-variants as tree-is
-use Rattle.tree.specs.Inner.TreeResults.{treeResult}
+use Rattle.tree.specs.Inner.TreeResults.{measured, treeResult}
 use Rattle.stepwise.specs.Inner.Steps.{State, Found, the-own, the-left, the-right, the-known, treeAt}
 use Rattle.named_trees.specs.Inner.Offsets.{afterTree, partAt, offsetWithin, treeOffset}
-use Rattle.named_trees.proofs.Ends.{end-inside}
 
 -- ---- `part_of`
 
@@ -52,23 +56,27 @@ module _ (input : List ℕ) (known end p j : ℕ) where
             let unlike : suc p ≢ known = λ e. other (add-one p ∙ e) in
             simp (partAt, lt-leb _ _ there, ne-eqb _ _ odd, ne-eqb _ _ unlike)
 
-        module _ (found : TreeAnswer) (read : treeResult found ≡ firstEnd after) where
-          by-end : partAt input known end p j ≡ afterTree (suc p) (treeResult found)
-          by-end = part-sought ∙ ap (afterTree (suc p)) (ap firstEnd (sym after-is) ∙ sym read)
+        module _ (found : TreeAnswer) (read : treeResult found ≡ firstMeasures after) where
+          -- The end among what the reader measured.
+          abbrev foundEnd : TreeAnswer → Result ℕ
+          foundEnd a = onValue (λ m. m .bytes) (treeResult a)
+
+          by-end : partAt input known end p j ≡ afterTree (suc p) (foundEnd found)
+          by-end = part-sought ∙ ap (afterTree (suc p)) (ap firstEnd (sym after-is) ∙ sym (first-end after) ∙ ap (onValue (λ m. m .bytes)) (sym read))
 
           pub part-broken : (why : Refusal) (q : ℕ) → found ≡ tree-is.Refused why q → 0 ≡ partAt input known end p j
           unfolding afterTree
-          part-broken why q e = sym (by-end ∙ ap (λ a. afterTree (suc p) (treeResult a)) e)
+          part-broken why q e = sym (by-end ∙ ap (λ a. afterTree (suc p) (foundEnd a)) e)
 
-          pub part-right : (bytes : ℕ) → found ≡ tree-is.Tree bytes → p + 1 + bytes ≡ partAt input known end p j
+          pub part-right : (m : Measures) → found ≡ tree-is.Tree m → p + 1 + m .bytes ≡ partAt input known end p j
           unfolding afterTree
-          part-right bytes e = ap (λ q. q + bytes) (add-one p) ∙ sym (by-end ∙ ap (λ a. afterTree (suc p) (treeResult a)) e)
+          part-right m e = ap (λ q. q + m .bytes) (add-one p) ∙ sym (by-end ∙ ap (λ a. afterTree (suc p) (foundEnd a)) e)
 
-          -- a tree is no longer than its bytes
-          pub part-long : (bytes : ℕ) → found ≡ tree-is.Tree bytes → length after < bytes → 0 ≡ partAt input known end p j
-          part-long bytes e long = let h = end-inside after bytes (sym read ∙ ap treeResult e) in absurd (omega arith)
+          -- a tree ends within its bytes
+          pub part-within : (m : Measures) → found ≡ tree-is.Tree m → m .bytes ≤ length after
+          part-within m e = end-within after (measured m) (sym read ∙ ap treeResult e)
 
-pub ruleset parts = (part-past, part-left, part-known, part-broken, part-right, part-long)
+pub ruleset parts = (part-past, part-left, part-known, part-broken, part-right)
 
 -- ---- `offset_of`
 

@@ -26,14 +26,7 @@ fn part_of(input: &[u8], known: usize, end: usize, node: usize, j: u16) -> usize
     let found = tree::tree_answer(bytes);
     match found {
         TreeAnswer::Refused(why, position) => 0,
-        // A tree ends within its bytes, so this test never holds. It is here to show that the sum
-        // fits.
-        TreeAnswer::Tree(length) => {
-            if bytes.len() < length {
-                return 0;
-            }
-            left + length
-        }
+        TreeAnswer::Tree(measures) => left + measures.bytes,
     }
 }
 

@@ -12,7 +12,8 @@ use Rattle.formats.specs.Numbers.{Bytes}
 use Rattle.formats.specs.Refusals.{spaceTooShort}
 use Rattle.formats.specs.Results.{Result, done, refusal, andThen, valueIf}
 use Rattle.formats.specs.Records.{recordAt}
-use Rattle.formats.specs.Tokens.{Tree, firstTree, firstEnd}
+use Rattle.formats.specs.Tokens.{Tree, firstTree}
+use Rattle.formats.specs.Measures.{firstMeasures, measuresOr0}
 use Rattle.formats.specs.Programs.{Program}
 use Rattle.formats.specs.Inner.Limits.{mostRecords}
 use Rattle.formats.specs.Rows.{readProgram}
@@ -20,7 +21,7 @@ use Rattle.formats.specs.Inner.Fields.{headerIn}
 use Rattle.formats.specs.Blocks.{flatIn, programIn}
 use Rattle.formats.specs.Inner.Blocks.{mostBytes}
 use Rattle.formats.proofs.Results.{then-done, then-refused, then-inv, check-inv, passed-is, refused-is}
-use Rattle.formats.proofs.Endings.{ended-by, stopped-by}
+use Rattle.formats.proofs.Endings.{read-by, stopped-by}
 use Rattle.formats.proofs.ProgramFiles.{program-files}
 use Rattle.rules.specs.PassOne.{passOne}
 use Rattle.walks.proofs.Walks.{program-held}
@@ -34,14 +35,15 @@ use Rattle.refusal.specs.declared.Verdict.the-variants as verdict-is
 use Rattle.refusal.specs.declared.Filled.{Filled}
 use Rattle.refusal.specs.declared.Filled.the-variants.{Written, Refused}
 use Rattle.block_reader.proofs.Taken.{not-taken, taken-out, taken-inside}
+use Rattle.tree.specs.declared.Measures.{Measures}
 use Rattle.tree.specs.declared.TreeAnswer.{TreeAnswer}
 use Rattle.tree.specs.declared.TreeAnswer.the-variants as tree-is
-use Rattle.tree.specs.Inner.TreeResults.{treeResult as treeAnswered}
+use Rattle.tree.specs.Inner.TreeResults.{measured, treeResult as treeAnswered}
 use Rattle.decode.specs.Inner.Decoding.{tableWords, decoded, orElse, Decodes}
 use Rattle.meaning.specs.Running.{valueWords, returnWords, mostCalls}
 use Rattle.meaning.specs.OpenCalls.{Outcome, gives, stops, begins, followedBy, withFuel, evaluation}
 use Rattle.meaning.specs.Evaluation.{Value as Val}
-use Rattle.meaning.specs.SourceRun.{SourceRan, SourceInput, refusedAfter, checkSource, sourceRun, reported as reportedValue, reportFrom}
+use Rattle.meaning.specs.SourceRun.{SourceRan, SourceInput, refusedAfter, checkSource, sourceRun, unlessRefused, reported as reportedValue, reportFrom}
 use Rattle.meaning.specs.Meaning.{PassesOne}
 use Rattle.meaning.specs.WorkWords.{beforeSource, WorkWords}
 use Rattle.meaning.proofs.SourceChecks.{file-stops, pass-one-stops, space-stops, tree-left}
@@ -49,7 +51,7 @@ use Rattle.stepwise.specs.Inner.Rows.{rowWords, tabled}
 use Rattle.stepwise.specs.Inner.Outcomes.{Reported, reported, reportedOf}
 use Rattle.stepwise.proofs.Whole.{comes}
 use Rattle.source.specs.declared.SourceAnswer.{SourceAnswer}
-use Rattle.source.specs.Inner.SourceAnswers.{sourceAnswer, reportedResult, reportSteps, Always, Evaluates, Sourced, OfFile}
+use Rattle.source.specs.Inner.SourceAnswers.{RefusedAs, reportedResult, reportSteps, Always, Evaluates, Sourced, OfFile}
 
 -- ---- the evaluation's outcome and that of the steps are reported alike
 
@@ -92,12 +94,12 @@ module _ (file input output values returns : List ℕ) (fuel : ℕ) where
   due = sourceRun file input output fuel (length values) (length returns)
 
   refused-before : (number position : ℕ) (r : SourceAnswer) → checkSource file input (length values) (length returns) ≡ refusal number position
-      → sourceAnswer r ≡ record { outcome = refusal number position; begun = 0; bytesWritten = 0; number = 0 }
-      → Sourced due output values values returns returns r
-  unfolding sourceRun
+      → RefusedAs number position 0 r
+      → Sourced due input output values values returns returns r
+  unfolding sourceRun unlessRefused
   refused-before number position r e reported =
       let gives-it : due ≡ refusedAfter 0 number position output = rw (sourceRun, e) in
-      rw gives-it (record { answer = reported; output = refl; words = untouched (refusal number position) values returns })
+      rw gives-it (record { answer = reported .answer; measures = reported .measures; output = refl; words = untouched (refusal number position) values returns })
 
   -- a call whose checks pass
   ran : (c : SourceInput) → checkSource file input (length values) (length returns) ≡ done c
@@ -148,7 +150,7 @@ module _ (s table after input output values returns : List ℕ) (fuel : ℕ) (si
       of-rows (done program) is e = of-pass program is (passOne program) refl e
 
   pub records-refused : (why : Refusal) (position : ℕ) (r : SourceAnswer) → v ≡ verdict-is.Refused why position
-      → sourceAnswer r ≡ record { outcome = refusal (numberOf why) position; begun = 0; bytesWritten = 0; number = 0 }
+      → RefusedAs (numberOf why) position 0 r
       → OfFile s input output output values values returns returns fuel r
   records-refused why position r is reported =
       record {
@@ -187,7 +189,7 @@ module _ (s table after input output values returns : List ℕ) (fuel : ℕ) (si
 
     -- too few work words
     few-words : (r : SourceAnswer) → (length values < valueWords) ⊎ (length returns < returnWords)
-        → sourceAnswer r ≡ record { outcome = refusal (numberOf SpaceTooShort) 0; begun = 0; bytesWritten = 0; number = 0 }
+        → RefusedAs (numberOf SpaceTooShort) 0 0 r
         → OfFile s input output output values values returns returns fuel r
     few-words r few reported =
         record {
@@ -198,29 +200,28 @@ module _ (s table after input output values returns : List ℕ) (fuel : ℕ) (si
         }
 
     pub records-few-values : (r : SourceAnswer) → length values < valueWords
-        → sourceAnswer r ≡ record { outcome = refusal (numberOf SpaceTooShort) 0; begun = 0; bytesWritten = 0; number = 0 }
+        → RefusedAs (numberOf SpaceTooShort) 0 0 r
         → OfFile s input output output values values returns returns fuel r
     records-few-values r few reported = few-words r (inl few) reported
 
     pub records-few-returns : (r : SourceAnswer) → length returns < returnWords
-        → sourceAnswer r ≡ record { outcome = refusal (numberOf SpaceTooShort) 0; begun = 0; bytesWritten = 0; number = 0 }
+        → RefusedAs (numberOf SpaceTooShort) 0 0 r
         → OfFile s input output output values values returns returns fuel r
     records-few-returns r few reported = few-words r (inr few) reported
 
-    module _ (vs : valueWords ≤ length values) (ps : returnWords ≤ length returns) (t : TreeAnswer) (read : treeAnswered t ≡ firstEnd input) where
+    module _ (vs : valueWords ≤ length values) (ps : returnWords ≤ length returns) (t : TreeAnswer) (read : treeAnswered t ≡ firstMeasures input) where
       only-tree : (file : List ℕ) → flatIn file ≡ done s
           → checkSource file input (length values) (length returns) ≡ andThen (firstTree input) (λ t. done (record { program = prepared .program; tree = t }))
       only-tree file e = tree-left file input (length values) (length returns) (prepared .program) (in-file file e ∙ prepared .reads) (prepared .passes) vs ps
 
       pub records-no-tree : (why : Refusal) (position : ℕ) (r : SourceAnswer) → t ≡ tree-is.Refused why position
-          → sourceAnswer r ≡ record { outcome = refusal (numberOf why) position; begun = 0; bytesWritten = 0; number = 0 }
+          → RefusedAs (numberOf why) position 0 r
           → OfFile s input output output values values returns returns fuel r
-      unfolding firstEnd
       records-no-tree why position r is reported =
           record {
             is = λ file e.
                 refused-before file input output values returns fuel (numberOf why) position r
-                (only-tree file e ∙ then-refused _ (stopped-by 0 (firstTree input) (numberOf why) position (sym read ∙ ap treeAnswered is)))
+                (only-tree file e ∙ then-refused _ (stopped-by input (numberOf why) position (sym read ∙ ap treeAnswered is)))
                 reported;
           }
 
@@ -246,15 +247,16 @@ module _ (s table after input output values returns : List ℕ) (fuel : ℕ) (si
         }
 
 pub records-run :
-    (s after input output values returns : List ℕ) (first fuel end : ℕ) (t : TreeAnswer) (output′ values′ returns′ : List ℕ) (r : SourceAnswer)
+    (s after input output values returns : List ℕ) (first fuel : ℕ) (m : Measures) (t : TreeAnswer) (output′ values′ returns′ : List ℕ) (r : SourceAnswer)
     → Ready s after input values returns first
-    → treeAnswered t ≡ firstEnd input
-    → t ≡ tree-is.Tree end
-    → Evaluates after input first fuel output output′ values values′ returns returns′ r
+    → treeAnswered t ≡ firstMeasures input
+    → t ≡ tree-is.Tree m
+    → Evaluates after input (measured m) first fuel output output′ values values′ returns returns′ r
     → OfFile s input output output′ values values′ returns returns′ fuel r
-unfolding firstEnd programIn
-records-run s after input output values returns first fuel end t output′ values′ returns′ r ready read is e =
-    let tree = ended-by 0 (firstTree input) end (sym read ∙ ap treeAnswered is) in
+unfolding programIn measuresOr0
+records-run s after input output values returns first fuel m t output′ values′ returns′ r ready read is e =
+    let found : firstMeasures input ≡ done (measured m) = sym read ∙ ap treeAnswered is in
+    let tree = read-by input (measured m) found in
     let outcome : Outcome Val = evaluation (ready .program) mostCalls (tree .it) in
     let g = e .gave (followedBy outcome reportedOf) (ready .always (tree .it) (tree .is)) (ready .value-words) (ready .return-words) in
     record {
@@ -263,7 +265,12 @@ records-run s after input output values returns first fuel end t output′ value
           (ready .value-words) (ready .return-words) in
           let same = ran file input output values returns fuel (record { program = ready .program; tree = tree .it }) (left ∙ then-done _ (tree .is))
           ∙ sym (report-same outcome fuel 0 output) in
-          rw same (record { answer = g .answer; output = g .output; words = used _ values values′ returns returns′ (e .long-values) (e .long-returns) (g .late) });
+          rw same (record {
+            answer = g .answer;
+            measures = g .measures ∙ ap (unlessRefused _) (sym (ap measuresOr0 found));
+            output = g .output;
+            words = used _ values values′ returns returns′ (e .long-values) (e .long-returns) (g .late);
+          });
     }
 
 pub ruleset records-ways = (records-refused, records-few-values, records-few-returns, records-no-tree, records-run)
@@ -274,8 +281,8 @@ module _ (file space : List ℕ) (size : length space ≡ mostBytes) (after : Li
     (input output values returns : List ℕ) (fuel : ℕ)
   where
     pub file-refused : (why : Refusal) (position : ℕ) (r : SourceAnswer) → taken ≡ Refused why position
-        → sourceAnswer r ≡ record { outcome = refusal (numberOf why) position; begun = 0; bytesWritten = 0; number = 0 }
-        → Sourced (due file input output values returns fuel) output values values returns returns r
+        → RefusedAs (numberOf why) position 0 r
+        → Sourced (due file input output values returns fuel) input output values values returns returns r
     unfolding programIn
     file-refused why position r is reported =
         refused-before file input output values returns fuel (numberOf why) position r
@@ -285,7 +292,7 @@ module _ (file space : List ℕ) (size : length space ≡ mostBytes) (after : Li
 
     pub file-run : (bytes : ℕ) (output′ values′ returns′ : List ℕ) (r : SourceAnswer) → taken ≡ Written bytes
         → OfFile (take bytes after) input output output′ values values′ returns returns′ fuel r
-        → Sourced (due file input output values returns fuel) output′ values values′ returns returns′ r
+        → Sourced (due file input output values returns fuel) input output′ values values′ returns returns′ r
     file-run bytes output′ values′ returns′ r is o =
         let f = taken-out file space size after taken put bytes is in
         o .is file (f .is ∙ ap done (sym (f .there)))

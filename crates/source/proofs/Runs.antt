@@ -20,7 +20,9 @@ use Rattle.refusal.specs.declared.Refusal.the-variants.{FuelUsedUp, TooManyCall
 use Rattle.refusal.specs.declared.Verdict.the-variants.{Passed}
 use Rattle.meaning.specs.Running.{valueWords, returnWords}
 use Rattle.meaning.specs.OpenCalls.{Reason, no-fuel, no-call, no-result, refusalOf, Outcome, gives, stops, afterBegun, withFuel}
-use Rattle.meaning.specs.SourceRun.{refusedAfter, positionOf}
+use Rattle.meaning.specs.SourceRun.{refusedAfter, positionOf, unlessRefused}
+use Rattle.tree.specs.declared.Measures.{Measures as Found}
+use Rattle.tree.specs.Inner.TreeResults.{measured}
 use Rattle.meaning.specs.WorkWords.{beforeSource}
 use Rattle.meaning.proofs.Outcomes.{given, comes-value, gives-not}
 use Rattle.stepwise.specs.Inner.Outcomes.{Reported, reported}
@@ -30,7 +32,7 @@ use Rattle.source_walk.specs.Inner.Loop.{Walks}
 use Rattle.result_bytes.specs.Inner.Bytes.{countLimit}
 use Rattle.walk_outcome.specs.Inner.Outcomes.{Counts, Reports, reports-value, reports-stop}
 use Rattle.walk_outcome.proofs.Walks.{walk-reports}
-use Rattle.source.specs.Inner.SourceAnswers.{sourceAnswer, Gave, Named, reportedResult, reportSteps, Room, Always, Evaluates}
+use Rattle.source.specs.Inner.SourceAnswers.{RefusedAs, Gave, Named, reportedResult, reportSteps, Room, Always, Evaluates}
 
 -- ---- `why_stopped`
 
@@ -115,7 +117,7 @@ same-value {A} n m a b e = comes-value {form = λ x. x} {P = λ k x. x ≡ b} {S
 
 -- ---- `evaluate`
 
-module _ (T input : List ℕ) (first fuel : ℕ) (output values values₁ returns returns₁ nothing nothing′ : List ℕ) (c : Walked)
+module _ (T input : List ℕ) (found : Found) (first fuel : ℕ) (output values values₁ returns returns₁ nothing nothing′ : List ℕ) (c : Walked)
     (counted : Walks T input first fuel nothing nothing′ values values₁ returns returns₁ c)
   where
     -- what the first walk reports
@@ -124,8 +126,9 @@ module _ (T input : List ℕ) (first fuel : ℕ) (output values values₁ return
         walk-reports T input first fuel nothing nothing′ values values₁ returns returns₁ c counted o (always .comes values returns v p)
 
     pub evaluate-stops : (why : Refusal) (r : SourceAnswer) → c .stop ≢ 0 → Named (c .stop) why
-        → sourceAnswer r ≡ record { outcome = refusal (numberOf why) (c .position); begun = c .begun; bytesWritten = 0; number = 0 }
-        → Evaluates T input first fuel output output values values₁ returns returns₁ r
+        → RefusedAs (numberOf why) (c .position) (c .begun) r
+        → Evaluates T input (measured found) first fuel output output values values₁ returns returns₁ r
+    unfolding unlessRefused
     evaluate-stops why r some named e =
         record {
           gave = λ o always v p. by o (the-first o always v p);
@@ -133,13 +136,14 @@ module _ (T input : List ℕ) (first fuel : ℕ) (output values values₁ return
           long-returns = counted .long-returns;
         }
       where
-        by : (o : Outcome Reported) → Reports (withFuel fuel o) nothing nothing′ c → Gave (reportSteps 0 (withFuel fuel o) output) output r
+        by : (o : Outcome Reported) → Reports (withFuel fuel o) nothing nothing′ c → Gave (reportSteps 0 (withFuel fuel o) output) (measured found) output r
         by o (reports-value out is stop counts wrote) = absurd (some stop)
         by o (reports-stop reason at is stop position) =
             rw (reported-stop output (c .begun) reason at (withFuel fuel o) is)
             (record {
-              answer = e ∙ ap₂ (λ n p. refusedAfter (c .begun) n p output .answer) (named .is reason stop ∙ stop) position;
+              answer = e .answer ∙ ap₂ (λ n p. refusedAfter (c .begun) n p output .answer) (named .is reason stop ∙ stop) position;
               output = refl;
+              measures = e .measures;
               late = λ number place. late-stop (refusalOf reason) (positionOf reason at) number place (stop-late reason);
             })
 
@@ -155,8 +159,9 @@ module _ (T input : List ℕ) (first fuel : ℕ) (output values values₁ return
       result o (reports-stop reason at is stop position) = absurd (stop-some reason (sym stop ∙ ended))
 
       pub evaluate-full : (n : ℕ) (r : SourceAnswer) → Room output n → n < c .written
-          → sourceAnswer r ≡ record { outcome = refusal (numberOf OutputFull) 0; begun = c .begun; bytesWritten = 0; number = 0 }
-          → Evaluates T input first fuel output output values values₁ returns returns₁ r
+          → RefusedAs (numberOf OutputFull) 0 (c .begun) r
+          → Evaluates T input (measured found) first fuel output output values values₁ returns returns₁ r
+      unfolding unlessRefused
       evaluate-full n r room full e =
           record {
             gave = λ o always v p.
@@ -166,7 +171,7 @@ module _ (T input : List ℕ) (first fuel : ℕ) (output values values₁ return
                 let long : length output < length (t .bytes) =
                 elim (decLe countLimit (c .written)) [ yes h ↦ let m = t .counts .many h in omega arith | no h ↦ let f = t .counts .few (omega arith) in omega arith ] in
                 rw (reported-value output (c .begun) (c .number) (withFuel fuel o) (t .bytes) (t .is), reported-full output (c .begun) (c .number) (t .bytes) long)
-                (record { answer = e; output = refl; late = λ number position. late-stop outputFull 0 number position full-late });
+                (record { answer = e .answer; output = refl; measures = e .measures; late = λ number position. late-stop outputFull 0 number position full-late });
             long-values = counted .long-values;
             long-returns = counted .long-returns;
           }
@@ -181,16 +186,17 @@ module _ (T input : List ℕ) (first fuel : ℕ) (output values values₁ return
 
         -- The answer of a run that ended.
         abbrev ends : SourceAnswer
-        ends = record { verdict = Passed; begun = c .begun; written = c .written; number = c .number }
+        ends = record { verdict = Passed; begun = c .begun; written = c .written; number = c .number; measures = found }
 
-        gives-it : (o : Outcome Reported) (t : Result o) (output′ : List ℕ) → output′ ≡ written output 0 (t .bytes) → Gave (reportSteps 0 (withFuel fuel o) output) output′ ends
+        gives-it : (o : Outcome Reported) (t : Result o) (output′ : List ℕ) → output′ ≡ written output 0 (t .bytes) → Gave (reportSteps 0 (withFuel fuel o) output) (measured found) output′ ends
+        unfolding unlessRefused
         gives-it o t output′ w =
             let all = exact o t in
             rw (reported-value output (c .begun) (c .number) (withFuel fuel o) (t .bytes) (t .is), reported-fits output (c .begun) (c .number) (t .bytes) (fits o t))
-            (record { answer = rw all refl; output = w; late = λ number position. done-not refl })
+            (record { answer = rw all refl; output = w; measures = refl; late = λ number position. done-not refl })
 
         -- no bytes, and so nothing to write
-        pub evaluate-none : c .written ≡ 0 → Evaluates T input first fuel output output values values₁ returns returns₁ ends
+        pub evaluate-none : c .written ≡ 0 → Evaluates T input (measured found) first fuel output output values values₁ returns returns₁ ends
         evaluate-none none =
             record {
               gave = λ o always v p.
@@ -208,7 +214,7 @@ module _ (T input : List ℕ) (first fuel : ℕ) (output values values₁ return
         -- a second walk writes them
         pub evaluate-again : (output′ values₂ returns₂ : List ℕ) (d : Walked)
             → Walks T input first fuel output output′ values₁ values₂ returns₁ returns₂ d
-            → Evaluates T input first fuel output output′ values values₂ returns returns₂ ends
+            → Evaluates T input (measured found) first fuel output output′ values values₂ returns returns₂ ends
         evaluate-again output′ values₂ returns₂ d again =
             record {
               gave = λ o always v p.

@@ -4,15 +4,16 @@ use block_reader::MOST_BYTES;
 use refusal::Filled;
 use refusal::Refusal;
 use refusal::Verdict;
+use tree::Measures;
 use tree::TreeAnswer;
 ghost use Prim.Native.Nat.{_+_};
 ghost use mathlib.Core.Path.{_≡_};
 ghost use lib.ListN.{length};
-ghost use Rattle.formats.specs.Results.{refusal};
 ghost use Rattle.formats.specs.Inner.Fields.{headerIn};
 ghost use Rattle.refusal.specs.Inner.Numbers.{number};
 ghost use Rattle.meaning.specs.SourceRun.{sourceRun};
-ghost use Rattle.source.specs.Inner.SourceAnswers.{sourceAnswer, Named, Room, Evaluates, OfFile, Sourced};
+ghost use Rattle.tree.specs.Inner.TreeResults.{measured};
+ghost use Rattle.source.specs.Inner.SourceAnswers.{RefusedAs, Named, Room, Evaluates, OfFile, Sourced};
 
 // How a walk stops: it ended, the fuel is used up, a call is one too many, or else a sum is out of
 // range.
@@ -30,24 +31,26 @@ const VALUE_WORDS: usize = 16384;
 
 const RETURN_WORDS: usize = 2048;
 
-// What a source run answers: ended or refused, expressions begun, bytes written, and the number.
+// What a source run answers: ended or refused, expressions begun, bytes written, the number, and
+// what the reader measured of the tree; nothing of it where the run is refused.
 pub struct SourceAnswer {
     pub verdict: Verdict,
     pub begun: u64,
     pub written: usize,
     pub number: u32,
+    pub measures: Measures,
 }
 
 // The answer of a run that is refused.
 fn refused(why: Refusal, position: usize, begun: u64) -> SourceAnswer
-    ensures { λ r. ⌜ sourceAnswer r ≡ record
-        { outcome = refusal (number why) position; begun = begun; bytesWritten = 0; number = 0 } ⌝ }
+    ensures { λ r. ⌜ RefusedAs (number why) position begun r ⌝ }
 {
     SourceAnswer {
         verdict: Verdict::Refused(why, position),
         begun: begun,
         written: 0,
         number: 0,
+        measures: tree::no_measures(),
     }
 }
 
@@ -70,12 +73,13 @@ fn room_of(output: &[u8]) -> usize
     output.len()
 }
 
-// Evaluates the program of these rows. One walk counts the result's bytes, with a buffer of its
-// own; where they fit, a second walk, the same again, writes them. So a refusal leaves the output
-// untouched.
+// Evaluates the program of these rows on the tree that has these measures. One walk counts the
+// result's bytes, with a buffer of its own; where they fit, a second walk, the same again, writes
+// them. So a refusal leaves the output untouched.
 fn count_then_write(
     table: &[u16],
     input: &[u8],
+    measures: Measures,
     first: u16,
     fuel: u64,
     counting: &mut [u8],
@@ -83,9 +87,9 @@ fn count_then_write(
     values: &mut [u32],
     returns: &mut [u64],
 ) -> SourceAnswer
-    ensures { λ r. ⌜ Evaluates (now (table .entry)) (now (input .entry)) first fuel
-        (now (output .entry)) (now (output .exit)) (now (values .entry)) (now (values .exit))
-        (now (returns .entry)) (now (returns .exit)) r ⌝ }
+    ensures { λ r. ⌜ Evaluates (now (table .entry)) (now (input .entry)) (measured measures)
+        first fuel (now (output .entry)) (now (output .exit)) (now (values .entry))
+        (now (values .exit)) (now (returns .entry)) (now (returns .exit)) r ⌝ }
 {
     let counted = source_walk::walk(table, input, first, fuel, counting, values, returns);
     if counted.stop != NOT_REFUSED {
@@ -102,6 +106,7 @@ fn count_then_write(
         begun: counted.begun,
         written: counted.written,
         number: counted.number,
+        measures: measures,
     }
 }
 
@@ -110,20 +115,22 @@ fn count_then_write(
 fn evaluate(
     table: &[u16],
     input: &[u8],
+    measures: Measures,
     first: u16,
     fuel: u64,
     output: &mut [u8],
     values: &mut [u32],
     returns: &mut [u64],
 ) -> SourceAnswer
-    ensures { λ r. ⌜ Evaluates (now (table .entry)) (now (input .entry)) first fuel
-        (now (output .entry)) (now (output .exit)) (now (values .entry)) (now (values .exit))
-        (now (returns .entry)) (now (returns .exit)) r ⌝ }
+    ensures { λ r. ⌜ Evaluates (now (table .entry)) (now (input .entry)) (measured measures)
+        first fuel (now (output .entry)) (now (output .exit)) (now (values .entry))
+        (now (values .exit)) (now (returns .entry)) (now (returns .exit)) r ⌝ }
 {
     let mut nothing = [0u8; 1];
     count_then_write(
         table,
         input,
+        measures,
         first,
         fuel,
         &mut nothing,
@@ -167,9 +174,18 @@ fn run_records(
     let tree = tree::tree_answer(input);
     match tree {
         TreeAnswer::Refused(why, position) => refused(why, position, 0),
-        TreeAnswer::Tree(end) => {
+        TreeAnswer::Tree(measures) => {
             let first = first_node(flat);
-            evaluate(&table, input, first, fuel, output, values, returns)
+            evaluate(
+                &table,
+                input,
+                measures,
+                first,
+                fuel,
+                output,
+                values,
+                returns,
+            )
         }
     }
 }
@@ -187,8 +203,8 @@ pub fn run(
 ) -> SourceAnswer
     ensures { λ r. ⌜ Sourced (sourceRun (now (file .entry)) (now (input .entry))
         (now (output .entry)) fuel (length (now (values .entry))) (length (now (returns .entry))))
-        (now (output .exit)) (now (values .entry)) (now (values .exit)) (now (returns .entry))
-        (now (returns .exit)) r ⌝ }
+        (now (input .entry)) (now (output .exit)) (now (values .entry)) (now (values .exit))
+        (now (returns .entry)) (now (returns .exit)) r ⌝ }
 {
     let mut flat = [0u8; MOST_BYTES];
     let taken = block_reader::from_blocks(file, &mut flat);

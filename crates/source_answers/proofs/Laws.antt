@@ -7,6 +7,7 @@ use Rattle.refusal.specs.Inner.Numbers.{number}
 use Rattle.refusal.specs.declared.Verdict.the-variants.{Passed, Refused}
 use Rattle.answers.specs.Inner.Stores.{Stored}
 use Rattle.answers.proofs.Slots.{reported-ended, reported-refused}
+use Rattle.tree.specs.Inner.TreeResults.{measured}
 use Rattle.source.specs.Inner.SourceAnswers.{sourceAnswer}
 use Rattle.source.specs.declared.SourceAnswer.{SourceAnswer}
 use Rattle.run_answers.specs.RunSlots.{signExtended}
@@ -15,26 +16,26 @@ use Rattle.source_answers.specs.Inner.Stores.{StoresSource, AnswersSourc
 
 -- ---- `store`
 
--- the row, with its last number sign-extended
+-- the row, with the number sign-extended
 pub store-row :
     (ran : SourceAnswer) (n position word : ℕ) (before after : List ℕ) (r : ℕ)
     → word ≡ signExtended (ran .number)
-    → Stored (position ∷ ran .begun ∷ ran .written ∷ word ∷ []) n before after r
-    → StoresSource (sourceAnswer ran) n position before after r
+    → Stored (position ∷ ran .begun ∷ ran .written ∷ word ∷ ran .measures .tips ∷ ran .measures .depth ∷ []) n before after r
+    → StoresSource (sourceAnswer ran) (measured (ran .measures)) n position before after r
 store-row ran n position word before after r e s = rw (← e) s
 
 -- ---- `report_source`
 
 module _ (ran : SourceAnswer) (before after : List ℕ) (r : ℕ) where
-  pub source-ended : ran .verdict ≡ Passed → StoresSource (sourceAnswer ran) 0 0 before after r → AnswersSource (sourceAnswer ran) before after r
-  source-ended = reported-ended sourceSlots (λ position. sourceSlotsOf position (sourceAnswer ran)) (λ position. refl) before after r (ran .verdict)
+  pub source-ended : ran .verdict ≡ Passed → StoresSource (sourceAnswer ran) (measured (ran .measures)) 0 0 before after r → AnswersSource (sourceAnswer ran) (measured (ran .measures)) before after r
+  source-ended = reported-ended sourceSlots (λ position. sourceSlotsOf position (sourceAnswer ran) (measured (ran .measures))) (λ position. refl) before after r (ran .verdict)
 
   pub source-refused :
       (why : Refusal) (position n : ℕ)
       → ran .verdict ≡ Refused why position
       → n ≡ number why
-      → StoresSource (sourceAnswer ran) n position before after r
-      → AnswersSource (sourceAnswer ran) before after r
-  source-refused = reported-refused sourceSlots (λ position. sourceSlotsOf position (sourceAnswer ran)) (λ position. refl) before after r (ran .verdict)
+      → StoresSource (sourceAnswer ran) (measured (ran .measures)) n position before after r
+      → AnswersSource (sourceAnswer ran) (measured (ran .measures)) before after r
+  source-refused = reported-refused sourceSlots (λ position. sourceSlotsOf position (sourceAnswer ran) (measured (ran .measures))) (λ position. refl) before after r (ran .verdict)
 
 pub ruleset source-ways = (source-ended, source-refused)

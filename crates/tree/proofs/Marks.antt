@@ -1,26 +1,30 @@
 -- The tree reader's loop: what holds before each tag, and a law for each way through it. Still to
 -- be read are the tree that is due and the right trees of the open nodes whose left tree is not
 -- done. `goOn` says what comes of these, and the marks say which they are.
-use Prim.Native.Nat.{ℕ, suc, _+_, _-_, _≤_, _<_, zero-le}
+use Prim.Native.Nat.{ℕ, suc, _+_, _-_, _/_, _≤_, _<_, max, zero-le}
 use mathlib.Core.List.{List, [], _∷_}
 use mathlib.Core.Logic.{_≢_}
-use mathlib.Core.Path.{_≡_, refl, sym, ap, subst, _∙_}
+use mathlib.Core.Path.{_≡_, refl, sym, ap, ap₂, subst, _∙_}
 use native.Mathlib.Numerals.{add-one}
 use native.Mathlib.Omega.{arith}
 use lib.ListN.{length, getD, set, length-set}
 use lib.Seq.{getD-set-same, getD-set-other}
 use Rattle.formats.specs.Refusals.{inputEnded, notATag, tooDeep}
 use Rattle.formats.specs.Tokens.{leafTag, nodeTag, mostDepth}
-use Rattle.formats.specs.Inner.Trees.{endAt}
-use Rattle.formats.specs.Results.{Result, done, refusal, andThen}
+use Rattle.formats.specs.Inner.Trees.{Ending, endAt, measuresAt, measuresBy}
+use Rattle.formats.specs.Results.{Result, done, refusal, andThen, onValue}
 use Rattle.formats.proofs.Tokens.{past, at-leaf, at-node, at-other}
 use Rattle.formats.proofs.Endings.{end-past, end-other, end-leaf, end-cut, end-deep, end-node}
 
+-- The outcome of a right tree under d nodes, after the trees before it.
+abbrev rightTree : (width d : ℕ) → List ℕ → Ending → Result Ending
+rightTree width d s e = endAt width (mostDepth - d) d s (e .end) (e .deepest)
+
 -- What follows the outcome of the tree that is due: the right trees still to come, the innermost
 -- first, each given by the number of nodes above it.
-unfoldable pub goOn : ℕ → List ℕ → List ℕ → Result ℕ → Result ℕ
+unfoldable pub goOn : ℕ → List ℕ → List ℕ → Result Ending → Result Ending
 goOn width s [] e = e
-goOn width s (d ∷ ds) e = andThen e (λ q. goOn width s ds (endAt width (mostDepth - d) s q))
+goOn width s (d ∷ ds) e = andThen e (λ l. goOn width s ds (rightTree width d s l))
 
 -- The marks lead from each right tree still to come to the one after it: the mark of the node under
 -- d others says how many nodes are above that one, 0 where there is none.
@@ -28,8 +32,9 @@ pub data Marked (marks : List ℕ) : ℕ → List ℕ → Type 0 where
   none : Marked marks 0 []
   next : (d : ℕ) (ds : List ℕ) → getD marks d 0 ≤ d → Marked marks (getD marks d 0) ds → Marked marks (suc d) (suc d ∷ ds)
 
--- What holds before a tag that is due at offset `at` under `above` nodes.
-pub record Walking (width : ℕ) (s marks : List ℕ) (above above-next at : ℕ) : Type 0 where
+-- What holds before a tag that is due at offset `at` under `above` nodes, with the deepest leaf
+-- before it under `deepest` nodes.
+pub record Walking (width : ℕ) (s marks : List ℕ) (above above-next deepest at : ℕ) : Type 0 where
   pub within : at ≤ length s
   pub table : length marks ≡ mostDepth
   pub shallow : above ≤ mostDepth
@@ -38,7 +43,7 @@ pub record Walking (width : ℕ) (s marks : List ℕ) (above above-next at : ℕ
   pub to-come : List ℕ
   pub marked : Marked marks above-next to-come
   -- the tree that is due and those still to come give the outcome of the whole
-  pub whole : goOn width s to-come (endAt width (mostDepth - above) s at) ≡ endAt width mostDepth s 0
+  pub whole : goOn width s to-come (endAt width (mostDepth - above) above s at deepest) ≡ endAt width mostDepth 0 s 0 0
 
 -- ---- what follows
 
@@ -49,16 +54,16 @@ goes-refused width s [] n q = refl
 goes-refused width s (d ∷ ds) n q = refl
 
 -- one right tree more to come
-goes-then : (width d : ℕ) (s ds : List ℕ) (e : Result ℕ) → goOn width s ds (andThen e (λ q. endAt width (mostDepth - d) s q)) ≡ goOn width s (d ∷ ds) e
+goes-then : (width d : ℕ) (s ds : List ℕ) (e : Result Ending) → goOn width s ds (andThen e (rightTree width d s)) ≡ goOn width s (d ∷ ds) e
 unfolding goOn
-goes-then width d s ds (done q) = refl
+goes-then width d s ds (done l) = refl
 goes-then width d s ds (refusal n q) = goes-refused width s ds n q
 
-goes-done : (width d q : ℕ) (s ds : List ℕ) → goOn width s (d ∷ ds) (done q) ≡ goOn width s ds (endAt width (mostDepth - d) s q)
+goes-done : (width d : ℕ) (l : Ending) (s ds : List ℕ) → goOn width s (d ∷ ds) (done l) ≡ goOn width s ds (rightTree width d s l)
 unfolding goOn
-goes-done width d q s ds = refl
+goes-done width d l s ds = refl
 
-goes-last : (width : ℕ) (s : List ℕ) (e : Result ℕ) → goOn width s [] e ≡ e
+goes-last : (width : ℕ) (s : List ℕ) (e : Result Ending) → goOn width s [] e ≡ e
 unfolding goOn
 goes-last width s e = refl
 
@@ -97,18 +102,20 @@ one-comes {marks} (next d ds low m) some =
 
 -- ---- the ways through the loop
 
-pub walk-first : (width : ℕ) (s marks : List ℕ) → length marks ≡ mostDepth → Walking width s marks 0 0 0
+pub walk-first : (width : ℕ) (s marks : List ℕ) → length marks ≡ mostDepth → Walking width s marks 0 0 0 0
 walk-first width s marks table =
     record { within = zero-le; table = table; shallow = zero-le; inside = zero-le; to-come = []; marked = none; whole = goes-last width s _ }
 
-module _ (width : ℕ) (s marks : List ℕ) (above above-next at : ℕ) (w : Walking width s marks above above-next at) where
+module _ (width : ℕ) (s marks : List ℕ) (above above-next deepest at : ℕ) (w : Walking width s marks above above-next deepest at) where
   -- a node's tag: its left tree is due under one node more, and its right tree comes after it
-  pub walk-node : at < length s → getD s at 0 ≡ nodeTag → above ≢ mostDepth → Walking width s (set marks above above-next) (above + 1) (above + 1) (at + 1)
+  pub walk-node : at < length s → getD s at 0 ≡ nodeTag → above ≢ mostDepth
+      → Walking width s (set marks above above-next) (above + 1) (above + 1) deepest (at + 1)
   walk-node there is few =
       let fits : above < mostDepth = omega (arith, w .shallow) in
       let room : mostDepth - above ≡ suc (mostDepth - suc above) = omega arith in
-      let opened : endAt width (mostDepth - above) s at ≡ andThen (endAt width (mostDepth - suc above) s (suc at)) (λ q. endAt width (mostDepth - suc above) s q) =
-      ap (λ (n : ℕ). endAt width n s at) room ∙ end-node width (mostDepth - suc above) (at-node there is) in
+      let opened : endAt width (mostDepth - above) above s at deepest
+      ≡ andThen (endAt width (mostDepth - suc above) (suc above) s (suc at) deepest) (rightTree width (suc above) s) =
+      ap (λ (n : ℕ). endAt width n above s at deepest) room ∙ end-node width (mostDepth - suc above) above deepest (at-node there is) in
       rw (add-one above, add-one at)
       (record {
         within = there;
@@ -121,50 +128,70 @@ module _ (width : ℕ) (s marks : List ℕ) (above above-next at : ℕ) (w : Wal
       })
 
   -- a tag at which the tree is refused
-  walk-stops : (n q : ℕ) → endAt width (mostDepth - above) s at ≡ refusal n q → refusal n q ≡ endAt width mostDepth s 0
-  walk-stops n q e = sym (goes-refused width s (w .to-come) n q) ∙ ap (goOn width s (w .to-come)) (sym e) ∙ w .whole
+  walk-stops : (n q : ℕ) → endAt width (mostDepth - above) above s at deepest ≡ refusal n q → refusal n q ≡ measuresBy width s
+  unfolding measuresBy
+  walk-stops n q e =
+      ap (onValue (measuresAt width)) (sym (goes-refused width s (w .to-come) n q) ∙ ap (goOn width s (w .to-come)) (sym e) ∙ w .whole)
 
-  pub walk-past : length s ≤ at → refusal inputEnded at ≡ endAt width mostDepth s 0
-  walk-past h = walk-stops _ _ (end-past width _ (past h))
+  pub walk-past : length s ≤ at → refusal inputEnded at ≡ measuresBy width s
+  walk-past h = walk-stops _ _ (end-past width _ above deepest (past h))
 
-  pub walk-deep : at < length s → getD s at 0 ≡ nodeTag → above ≡ mostDepth → refusal tooDeep at ≡ endAt width mostDepth s 0
+  pub walk-deep : at < length s → getD s at 0 ≡ nodeTag → above ≡ mostDepth → refusal tooDeep at ≡ measuresBy width s
   walk-deep there is full =
       let no-room : mostDepth - above ≡ 0 = omega arith in
-      walk-stops _ _ (ap (λ (n : ℕ). endAt width n s at) no-room ∙ end-deep width (at-node there is))
+      walk-stops _ _ (ap (λ (n : ℕ). endAt width n above s at deepest) no-room ∙ end-deep width above deepest (at-node there is))
 
-  pub walk-other : at < length s → getD s at 0 ≢ nodeTag → getD s at 0 ≢ leafTag → refusal notATag at ≡ endAt width mostDepth s 0
-  walk-other there nn nl = walk-stops _ _ (end-other width _ (at-other there nl nn))
+  pub walk-other : at < length s → getD s at 0 ≢ nodeTag → getD s at 0 ≢ leafTag → refusal notATag at ≡ measuresBy width s
+  walk-other there nn nl = walk-stops _ _ (end-other width _ above deepest (at-other there nl nn))
 
-  pub walk-cut : at < length s → getD s at 0 ≡ leafTag → length s - (at + 1) < width → refusal inputEnded (at + 1) ≡ endAt width mostDepth s 0
-  walk-cut there is cut = ap (refusal inputEnded) (add-one at) ∙ walk-stops _ _ (end-cut width _ (at-leaf there is) (omega arith))
+  pub walk-cut : (whole : ℕ) → at < length s → getD s at 0 ≡ leafTag → whole ≡ length s - width → whole ≤ at
+      → refusal inputEnded (at + 1) ≡ measuresBy width s
+  walk-cut whole there is last cut = ap (refusal inputEnded) (add-one at) ∙ walk-stops _ _ (end-cut width _ above deepest (at-leaf there is) (omega arith))
 
   -- a leaf that ends
-  leaf-done : at < length s → getD s at 0 ≡ leafTag → width ≤ length s - (at + 1) → goOn width s (w .to-come) (done (at + 1 + width)) ≡ endAt width mostDepth s 0
-  leaf-done there is whole =
-      let next-at : at + 1 + width ≡ suc at + width = omega arith in
-      ap (λ (n : ℕ). goOn width s (w .to-come) (done n)) next-at
-      ∙ ap (goOn width s (w .to-come)) (sym (end-leaf width _ (at-leaf there is) (omega arith)))
-      ∙ w .whole
+  module _ (whole : ℕ) (there : at < length s) (is : getD s at 0 ≡ leafTag) (last : whole ≡ length s - width) (fits : at < whole) where
+    pub leaf-within : at + 1 + width ≤ length s
+    leaf-within = omega arith
 
-  -- .. and the whole tree with it
-  pub walk-ends : at < length s → getD s at 0 ≡ leafTag → width ≤ length s - (at + 1) → above-next ≡ 0 → done (at + 1 + width) ≡ endAt width mostDepth s 0
-  walk-ends there is whole no-more =
-      let last : goOn width s (w .to-come) (done (at + 1 + width)) ≡ done (at + 1 + width) = ap (λ (ds : List ℕ). goOn width s ds (done (at + 1 + width))) (none-comes (w .marked) no-more) ∙ goes-last width s _ in
-      sym last ∙ leaf-done there is whole
+    -- The end, with the depth of this leaf.
+    abbrev ended : Ending
+    ended = record { end = at + 1 + width; deepest = max deepest above }
 
-  -- .. and all below the node whose right tree comes next
-  pub walk-leaf : at < length s → getD s at 0 ≡ leafTag → width ≤ length s - (at + 1) → above-next ≢ 0 → Walking width s marks above-next (getD marks (above-next - 1) 0) (at + 1 + width)
-  walk-leaf there is whole some =
-      let n = one-comes (w .marked) some in
-      record {
-        within = omega arith;
-        table = w .table;
-        shallow = omega (arith, w .inside, w .shallow);
-        inside = omega (arith, n .low);
-        to-come = n .rest;
-        marked = n .more;
-        whole = sym (goes-done width above-next (at + 1 + width) s (n .rest)) ∙ ap (λ (ds : List ℕ). goOn width s ds (done (at + 1 + width))) (sym (n .first)) ∙ leaf-done there is whole;
-      }
+    leaf-done : goOn width s (w .to-come) (done ended) ≡ endAt width mostDepth 0 s 0 0
+    leaf-done =
+        let next-at : at + 1 + width ≡ suc at + width = omega arith in
+        ap (λ (n : ℕ). goOn width s (w .to-come) (done (record { end = n; deepest = max deepest above }))) next-at
+        ∙ ap (goOn width s (w .to-come)) (sym (end-leaf width _ above deepest (at-leaf there is) (omega arith)))
+        ∙ w .whole
+
+    -- .. and the whole tree with it
+    pub walk-ends : (deeper : ℕ) → deeper ≡ max deepest above → above-next ≡ 0
+        → done (record { bytes = at + 1 + width; tips = (at + 1 + width + 1) / (width + 2); depth = deeper }) ≡ measuresBy width s
+    unfolding measuresBy
+    walk-ends deeper e no-more =
+        let last-one : goOn width s (w .to-come) (done ended) ≡ done ended =
+        ap (λ (ds : List ℕ). goOn width s ds (done ended)) (none-comes (w .marked) no-more) ∙ goes-last width s _ in
+        ap (λ (d : ℕ). done (record { bytes = at + 1 + width; tips = (at + 1 + width + 1) / (width + 2); depth = d })) e
+        ∙ ap (onValue (measuresAt width)) (sym last-one ∙ leaf-done)
+
+    -- .. and all below the node whose right tree comes next
+    pub walk-leaf : (deeper : ℕ) → deeper ≡ max deepest above → above-next ≢ 0
+        → Walking width s marks above-next (getD marks (above-next - 1) 0) deeper (at + 1 + width)
+    walk-leaf deeper e some =
+        let n = one-comes (w .marked) some in
+        record {
+          within = leaf-within;
+          table = w .table;
+          shallow = omega (arith, w .inside, w .shallow);
+          inside = omega (arith, n .low);
+          to-come = n .rest;
+          marked = n .more;
+          whole =
+              ap (λ (d : ℕ). goOn width s (n .rest) (endAt width (mostDepth - above-next) above-next s (at + 1 + width) d)) e
+              ∙ sym (goes-done width above-next ended s (n .rest))
+              ∙ ap (λ (ds : List ℕ). goOn width s ds (done ended)) (sym (n .first))
+              ∙ leaf-done;
+        }
 
   pub mark-small : above-next ≢ 0 → getD marks (above-next - 1) 0 < mostDepth
   mark-small some = let n = one-comes (w .marked) some in omega (arith, n .low, w .inside, w .shallow)

@@ -9,10 +9,10 @@ use Rattle.tree.proofs.walk.Statement.{statement}
 use Rattle.tree.proofs.walk.Tie as tie
 
 abbrev Inv-loop : tie.InvT-loop
-Inv-loop input width marks₀ above₀ above-next₀ at₀ marks above above-next at = Walking width input marks above above-next at
+Inv-loop input width marks₀ above₀ above-next₀ deepest₀ at₀ whole marks above above-next deepest at = Walking width input marks above above-next deepest at
 
 abbrev μ-loop : tie.MeasureT-loop
-μ-loop input width marks₀ above₀ above-next₀ at₀ marks above above-next at = length input - at
+μ-loop input width marks₀ above₀ above-next₀ deepest₀ at₀ whole marks above above-next deepest at = length input - at
 
 loop-holds : tie.Need-loop-holds Inv-loop μ-loop
 loop-holds c = walk-first _ _ _ (omega arith)
@@ -20,7 +20,7 @@ loop-holds c = walk-first _ _ _ (omega arith)
 -- a mark fits the number that it is read as
 cast-above-next : tie.Need-cast-above-next Inv-loop μ-loop
 cast-above-next c =
-    let small = mark-small _ _ _ _ _ _ (c .before .before .before .before .before .before .loop .inv) (c .if5 .left) in
+    let small = mark-small _ _ _ _ _ _ _ (c .before .before .before .before .before .before .before .loop .inv) (c .if5 .left) in
     omega (arith, small)
 
 pub walk-spec : {M : Type 1} → statement M
@@ -29,6 +29,7 @@ walk-spec =
     (tie.spec
     Inv-loop
     μ-loop
+    (λ c κs. search needs)
     loop-holds
     (λ c. search needs)
     -- a node too deep
@@ -39,12 +40,14 @@ walk-spec =
     -- a byte that is no tag
     (λ c. search walks)
     -- a label that is cut
-    (λ c. search needs) (λ c. search needs)
-    (λ c. search walks)
-    -- the leaf that ends the tree
     (λ c. search needs)
     (λ c. search walks)
-    -- any other leaf
+    -- a leaf that is whole, and its depth
+    (λ c. search needs) (λ c κs. search needs)
+    -- it ends the tree
+    (λ c. search needs) (λ c. search needs) (λ c. search needs)
+    (λ c. search walks)
+    -- or it does not
     (λ c. search needs) (λ c. search needs) (λ c. search needs)
     cast-above-next
     (λ c. search needs)

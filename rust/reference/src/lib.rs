@@ -37,6 +37,6 @@ pub use source::{source, SourceCase, Sourced};
 pub use sum::{exact_sum, EndSums, SUM_OUT_OF_RANGE};
 pub use translate::{listing, translate, translate_into, translate_program};
 pub use tree::{
-    read_tree, tree_bytes, tree_end, tree_refusal, Prefix, Refusal, Token, Tree, DEPTH_LIMIT,
-    INPUT_ENDED, LEAF_TAG, NODE_TAG, NOT_A_TAG, TOO_DEEP,
+    read_tree, tree_bytes, tree_end, tree_measures, tree_refusal, Measures, Prefix, Refusal, Token,
+    Tree, DEPTH_LIMIT, INPUT_ENDED, LEAF_TAG, NODE_TAG, NOT_A_TAG, TOO_DEEP,
 };

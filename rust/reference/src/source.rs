@@ -31,27 +31,34 @@ pub const OUTPUT_TOO_SHORT: u8 = 17;
 pub const CALLS_OPEN: u8 = 18;
 
 /// "The source run's gives expressions begun, bytes written and the number;
-/// refused, the last two are 0." No refusal where the run ended.
+/// refused, the last two are 0." No refusal where the run ended. N5: "The
+/// source run's answer passes both on", tips and depth of the tree evaluated.
 #[derive(Clone, Copy, Debug, PartialEq, Eq)]
 pub struct Sourced {
     pub refused: Option<Refusal>,
     pub begun: u64,
     pub written: usize,
     pub number: i32,
+    pub tips: usize,
+    pub depth: usize,
 }
 
 impl Sourced {
+    /// N5: "A refusal of the reader or the source run gives 0 for both."
     fn refused(refusal: Refusal, begun: u64) -> Sourced {
         Sourced {
             refused: Some(refusal),
             begun,
             written: 0,
             number: 0,
+            tips: 0,
+            depth: 0,
         }
     }
 }
 
-/// `ended` or `refused NUMBER POSITION`, then the counts and the number.
+/// `ended` or `refused NUMBER POSITION`, then the counts and the number, tips
+/// and depth.
 impl fmt::Display for Sourced {
     fn fmt(&self, f: &mut fmt::Formatter<'_>) -> fmt::Result {
         match self.refused {
@@ -59,7 +66,8 @@ impl fmt::Display for Sourced {
             Some(Refusal { number, position }) => write!(f, "refused {number} {position}")?,
         }
         let (begun, written, number) = (self.begun, self.written, self.number);
-        write!(f, " begun {begun} written {written} number {number}")
+        write!(f, " begun {begun} written {written} number {number}")?;
+        write!(f, " tips {} depth {}", self.tips, self.depth)
     }
 }
 

@@ -234,18 +234,32 @@ fn read_label(input: &[u8], place: usize) -> Result<(Tree, usize), Refusal> {
     }
 }
 
-/// The end of the first tree, or the refusal, without building the tree.
-/// `pending` holds, for every tree still to be read, the number of nodes
-/// above it; the next one stands last. Tags, numbers and limit are written
-/// out, so that nothing but the refusal is shared with `read_tree`.
-pub fn tree_end(input: &[u8]) -> Result<usize, Refusal> {
-    let mut place = 0;
+/// N5: "its tip count and greatest depth (nodes above the deepest leaf, 0 for
+/// a lone leaf)", "together with the tree's end", which is the number of its
+/// bytes.
+#[derive(Clone, Copy, Debug, PartialEq, Eq)]
+pub struct Measures {
+    pub bytes: usize,
+    pub tips: usize,
+    pub depth: usize,
+}
+
+/// End, tips and depth of the first tree, or the refusal, without building
+/// the tree. `pending` holds, for every tree still to be read, the number of
+/// nodes above it; the next one stands last. Tags, numbers and limit are
+/// written out, so that nothing but the refusal is shared with `read_tree`.
+pub fn tree_measures(input: &[u8]) -> Result<Measures, Refusal> {
+    let (mut place, mut tips, mut depth) = (0, 0, 0);
     let mut pending = vec![0];
     while let Some(above) = pending.pop() {
         match input.get(place) {
             None => return refuse(15, place),
             Some(1) if input.len() - place < 5 => return refuse(15, place + 1),
-            Some(1) => place += 5,
+            Some(1) => {
+                tips += 1;
+                depth = depth.max(above);
+                place += 5;
+            }
             Some(2) if above == 1024 => return refuse(20, place),
             Some(2) => {
                 pending.extend([above + 1, above + 1]);
@@ -254,7 +268,16 @@ pub fn tree_end(input: &[u8]) -> Result<usize, Refusal> {
             Some(_) => return refuse(16, place),
         }
     }
-    Ok(place)
+    Ok(Measures {
+        bytes: place,
+        tips,
+        depth,
+    })
+}
+
+/// The end of the first tree, or the refusal.
+pub fn tree_end(input: &[u8]) -> Result<usize, Refusal> {
+    tree_measures(input).map(|measures| measures.bytes)
 }
 
 /// "hands back the tree's own bytes as a part of the lent input, empty on a

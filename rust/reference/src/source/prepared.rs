@@ -1,7 +1,7 @@
 //! Source runs of a program file that is read once, for benchmarks: what is
 //! done once for all runs is not in the time of each.
 
-use crate::evaluate::{on_this_stack, with_stack, Evaluation, Value};
+use crate::evaluate::{on_this_stack, with_stack, Ended, Evaluation};
 use crate::machine::OPEN_LIMIT;
 use crate::program::Program;
 use crate::sum::SUM_OUT_OF_RANGE;
@@ -49,7 +49,7 @@ impl Prepared<'_> {
     /// after its arguments." 21 looks at no fuel.
     pub fn run_on(&self, tree: &Tree, fuel: u64, output: &mut [u8]) -> Sourced {
         match on_this_stack(self.program, tree, OPEN_LIMIT, fuel) {
-            Evaluation::Ended(ended) => written(&ended.value, ended.begun, output),
+            Evaluation::Ended(ended) => written(tree, &ended, output),
             Evaluation::TooManyOpen { begun } => refused_at_0(CALLS_OPEN, begun),
             Evaluation::TooLong => refused_at_0(FUEL_USED_UP, fuel),
             Evaluation::SumOutOfRange { record, begun, .. } => out_of_range(record, begun),
@@ -58,9 +58,10 @@ impl Prepared<'_> {
 }
 
 /// The result at the start of the output, or "17 output shorter than the
-/// result, after evaluation".
-fn written(value: &Value, begun: u64, output: &mut [u8]) -> Sourced {
-    let bytes = value.bytes();
+/// result, after evaluation". N5's tips and depth are of the tree that was
+/// read.
+fn written(tree: &Tree, ended: &Ended, output: &mut [u8]) -> Sourced {
+    let (begun, bytes) = (ended.begun, ended.value.bytes());
     match output.get_mut(..bytes.len()) {
         None => refused_at_0(OUTPUT_TOO_SHORT, begun),
         Some(start) => {
@@ -69,7 +70,9 @@ fn written(value: &Value, begun: u64, output: &mut [u8]) -> Sourced {
                 refused: None,
                 begun,
                 written: bytes.len(),
-                number: value.number(),
+                number: ended.value.number(),
+                tips: tree.tips(),
+                depth: tree.depth(),
             }
         }
     }

@@ -7,6 +7,7 @@ use crate::program::lay_out;
 
 mod evaluated;
 mod generated;
+mod measured;
 mod prepared;
 
 #[test]
@@ -66,8 +67,11 @@ fn answers_in_words() {
         begun: 14,
         written: 11,
         number: -1,
+        tips: 2,
+        depth: 1,
     };
-    assert_eq!(ended.to_string(), "ended begun 14 written 11 number -1");
+    let words = "ended begun 14 written 11 number -1 tips 2 depth 1";
+    assert_eq!(ended.to_string(), words);
     let refused = Sourced::refused(
         Refusal {
             number: 18,
@@ -75,6 +79,6 @@ fn answers_in_words() {
         },
         1_024,
     );
-    let words = "refused 18 0 begun 1024 written 0 number 0";
+    let words = "refused 18 0 begun 1024 written 0 number 0 tips 0 depth 0";
     assert_eq!(refused.to_string(), words);
 }

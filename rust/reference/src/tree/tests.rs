@@ -2,6 +2,8 @@ use super::*;
 use crate::generate;
 use crate::random::Random;
 
+mod measures;
+
 /// "Tree T: 02 01 05 00 00 00 01 07 00 00 00."
 const T: [u8; 11] = [2, 1, 5, 0, 0, 0, 1, 7, 0, 0, 0];
 
@@ -13,20 +15,32 @@ fn node(left: Tree, right: Tree) -> Tree {
     Tree::node(left, right)
 }
 
-/// Both readers read exactly this tree, with this end.
+/// Both readers read exactly this tree, with this end, and find its tips and
+/// depth.
 fn assert_read(input: &[u8], tree: &Tree, end: usize) {
     let (found, found_end) = read_tree(input).unwrap();
     assert_eq!(found, *tree);
     assert_eq!(found_end, end);
+    assert_eq!(tree_measures(input), Ok(measures_of(tree, end)));
     assert_eq!(tree_end(input), Ok(end));
     assert_eq!(tree_bytes(input), tree.tokens());
     assert_eq!(tree_refusal(input), None);
+}
+
+/// The tree's tips and depth, found on the tree, with this end.
+fn measures_of(tree: &Tree, end: usize) -> Measures {
+    Measures {
+        bytes: end,
+        tips: tree.tips(),
+        depth: tree.depth(),
+    }
 }
 
 /// Both readers refuse with this number and position.
 fn assert_refused(input: &[u8], number: u8, position: usize) {
     let refusal = Refusal { number, position };
     assert_eq!(read_tree(input).unwrap_err(), refusal);
+    assert_eq!(tree_measures(input), Err(refusal));
     assert_eq!(tree_end(input), Err(refusal));
     assert_eq!(tree_bytes(input), []);
     assert_eq!(tree_refusal(input), Some(refusal));
@@ -182,12 +196,19 @@ fn the_end_of_a_hundred_million_bytes() {
     let end = 6 * (1 << 24) - 1;
     assert_eq!(input.len(), end);
     input.push(3);
+    let measures = Measures {
+        bytes: end,
+        tips: 1 << 24,
+        depth: 24,
+    };
+    assert_eq!(tree_measures(&input), Ok(measures));
     assert_eq!(tree_end(&input), Ok(end));
     let position = end - 4;
     let refusal = Refusal {
         number: 15,
         position,
     };
+    assert_eq!(tree_measures(&input[..end - 1]), Err(refusal));
     assert_eq!(tree_end(&input[..end - 1]), Err(refusal));
 }
 
@@ -353,6 +374,7 @@ fn the_first_fault_from_the_left_is_told() {
 fn assert_agree(input: &[u8]) -> u8 {
     match read_tree(input) {
         Ok((tree, end)) => {
+            assert_eq!(tree_measures(input), Ok(measures_of(&tree, end)));
             assert_eq!(tree_end(input), Ok(end));
             assert_eq!(tree.tokens(), input[..end]);
             assert_eq!(end, 6 * tree.tips() - 1);
@@ -360,6 +382,7 @@ fn assert_agree(input: &[u8]) -> u8 {
             0
         }
         Err(refusal) => {
+            assert_eq!(tree_measures(input), Err(refusal));
             assert_eq!(tree_end(input), Err(refusal));
             assert_refused(&input[..refusal.position], 15, refusal.position);
             refusal.number

@@ -107,8 +107,8 @@ fn one_more_gives_21(case: &SourceCase) -> bool {
 }
 
 /// Every number that a source run can answer, and runs that end; 14 also where
-/// one more expression leads to 21. A run that is
-/// refused leaves the output untouched; one that is refused before its first
+/// one more expression leads to 21. A run that is refused leaves the output
+/// untouched and gives 0 tips and depth; one that is refused before its first
 /// expression answers 0 in every count.
 #[test]
 fn runs_answer_every_number() {
@@ -124,6 +124,7 @@ fn runs_answer_every_number() {
         assert!(output[sourced.written..].iter().all(|&byte| byte == FILLER));
         if number.is_some() {
             assert_eq!((sourced.written, sourced.number), (0, 0), "{case:?}");
+            assert_eq!((sourced.tips, sourced.depth), (0, 0), "{case:?}");
         }
         if !matches!(number, None | Some(14 | 17 | 18 | 21)) {
             assert_eq!(sourced.begun, 0, "{case:?}");

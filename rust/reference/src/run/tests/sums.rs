@@ -35,6 +35,8 @@ fn both_refuse(subject: &Subject, record: usize, begun: u64) {
         begun,
         written: 0,
         number: 0,
+        tips: 0,
+        depth: 0,
     };
     assert_eq!(
         case.perform(),

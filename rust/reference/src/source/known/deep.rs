@@ -42,9 +42,10 @@ fn right(depth: usize) -> Tree {
 fn trees() -> Vec<Known> {
     let unread = program("number: Const 3");
     let run = |name, tree, answer| run(name, &unread, &tree, 1, answer);
+    let deepest = ended(1, 3, (1_025, 1_024));
     vec![
-        run("depth 1,024 to the left", left(1_024), ended(1, 3)),
-        run("depth 1,024 to the right", right(1_024), ended(1, 3)),
+        run("depth 1,024 to the left", left(1_024), deepest),
+        run("depth 1,024 to the right", right(1_024), deepest),
         run("1,025 to the left", left(1_025), refused(20, 1_024, 0)),
         run("1,025 to the right", right(1_025), refused(20, 6_144, 0)),
         run("2,000 to the left", left(2_000), refused(20, 1_024, 0)),
@@ -72,23 +73,26 @@ fn cases(name: impl Fn(usize) -> usize) -> Program {
 fn names() -> Vec<Known> {
     let to_left = cases(|above| (2 * above).saturating_sub(1));
     let to_right = cases(|above| (2 * above).min(254));
-    let run = |name, program, tree: Tree, begun, number| {
-        run(name, program, &tree, begun, ended(begun, number))
+    let run = |name, program, tree: Tree, answer: Sourced| {
+        run(name, program, &tree, answer.begun, answer)
     };
+    let run_left = |name, tree, answer| run(name, &to_left, tree, answer);
+    let run_right = |name, tree, answer| run(name, &to_right, tree, answer);
+    let most = (1_025, 1_024);
     vec![
-        run("left, tree 0", &to_left, left(0), 2, 7),
-        run("left, tree 1", &to_left, left(1), 3, 7),
-        run("left, tree 253", &to_left, left(127), 129, 7),
-        run("left, tree 255", &to_left, left(128), 130, 7),
-        run("left, 255 a node", &to_left, left(129), 512, -1),
-        run("left, 1,024 levels", &to_left, left(1_024), 512, -1),
-        run("left, a leaf", &to_left, right(1), 3, 1),
-        run("right, tree 0", &to_right, right(0), 2, 7),
-        run("right, tree 2", &to_right, right(1), 3, 7),
-        run("right, tree 254", &to_right, right(127), 129, 7),
-        run("right, 254 a node", &to_right, right(128), 512, -1),
-        run("right, 1,024 levels", &to_right, right(1_024), 512, -1),
-        run("right, a leaf", &to_right, left(1), 3, 1),
+        run_left("left, tree 0", left(0), ended(2, 7, (1, 0))),
+        run_left("left, tree 1", left(1), ended(3, 7, (2, 1))),
+        run_left("left, tree 253", left(127), ended(129, 7, (128, 127))),
+        run_left("left, tree 255", left(128), ended(130, 7, (129, 128))),
+        run_left("left, 255 a node", left(129), ended(512, -1, (130, 129))),
+        run_left("left, 1,024 levels", left(1_024), ended(512, -1, most)),
+        run_left("left, a leaf", right(1), ended(3, 1, (2, 1))),
+        run_right("right, tree 0", right(0), ended(2, 7, (1, 0))),
+        run_right("right, tree 2", right(1), ended(3, 7, (2, 1))),
+        run_right("right, tree 254", right(127), ended(129, 7, (128, 127))),
+        run_right("right, 254 a node", right(128), ended(512, -1, (129, 128))),
+        run_right("right, 1,024 levels", right(1_024), ended(512, -1, most)),
+        run_right("right, a leaf", left(1), ended(3, 1, (2, 1))),
     ]
 }
 

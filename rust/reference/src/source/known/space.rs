@@ -54,7 +54,8 @@ pub fn runs() -> Vec<Known> {
     };
     let enough = ENOUGH.map(|space| {
         let name = format!("no 13, {space:?}");
-        with_answer(&name, grow_on(&T, 14, space), ended(14, 0), &GROWN)
+        let answer = ended(14, 0, (2, 1));
+        with_answer(&name, grow_on(&T, 14, space), answer, &GROWN)
     });
     given.into_iter().flat_map(short).chain(enough).collect()
 }

@@ -1,11 +1,11 @@
 //! Document 01's worked cases, and refusals at other positions.
 
 pub const CASES: &str = "
-Grow on T                 | tree: Case 0, Leaf, Add, Var 0, Const 1, Node, Call 0 on 1, Call 0 on 2 | input 02 01 05 00 00 00 01 07 00 00 00, room 11, fuel 14 | ended, begun 14, wrote 02 01 06 00 00 00 01 08 00 00 00
+Grow on T                 | tree: Case 0, Leaf, Add, Var 0, Const 1, Node, Call 0 on 1, Call 0 on 2 | input 02 01 05 00 00 00 01 07 00 00 00, room 11, fuel 14 | ended, begun 14, tips 2, depth 1, wrote 02 01 06 00 00 00 01 08 00 00 00
 Grow on T, fuel 13        | tree: Case 0, Leaf, Add, Var 0, Const 1, Node, Call 0 on 1, Call 0 on 2 | input 02 01 05 00 00 00 01 07 00 00 00, room 11, fuel 13 | refused 14 at 0, begun 13
 Grow on T, fuel 1         | tree: Case 0, Leaf, Add, Var 0, Const 1, Node, Call 0 on 1, Call 0 on 2 | input 02 01 05 00 00 00 01 07 00 00 00, room 11, fuel 1  | refused 14 at 0, begun 1
 Grow on T, fuel 0         | tree: Case 0, Leaf, Add, Var 0, Const 1, Node, Call 0 on 1, Call 0 on 2 | input 02 01 05 00 00 00 01 07 00 00 00, room 11, fuel 0  | refused 14 at 0
-Grow on T, much fuel      | tree: Case 0, Leaf, Add, Var 0, Const 1, Node, Call 0 on 1, Call 0 on 2 | input 02 01 05 00 00 00 01 07 00 00 00, room 12          | ended, begun 14, wrote 02 01 06 00 00 00 01 08 00 00 00
+Grow on T, much fuel      | tree: Case 0, Leaf, Add, Var 0, Const 1, Node, Call 0 on 1, Call 0 on 2 | input 02 01 05 00 00 00 01 07 00 00 00, room 12          | ended, begun 14, tips 2, depth 1, wrote 02 01 06 00 00 00 01 08 00 00 00
 Grow on T, output of 10   | tree: Case 0, Leaf, Add, Var 0, Const 1, Node, Call 0 on 1, Call 0 on 2 | input 02 01 05 00 00 00 01 07 00 00 00, room 10, fuel 14 | refused 17 at 0, begun 14
 Grow on T, no output      | tree: Case 0, Leaf, Add, Var 0, Const 1, Node, Call 0 on 1, Call 0 on 2 | input 02 01 05 00 00 00 01 07 00 00 00, fuel 14          | refused 17 at 0, begun 14
 Grow on no input          | tree: Case 0, Leaf, Add, Var 0, Const 1, Node, Call 0 on 1, Call 0 on 2 | room 11, fuel 1                                          | refused 15 at 0
@@ -26,27 +26,27 @@ Sum of a broken tree      | number: Case 0, Var 0, Add, Call 0 on 1, Call 0 on 2
 
 /// "The source run needs pass one only".
 pub const NOT_IN_ORDER: &str = "
-swapped, fuel 10       | tree: Case 0, Leaf, Var 0, Node, Call 0 on 2, Call 0 on 1                                                                         | input 02 01 05 00 00 00 01 07 00 00 00, room 11, fuel 10 | ended, begun 10, wrote 02 01 07 00 00 00 01 05 00 00 00
+swapped, fuel 10       | tree: Case 0, Leaf, Var 0, Node, Call 0 on 2, Call 0 on 1                                                                         | input 02 01 05 00 00 00 01 07 00 00 00, room 11, fuel 10 | ended, begun 10, tips 2, depth 1, wrote 02 01 07 00 00 00 01 05 00 00 00
 swapped, fuel 9        | tree: Case 0, Leaf, Var 0, Node, Call 0 on 2, Call 0 on 1                                                                         | input 02 01 05 00 00 00 01 07 00 00 00, room 11, fuel 9  | refused 14 at 0, begun 9
 swapped, output of 10  | tree: Case 0, Leaf, Var 0, Node, Call 0 on 2, Call 0 on 1                                                                         | input 02 01 05 00 00 00 01 07 00 00 00, room 10          | refused 17 at 0, begun 10
-the left leaf          | number: Case 0, Const 1, Call 0 on 1                                                                                              | input 02 01 05 00 00 00 01 07 00 00 00                   | ended with 1, begun 4
-the left leaf's label  | number: Case 0, Var 0, Call 0 on 1                                                                                                | input 02 01 05 00 00 00 01 07 00 00 00                   | ended with 5, begun 4
-the right leaf's label | number: Case 0, Var 0, Call 0 on 2                                                                                                | input 02 01 05 00 00 00 01 07 00 00 00                   | ended with 7, begun 4
-the right part first   | number: Case 0, Var 0, Add, Call 0 on 2, Call 0 on 1                                                                              | input 02 01 05 00 00 00 01 07 00 00 00                   | ended with 12, begun 8
-nothing read           | tree: Leaf, Const 9                                                                                                               | input 02 01 05 00 00 00 01 07 00 00 00, room 5           | ended, begun 2, wrote 01 09 00 00 00
-each tree twice        | tree: Case 0, Leaf, Var 0, Node, Node, Call 0 on 1, Call 0 on 1, Node, Call 0 on 2, Call 0 on 2                                   | input 02 01 05 00 00 00 01 07 00 00 00, room 23          | ended, begun 20, wrote 02 02 01 05 00 00 00 01 05 00 00 00 02 01 07 00 00 00 01 07 00 00 00
-a Case on it again     | number: Case 0, Var 0, Case 0, Const 1, Case 4, Add, Var 0, Case 1, Var 1, Const 2, Const 3                                       | input 02 01 05 00 00 00 01 07 00 00 00                   | ended with 12, begun 7
-a Case on a leaf again | number: Case 0, Case 0, Add, Var 0, Case 0, Add, Var 1, Var 2, Const 1, Const 2, Const 3                                          | input 01 07 00 00 00                                     | ended with 21, begun 8
-arguments by one tree  | number: Case 0, Var 0, Call 1 on 1, Call 0 on 2, Call 0 on 1 / number 2: Case 0, Add, Var 0, Add, Var 0, Add, Var 1, Var 2, Var 1 | input 02 01 05 00 00 00 01 07 00 00 00                   | ended with 24, begun 16
-a tree for each branch | number: Case 0, Var 0, IfZero, Call 0 on 2, Call 0 on 1, Const 4                                                                  | input 02 01 05 00 00 00 01 00 00 00 00                   | ended with 5, begun 8
-and the other branch   | number: Case 0, Var 0, IfZero, Call 0 on 2, Call 0 on 1, Const 4                                                                  | input 02 01 05 00 00 00 01 07 00 00 00                   | ended with 4, begun 6
-a function not reached | number: Const 3 / tree 4: Node, Call 1 on 0, Var 3, Var 2, Var 1, Var 0, Leaf, Var 0                                              | input 01 07 00 00 00                                     | ended with 3, begun 1
+the left leaf          | number: Case 0, Const 1, Call 0 on 1                                                                                              | input 02 01 05 00 00 00 01 07 00 00 00                   | ended with 1, begun 4, tips 2, depth 1
+the left leaf's label  | number: Case 0, Var 0, Call 0 on 1                                                                                                | input 02 01 05 00 00 00 01 07 00 00 00                   | ended with 5, begun 4, tips 2, depth 1
+the right leaf's label | number: Case 0, Var 0, Call 0 on 2                                                                                                | input 02 01 05 00 00 00 01 07 00 00 00                   | ended with 7, begun 4, tips 2, depth 1
+the right part first   | number: Case 0, Var 0, Add, Call 0 on 2, Call 0 on 1                                                                              | input 02 01 05 00 00 00 01 07 00 00 00                   | ended with 12, begun 8, tips 2, depth 1
+nothing read           | tree: Leaf, Const 9                                                                                                               | input 02 01 05 00 00 00 01 07 00 00 00, room 5           | ended, begun 2, tips 2, depth 1, wrote 01 09 00 00 00
+each tree twice        | tree: Case 0, Leaf, Var 0, Node, Node, Call 0 on 1, Call 0 on 1, Node, Call 0 on 2, Call 0 on 2                                   | input 02 01 05 00 00 00 01 07 00 00 00, room 23          | ended, begun 20, tips 2, depth 1, wrote 02 02 01 05 00 00 00 01 05 00 00 00 02 01 07 00 00 00 01 07 00 00 00
+a Case on it again     | number: Case 0, Var 0, Case 0, Const 1, Case 4, Add, Var 0, Case 1, Var 1, Const 2, Const 3                                       | input 02 01 05 00 00 00 01 07 00 00 00                   | ended with 12, begun 7, tips 2, depth 1
+a Case on a leaf again | number: Case 0, Case 0, Add, Var 0, Case 0, Add, Var 1, Var 2, Const 1, Const 2, Const 3                                          | input 01 07 00 00 00                                     | ended with 21, begun 8, tips 1, depth 0
+arguments by one tree  | number: Case 0, Var 0, Call 1 on 1, Call 0 on 2, Call 0 on 1 / number 2: Case 0, Add, Var 0, Add, Var 0, Add, Var 1, Var 2, Var 1 | input 02 01 05 00 00 00 01 07 00 00 00                   | ended with 24, begun 16, tips 2, depth 1
+a tree for each branch | number: Case 0, Var 0, IfZero, Call 0 on 2, Call 0 on 1, Const 4                                                                  | input 02 01 05 00 00 00 01 00 00 00 00                   | ended with 5, begun 8, tips 2, depth 1
+and the other branch   | number: Case 0, Var 0, IfZero, Call 0 on 2, Call 0 on 1, Const 4                                                                  | input 02 01 05 00 00 00 01 07 00 00 00                   | ended with 4, begun 6, tips 2, depth 1
+a function not reached | number: Const 3 / tree 4: Node, Call 1 on 0, Var 3, Var 2, Var 1, Var 0, Leaf, Var 0                                              | input 01 07 00 00 00                                     | ended with 3, begun 1, tips 1, depth 0
 ";
 
 /// "The source run applies the tree reader before it evaluates."
 pub const INPUTS: &str = "
-bytes after the tree    | tree: Case 0, Leaf, Add, Var 0, Const 1, Node, Call 0 on 1, Call 0 on 2 | input 01 00 00 00 00 03 03, room 9     | ended, begun 5, wrote 01 01 00 00 00
-a label made of tags    | tree: Case 0, Leaf, Add, Var 0, Const 1, Node, Call 0 on 1, Call 0 on 2 | input 01 02 02 02 02, room 5           | ended, begun 5, wrote 01 03 02 02 02
+bytes after the tree    | tree: Case 0, Leaf, Add, Var 0, Const 1, Node, Call 0 on 1, Call 0 on 2 | input 01 00 00 00 00 03 03, room 9     | ended, begun 5, tips 1, depth 0, wrote 01 01 00 00 00
+a label made of tags    | tree: Case 0, Leaf, Add, Var 0, Const 1, Node, Call 0 on 1, Call 0 on 2 | input 01 02 02 02 02, room 5           | ended, begun 5, tips 1, depth 0, wrote 01 03 02 02 02
 a node alone            | tree: Case 0, Leaf, Add, Var 0, Const 1, Node, Call 0 on 1, Call 0 on 2 | input 02, room 11                      | refused 15 at 1
 the right tree missing  | tree: Case 0, Leaf, Add, Var 0, Const 1, Node, Call 0 on 1, Call 0 on 2 | input 02 01 00 00 00 00, room 11       | refused 15 at 6
 no tag at the right     | tree: Case 0, Leaf, Add, Var 0, Const 1, Node, Call 0 on 1, Call 0 on 2 | input 02 01 00 00 00 00 00, room 11    | refused 16 at 6

@@ -8,7 +8,7 @@ use crate::evaluate::{evaluate, Ended, Evaluation};
 use crate::generate::sources::{any_program_and_tree, MODERATE};
 use crate::program::{kind, Program, Record};
 use crate::random::Random;
-use crate::tree::Tree;
+use crate::tree::{tree_measures, Tree};
 
 /// A program that passes pass one, and a tree.
 struct Subject {
@@ -67,11 +67,14 @@ impl Subject {
 /// Fuel and output enough, then less of each.
 fn ends(random: &mut Random, subject: &Subject, ended: &Ended) {
     let (begun, result) = (ended.begun, ended.value.bytes());
+    let measures = tree_measures(&subject.tokens).expect("a tree");
     let answer = Sourced {
         refused: None,
         begun,
         written: result.len(),
         number: ended.value.number(),
+        tips: measures.tips,
+        depth: measures.depth,
     };
     for fuel in [begun, begun + 1, u64::MAX] {
         let room = result.len() + random.below(7);

@@ -5,7 +5,7 @@ use super::*;
 use crate::generate::any_source;
 use crate::generate::sources::MODERATE;
 use crate::random::Random;
-use crate::tree::tree_refusal;
+use crate::tree::tree_measures;
 
 /// What the run answers and what it writes, by other means from the tree
 /// reader on.
@@ -16,9 +16,7 @@ fn expected(case: &SourceCase) -> Result<(Sourced, Vec<u8>), Refusal> {
     if case.values < 16_384 || case.returns < 2_048 {
         return refuse(13, 0);
     }
-    if let Some(refusal) = tree_refusal(&case.input) {
-        return Err(refusal);
-    }
+    let measures = tree_measures(&case.input)?;
     let fuel = case.fuel.min(MODERATE + 1);
     let outcome = Records::new(&records).evaluate(&case.input, fuel, 1_024);
     assert!(outcome.begun <= MODERATE, "{case:?}");
@@ -35,6 +33,8 @@ fn expected(case: &SourceCase) -> Result<(Sourced, Vec<u8>), Refusal> {
                 begun: outcome.begun,
                 written: outcome.written.len(),
                 number: outcome.number,
+                tips: measures.tips,
+                depth: measures.depth,
             };
             (sourced, outcome.written)
         }

@@ -93,9 +93,11 @@ static void print_answer(uint32_t number, const uint64_t *answer) {
     } else {
         printf("refused %" PRIu32 " %" PRIu64, number, answer[HOGVAX_POSITION]);
     }
-    printf(" begun %" PRIu64 " written %" PRIu64 " number %" PRId64 "\n",
+    printf(" begun %" PRIu64 " written %" PRIu64 " number %" PRId64,
            answer[HOGVAX_SOURCE_BEGUN], answer[HOGVAX_SOURCE_WRITTEN],
            (int64_t)answer[HOGVAX_SOURCE_NUMBER]);
+    printf(" tips %" PRIu64 " depth %" PRIu64 "\n",
+           answer[HOGVAX_SOURCE_TIPS], answer[HOGVAX_SOURCE_DEPTH]);
 }
 
 static void print_bytes(const uint8_t *bytes, uint64_t length) {

@@ -5,10 +5,11 @@
  *     ./view samples/trees/forest.tokens
  *
  * The library is the tree reader alone: no routine in it is recursive, and none is
- * here. For each tree the example prints the offset at which it begins, and its
- * bytes; where no tree begins, the refusal's number, and the offset of the tag or
- * label refused. The exit status is 0, or 1 if the file does not end with a tree,
- * or 2 if it can't be read or there is no memory. An empty file has no trees. */
+ * here. For each tree the example prints the offset at which it begins, its bytes,
+ * its tips and its depth: all that a viewer needs to make room for a picture. Where
+ * no tree begins, it prints the refusal's number, and the offset of the tag or label
+ * refused. The exit status is 0, or 1 if the file does not end with a tree, or 2 if
+ * it can't be read or there is no memory. An empty file has no trees. */
 #include <inttypes.h>
 #include <stdio.h>
 #include <stdlib.h>
@@ -54,14 +55,15 @@ static struct bytes read_file(const char *name) {
     return file;
 }
 
-/* Prints where the tree is that begins at an offset, and gives the offset of its
- * end; its own offset if there is none. */
+/* Prints the measures of the tree that begins at an offset, and gives the offset of
+ * its end; its own offset if there is none. */
 static size_t view(struct bytes file, size_t offset) {
-    uint64_t answer[HOGVAX_ANSWER_SLOTS] = {0};
+    uint64_t answer[HOGVAX_TREE_SLOTS] = {0};
     uint32_t number = hogvax_tree(file.start + offset, file.length - offset,
-                                  answer, HOGVAX_ANSWER_SLOTS);
+                                  answer, HOGVAX_TREE_SLOTS);
     if (number == 0) {
-        printf("offset %zu bytes %" PRIu64 "\n", offset, answer[HOGVAX_BYTES]);
+        printf("offset %zu bytes %" PRIu64 " tips %" PRIu64 " depth %" PRIu64 "\n",
+               offset, answer[HOGVAX_BYTES], answer[HOGVAX_TIPS], answer[HOGVAX_DEPTH]);
     } else {
         printf("refused %" PRIu32 " %" PRIu64 "\n", number, offset + answer[HOGVAX_POSITION]);
     }

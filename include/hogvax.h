@@ -43,15 +43,19 @@
  * What each call answers, hogvax_tree_bytes aside:
  *
  * - It returns 0, or the number of the refusal, one of enum hogvax_refusal.
- * - The rest of the answer goes to the first slots of `answer`: as many as
- *   HOGVAX_ANSWER_SLOTS, HOGVAX_RUN_SLOTS or HOGVAX_SOURCE_SLOTS says, which
- *   the comment on the call names. Slots after them are untouched.
+ * - The rest of the answer goes to the first slots of `answer`: HOGVAX_TREE_SLOTS
+ *   of them for hogvax_tree, HOGVAX_RUN_SLOTS for a stream run,
+ *   HOGVAX_SOURCE_SLOTS for a source run, and two for every other call,
+ *   HOGVAX_POSITION and HOGVAX_BYTES. Slots after them are untouched.
  * - With fewer slots the call returns HOGVAX_SPACE_TOO_SHORT, whatever else is
- *   wrong, and touches no buffer.
+ *   wrong, and touches no buffer. HOGVAX_ANSWER_SLOTS are enough for every call
+ *   that is no run.
  * - Later versions may append slots, and these constants then grow; no slot
  *   gets another meaning. So use the constants, and compile again for another
  *   version of the library: one that needs more slots than it is lent returns
- *   HOGVAX_SPACE_TOO_SHORT, as above.
+ *   HOGVAX_SPACE_TOO_SHORT, as above. A program that was compiled when
+ *   HOGVAX_ANSWER_SLOTS was 2 and HOGVAX_SOURCE_SLOTS was 4 need only be compiled
+ *   again: tips and depth stand in slots that were not there before.
  *
  * Numbers of several bytes have their low byte first in every buffer of bytes.
  */
@@ -92,11 +96,15 @@ extern "C" {
 #define HOGVAX_VALUE_WORDS 16384
 #define HOGVAX_RETURN_WORDS 2048
 
-/* The slots of an answer: of a stream run (hogvax_perform, hogvax_run), of a
- * source run (hogvax_source), and of every other call. */
+/* The slots of an answer: of hogvax_tree, of a stream run (hogvax_perform,
+ * hogvax_run), and of a source run (hogvax_source). */
+#define HOGVAX_TREE_SLOTS 4
 #define HOGVAX_RUN_SLOTS 5
-#define HOGVAX_SOURCE_SLOTS 4
-#define HOGVAX_ANSWER_SLOTS 2
+#define HOGVAX_SOURCE_SLOTS 6
+
+/* As many slots as any call needs that is no run; all but hogvax_tree fill the
+ * first two. */
+#define HOGVAX_ANSWER_SLOTS 4
 
 /* ---- Slots of an answer */
 
@@ -107,6 +115,12 @@ extern "C" {
 /* Of a call that is no run: the length in bytes of the tree, or of what was
  * written; 0 on a refusal, and for a check. */
 #define HOGVAX_BYTES 1
+
+/* Of hogvax_tree: the tree's tips, which are its leaves, and its depth, the nodes
+ * above its deepest leaf: 0 for a lone leaf, at most 1,024. HOGVAX_BYTES is 6
+ * times the tips, less 1. All three are 0 on a refusal. */
+#define HOGVAX_TIPS 2
+#define HOGVAX_DEPTH 3
 
 /* Of a stream run: the instructions performed, the bytes read from the start of
  * the input on, and the bytes written from the start of the output on. */
@@ -124,6 +138,12 @@ extern "C" {
 #define HOGVAX_SOURCE_BEGUN 1
 #define HOGVAX_SOURCE_WRITTEN 2
 #define HOGVAX_SOURCE_NUMBER 3
+
+/* Of a source run: tips and depth of the tree that was evaluated, as hogvax_tree
+ * gives them; not of a tree that the program gives. 0 on every refusal, also where
+ * a tree begins the input. */
+#define HOGVAX_SOURCE_TIPS 4
+#define HOGVAX_SOURCE_DEPTH 5
 
 /* ---- Refusals */
 
@@ -168,12 +188,15 @@ enum hogvax_refusal {
  * In both libraries. */
 size_t hogvax_tree_bytes(const uint8_t *input, size_t input_len);
 
-/* Finds the end of the tree that begins `input`; HOGVAX_BYTES is its length.
+/* Finds the end of the tree that begins `input`: HOGVAX_BYTES is its length, and
+ * HOGVAX_TIPS and HOGVAX_DEPTH are its tips and its depth, so that nobody need go
+ * through the tree again for these.
  *
  * Refused with 15 at the start of the tag or label that is not whole, or with 16
- * or 20 at the tag. Bytes after the tree do not matter.
+ * or 20 at the tag; bytes, tips and depth are then 0. Bytes after the tree do not
+ * matter.
  *
- * The answer has HOGVAX_ANSWER_SLOTS slots. In both libraries. */
+ * The answer has HOGVAX_TREE_SLOTS slots. In both libraries. */
 uint32_t hogvax_tree(const uint8_t *input, size_t input_len,
                      uint64_t *answer, size_t answer_len);
 
@@ -186,7 +209,7 @@ uint32_t hogvax_tree(const uint8_t *input, size_t input_len,
  * blocks; `file` is then untouched. HOGVAX_LONGEST_FILE bytes are always
  * enough.
  *
- * The answer has HOGVAX_ANSWER_SLOTS slots. */
+ * The answer has two slots; lend HOGVAX_ANSWER_SLOTS. */
 uint32_t hogvax_pack(const uint8_t *records, size_t records_len,
                      uint8_t *file, size_t file_len,
                      uint64_t *answer, size_t answer_len);
@@ -199,7 +222,7 @@ uint32_t hogvax_pack(const uint8_t *records, size_t records_len,
  * program's; `records` is then untouched. HOGVAX_LONGEST_RECORDS bytes are
  * always enough.
  *
- * The answer has HOGVAX_ANSWER_SLOTS slots. */
+ * The answer has two slots; lend HOGVAX_ANSWER_SLOTS. */
 uint32_t hogvax_unpack(const uint8_t *file, size_t file_len,
                        uint8_t *records, size_t records_len,
                        uint64_t *answer, size_t answer_len);
@@ -212,7 +235,7 @@ uint32_t hogvax_unpack(const uint8_t *file, size_t file_len,
  * Refused with 1 to 7; then, record by record, with 9, 8 or 10; then with 11 or
  * 12.
  *
- * The answer has HOGVAX_ANSWER_SLOTS slots. */
+ * The answer has two slots; lend HOGVAX_ANSWER_SLOTS. */
 uint32_t hogvax_check(const uint8_t *file, size_t file_len,
                       uint64_t *answer, size_t answer_len);
 
@@ -231,7 +254,7 @@ uint32_t hogvax_check_records(const uint8_t *records, size_t records_len,
  * program's code; `code` is then untouched. HOGVAX_LONGEST_CODE bytes are always
  * enough.
  *
- * The answer has HOGVAX_ANSWER_SLOTS slots. */
+ * The answer has two slots; lend HOGVAX_ANSWER_SLOTS. */
 uint32_t hogvax_translate(const uint8_t *file, size_t file_len,
                           uint8_t *code, size_t code_len,
                           uint64_t *answer, size_t answer_len);
@@ -316,6 +339,10 @@ uint32_t hogvax_run(const uint8_t *file, size_t file_len,
  * For 14, 17 and 18 HOGVAX_POSITION is 0. For 21, where the sum of the two numbers
  * lies outside -2147483648 to 2147483647, it is the record of the Add. For all
  * four HOGVAX_SOURCE_BEGUN counts the expressions begun.
+ *
+ * Where the evaluation ended, HOGVAX_SOURCE_TIPS and HOGVAX_SOURCE_DEPTH are those
+ * of the tree that begins `input`; on every refusal they are 0, also for these
+ * four.
  *
  * A tree goes to the start of `output`, as tokens; the rest of `output` is
  * untouched. All of it is untouched where the result is a number, and on every

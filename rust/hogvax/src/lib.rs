@@ -36,7 +36,7 @@ pub use program::{LONGEST_FILE, LONGEST_RECORDS};
 pub use run::{run, run_in, run_into};
 pub use source::{source, source_in, source_into, Sourced};
 pub use translate::{translate, translate_into};
-pub use tree::{first_tree, tree, tree_into};
+pub use tree::{first_tree, tree, tree_into, Measures};
 
 /// A refusal: its number in the table of refusals (`docs/REFERENCE.md`), and its position.
 /// What that counts depends on the number: the tree reader's is a byte of the

@@ -4,8 +4,11 @@ use std::fmt;
 
 use crate::{ffi, write_start, Refused, WorkSpace};
 
+/// How many slots of an answer a source run fills.
+const SLOTS: usize = 6;
+
 /// What a source run answers. As text it is one line: `ended` or the refusal,
-/// then the counts and the number.
+/// then the counts, the number, and the tree's tips and depth.
 #[derive(Clone, Copy, Debug, PartialEq, Eq)]
 #[must_use = "the run may have been refused"]
 pub struct Sourced {
@@ -17,18 +20,25 @@ pub struct Sourced {
     pub written: usize,
     /// The number that the program gave; 0 if it gave a tree or was refused.
     pub number: i32,
+    /// The leaves of the tree that was evaluated; 0 on a refusal.
+    pub tips: usize,
+    /// The nodes above the deepest leaf of the tree that was evaluated; 0 on a
+    /// refusal.
+    pub depth: usize,
 }
 
 impl Sourced {
-    /// What a call reported by a number, 0 or the refusal's, and in four slots.
-    fn told(number: u32, answer: [u64; 4]) -> Sourced {
-        let [position, begun, written, word] = answer;
+    /// What a call reported by a number, 0 or the refusal's, and in its slots.
+    fn told(number: u32, answer: [u64; SLOTS]) -> Sourced {
+        let [position, begun, written, word, tips, depth] = answer;
         Sourced {
             refused: Refused::told(number, position),
             begun,
             written: written as usize,
             // 32 bits, sign-extended to 64.
             number: word as i32,
+            tips: tips as usize,
+            depth: depth as usize,
         }
     }
 }
@@ -40,9 +50,12 @@ impl fmt::Display for Sourced {
             begun,
             written,
             number,
+            tips,
+            depth,
         } = self;
         write_start(*refused, f)?;
-        write!(f, " begun {begun} written {written} number {number}")
+        write!(f, " begun {begun} written {written} number {number}")?;
+        write!(f, " tips {tips} depth {depth}")
     }
 }
 
@@ -69,6 +82,10 @@ impl fmt::Display for Sourced {
 /// expressions begun are counted. The other refusals have their own position, and
 /// 0 in every count. 13 does not come, since the run has its own work space.
 ///
+/// Tips and depth are those of the tree that begins `input`, as
+/// [`tree`](crate::tree) gives them, where the run ended. On every refusal they are
+/// 0, also where a tree begins `input`.
+///
 /// A tree goes to the start of `output` as tokens, and the rest of `output` is
 /// left as it is. A number and a refusal leave all of it as it is.
 ///
@@ -93,16 +110,20 @@ impl fmt::Display for Sourced {
 /// let mut output = [9; 12];
 /// let sourced = hogvax::source(&file, &input, 10, &mut output);
 /// assert_eq!(sourced.refused, None);
-/// assert_eq!(sourced.to_string(), "ended begun 10 written 11 number 0");
+/// let line = "ended begun 10 written 11 number 0 tips 2 depth 1";
+/// assert_eq!(sourced.to_string(), line);
 /// assert_eq!(output, [2, 1, 7, 0, 0, 0, 1, 5, 0, 0, 0, 9]);
 ///
 /// let mut output = [9; 12];
 /// let sourced = hogvax::source(&file, &input, 9, &mut output);
-/// assert_eq!(sourced.to_string(), "refused 14 0 begun 9 written 0 number 0");
+/// let line = "refused 14 0 begun 9 written 0 number 0 tips 0 depth 0";
+/// assert_eq!(sourced.to_string(), line);
 /// let sourced = hogvax::source(&file, &input, 10, &mut output[..10]);
-/// assert_eq!(sourced.to_string(), "refused 17 0 begun 10 written 0 number 0");
+/// let line = "refused 17 0 begun 10 written 0 number 0 tips 0 depth 0";
+/// assert_eq!(sourced.to_string(), line);
 /// let sourced = hogvax::source(&file, &input[..8], 0, &mut output);
-/// assert_eq!(sourced.to_string(), "refused 15 7 begun 0 written 0 number 0");
+/// let line = "refused 15 7 begun 0 written 0 number 0 tips 0 depth 0";
+/// assert_eq!(sourced.to_string(), line);
 /// assert_eq!(output, [9; 12]);
 /// ```
 pub fn source(file: &[u8], input: &[u8], fuel: u64, output: &mut [u8]) -> Sourced {
@@ -130,13 +151,15 @@ pub fn source(file: &[u8], input: &[u8], fuel: u64, output: &mut [u8]) -> Source
 ///
 /// let mut work = hogvax::WorkSpace::new();
 /// let sourced = hogvax::source_in(&mut work, &file, &input[6..], 1_000, &mut []);
-/// assert_eq!(sourced.to_string(), "ended begun 2 written 0 number 1");
+/// let line = "ended begun 2 written 0 number 1 tips 1 depth 0";
+/// assert_eq!(sourced.to_string(), line);
 /// let ran = hogvax::run_in(&mut work, &file, &input[6..], 1_000, &mut []);
 /// assert_eq!(ran.number, sourced.number);
 /// // The sum of both is 2147483648, which is out of range: the refusal is at the
 /// // record of the Add, and in the stream run at the bytes read.
 /// let sourced = hogvax::source_in(&mut work, &file, &input, 1_000, &mut []);
-/// assert_eq!(sourced.to_string(), "refused 21 4 begun 8 written 0 number 0");
+/// let line = "refused 21 4 begun 8 written 0 number 0 tips 0 depth 0";
+/// assert_eq!(sourced.to_string(), line);
 /// let ran = hogvax::run_in(&mut work, &file, &input, 1_000, &mut []);
 /// assert_eq!(ran.to_string(), "refused 21 11 units 15 read 11 written 0 number 0");
 /// ```
@@ -150,15 +173,15 @@ pub fn source_in(
     let WorkSpace {
         values, returns, ..
     } = work;
-    let mut answer = [0; 4];
+    let mut answer = [0; SLOTS];
     let number = source_into(file, input, fuel, output, values, returns, &mut answer);
     Sourced::told(number, answer)
 }
 
 /// The call that [`source`] makes, as the static library exports it: 0, or the
 /// refusal's number; with the refusal's position (0 if there is none), the
-/// expressions begun, the bytes written and the number, sign-extended to 64
-/// bits, in `answer`.
+/// expressions begun, the bytes written, the number, sign-extended to 64 bits,
+/// and the tree's tips and depth in `answer`.
 ///
 /// After 1 to 10 and before all other refusals of [`source`] comes 13 at 0,
 /// with 0 in every count: there are fewer than 16,384 `values` or fewer than
@@ -166,32 +189,38 @@ pub fn source_in(
 /// or 20, the call leaves these two as they are; after a run they are
 /// unspecified.
 ///
-/// Slots of `answer` from 4 on are left as they are. With fewer than 4 slots
+/// Slots of `answer` from 6 on are left as they are. With fewer than 6 slots
 /// the number is 13, and all lent slices are left as they are.
 ///
 /// ```
-/// // One function, which gives a number, and its only node, Call 0 on 0.
+/// // One function, which gives a number: Case 0, Const -3, Call 0 on 0.
 /// let records = [
-///     1, 1, 1, 0, 0, 0, 0, 0, //
-///     0, 0, 1, 0, 0, 0, 0, 0, //
-///     8, 0, 0, 0, 0, 0, 0, 0,
-/// ];
+///     [1, 1, 3, 0, 0, 0, 0, 0],
+///     [0, 0, 3, 0, 0, 0, 0, 0],
+///     [7, 0, 0, 0, 0, 0, 0, 0],
+///     [0, 0, 0, 0, 253, 255, 255, 255],
+///     [8, 0, 0, 0, 0, 0, 0, 0],
+/// ]
+/// .concat();
 /// let file = hogvax::pack(&records).unwrap();
-/// let leaf = [1, 5, 0, 0, 0];
+/// // Leaves 5 and 7 under a node.
+/// let node = [2, 1, 5, 0, 0, 0, 1, 7, 0, 0, 0];
 /// let (mut values, mut returns) = ([0; 16_384], [0; 2_048]);
-/// let mut answer = [9; 5];
+/// let mut answer = [9; 7];
 /// let mut source = |input: &[u8], values: &mut [u32], answer: &mut [u64]| {
 ///     hogvax::source_into(&file, input, 9_999, &mut [], values, &mut returns, answer)
 /// };
 ///
 /// assert_eq!(source(&[], &mut values[1..], &mut answer), 13);
-/// assert_eq!(answer, [0, 0, 0, 0, 9]);
+/// assert_eq!(answer, [0, 0, 0, 0, 0, 0, 9]);
 /// assert_eq!(source(&[2, 3], &mut values, &mut answer), 16);
-/// assert_eq!(answer, [1, 0, 0, 0, 9]);
-/// assert_eq!(source(&leaf, &mut values, &mut answer[..3]), 13);
-/// assert_eq!(answer, [1, 0, 0, 0, 9]);
-/// assert_eq!(source(&leaf, &mut values, &mut answer), 18);
-/// assert_eq!(answer, [0, 1_024, 0, 0, 9]);
+/// assert_eq!(answer, [1, 0, 0, 0, 0, 0, 9]);
+/// assert_eq!(source(&node, &mut values, &mut answer[..5]), 13);
+/// assert_eq!(answer, [1, 0, 0, 0, 0, 0, 9]);
+/// assert_eq!(source(&node, &mut values, &mut answer), 18);
+/// assert_eq!(answer, [0, 2_048, 0, 0, 0, 0, 9]);
+/// assert_eq!(source(&node[6..], &mut values, &mut answer), 0);
+/// assert_eq!(answer, [0, 2, 0, u64::MAX - 2, 1, 0, 9]);
 /// ```
 #[doc(hidden)]
 pub fn source_into(
@@ -212,7 +241,7 @@ mod tests {
 
     #[test]
     fn a_run_that_ended_is_told() {
-        let sourced = Sourced::told(0, [0, 14, 11, 12]);
+        let sourced = Sourced::told(0, [0, 14, 11, 12, 7, 3]);
         assert_eq!(
             sourced,
             Sourced {
@@ -220,18 +249,20 @@ mod tests {
                 begun: 14,
                 written: 11,
                 number: 12,
+                tips: 7,
+                depth: 3,
             }
         );
-        let line = "ended begun 14 written 11 number 12";
+        let line = "ended begun 14 written 11 number 12 tips 7 depth 3";
         assert_eq!(sourced.to_string(), line);
     }
 
     #[test]
     fn a_refusal_is_reported_with_its_position() {
-        let sourced = Sourced::told(9, [5, 0, 0, 0]);
+        let sourced = Sourced::told(9, [5, 0, 0, 0, 0, 0]);
         let (number, position) = (9, 5);
         assert_eq!(sourced.refused, Some(Refused { number, position }));
-        let line = "refused 9 5 begun 0 written 0 number 0";
+        let line = "refused 9 5 begun 0 written 0 number 0 tips 0 depth 0";
         assert_eq!(sourced.to_string(), line);
     }
 
@@ -244,15 +275,16 @@ mod tests {
             (0xffff_ffff_8000_0000, "-2147483648"),
             (u64::MAX, "-1"),
         ] {
-            let line = Sourced::told(0, [0, 1, 0, word]).to_string();
-            assert_eq!(line, format!("ended begun 1 written 0 number {number}"));
+            let line = Sourced::told(0, [0, 1, 0, word, 2, 1]).to_string();
+            let told = format!("ended begun 1 written 0 number {number} tips 2 depth 1");
+            assert_eq!(line, told);
         }
     }
 
     #[test]
     fn expressions_begun_take_64_bits() {
-        let line = Sourced::told(14, [0, u64::MAX, 0, 0]).to_string();
-        let told = "refused 14 0 begun 18446744073709551615 written 0 number 0";
+        let line = Sourced::told(14, [0, u64::MAX, 0, 0, 0, 0]).to_string();
+        let told = "refused 14 0 begun 18446744073709551615 written 0 number 0 tips 0 depth 0";
         assert_eq!(line, told);
     }
 }

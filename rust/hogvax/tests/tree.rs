@@ -6,6 +6,8 @@ mod deep;
 mod every_input;
 #[path = "tree/long.rs"]
 mod long;
+#[path = "tree/measures.rs"]
+mod measures;
 #[path = "tree/paths.rs"]
 mod paths;
 #[path = "tree/random_deep.rs"]
@@ -15,14 +17,21 @@ mod random_inputs;
 
 use std::thread;
 
-use hogvax::{first_tree, tree, tree_into, Refused};
+use hogvax::{first_tree, tree, tree_into, Measures, Refused};
 use reference::generate;
 use reference::{Random, DEPTH_LIMIT, INPUT_ENDED, LEAF_TAG, NODE_TAG, NOT_A_TAG, TOO_DEEP};
 
 /// Document 01: "Tree T: 02 01 05 00 00 00 01 07 00 00 00."
 const T: [u8; 11] = [2, 1, 5, 0, 0, 0, 1, 7, 0, 0, 0];
 
-type Answer = Result<usize, Refused>;
+type Answer = Result<Measures, Refused>;
+
+/// A tree of so many tips is read. N5: "An accepted tree's bytes must equal 6
+/// times the tips less 1."
+fn read(tips: usize, depth: usize) -> Answer {
+    let bytes = 6 * tips - 1;
+    Ok(Measures { bytes, tips, depth })
+}
 
 fn refused(number: u8, position: usize) -> Answer {
     Err(Refused {
@@ -32,18 +41,39 @@ fn refused(number: u8, position: usize) -> Answer {
 }
 
 fn reference_answer(input: &[u8]) -> Answer {
-    reference::tree_end(input).or_else(|refusal| refused(refusal.number, refusal.position))
+    let measures = reference::tree_measures(input).map(|measures| Measures {
+        bytes: measures.bytes,
+        tips: measures.tips,
+        depth: measures.depth,
+    });
+    measures.or_else(|refusal| refused(refusal.number, refusal.position))
 }
 
-/// Both calls give this answer.
+/// An answer as numbers: 0 or the refusal's, and the slots, with one after them. N5:
+/// "A refusal of the reader .. gives 0 for both."
+fn as_numbers(answer: Answer) -> (u32, [u64; 5]) {
+    match answer {
+        Ok(Measures { bytes, tips, depth }) => {
+            let [bytes, tips, depth] = [bytes, tips, depth].map(|count| count as u64);
+            (0, [0, bytes, tips, depth, 77])
+        }
+        Err(Refused { number, position }) => (number, [position, 0, 0, 0, 77]),
+    }
+}
+
+/// All calls give this answer.
 fn assert_answer(input: &[u8], answer: Answer) {
     assert_eq!(tree(input), answer, "{}", shown(input));
+    let mut slots = [77; 5];
+    let number = tree_into(input, &mut slots);
+    assert_eq!((number, slots), as_numbers(answer), "{}", shown(input));
+    let length = answer.map_or(0, |measures| measures.bytes);
     let bytes = first_tree(input);
-    assert_eq!(bytes.len(), answer.unwrap_or(0), "{}", shown(input));
+    assert_eq!(bytes.len(), length, "{}", shown(input));
     assert_eq!(bytes.as_ptr(), input.as_ptr(), "not a part of the input");
 }
 
-/// Both calls give the reference's answer, which is handed back.
+/// All calls give the reference's answer, which is handed back.
 fn assert_like_reference(input: &[u8]) -> Answer {
     let answer = reference_answer(input);
     assert_answer(input, answer);
@@ -104,26 +134,27 @@ fn every_cut_of_tree_t_is_refused_where_it_ends() {
     for (length, position) in positions.into_iter().enumerate() {
         assert_answer(&T[..length], refused(15, position));
     }
-    assert_answer(&T, Ok(11));
+    assert_answer(&T, read(2, 1));
 }
 
 #[test]
 fn every_cut_of_random_trees_is_refused_as_the_reference_does() {
     let mut random = Random::new(14);
     for tips in 1..60 {
-        let bytes = generate::tree(&mut random, tips).tokens();
+        let tree = generate::tree(&mut random, tips);
+        let bytes = tree.tokens();
         for length in 0..bytes.len() {
             let answer = assert_like_reference(&bytes[..length]);
             assert_eq!(answer.map_err(|refused| refused.number), Err(15));
         }
-        assert_answer(&bytes, Ok(6 * tips - 1));
+        assert_answer(&bytes, read(tips, tree.depth()));
     }
 }
 
 #[test]
 fn bytes_after_the_tree_are_not_looked_at() {
     for byte in 0..=255 {
-        assert_answer(&[&T[..], &[byte; 9]].concat(), Ok(11));
+        assert_answer(&[&T[..], &[byte; 9]].concat(), read(2, 1));
     }
 }
 
@@ -138,29 +169,31 @@ fn every_byte_but_1_and_2_is_no_tag() {
 // The answer as numbers
 
 #[test]
-fn an_answer_takes_two_slots() {
-    for slots in 0..2 {
-        for input in [&T[..], &[], &[3]] {
-            let mut answer = [77; 2];
+fn an_answer_takes_four_slots() {
+    for slots in 0..4 {
+        for input in [&T[..], &T[1..], &[], &[3], &[2; 1_025]] {
+            let mut answer = [77; 4];
             assert_eq!(tree_into(input, &mut answer[..slots]), 13);
-            assert_eq!(answer, [77; 2]);
+            assert_eq!(answer, [77; 4]);
         }
     }
 }
 
+/// N5: "A refusal of the reader .. gives 0 for both."
 #[test]
-fn an_answer_fills_two_places_and_leaves_the_rest() {
-    for length in [2, 3, 100] {
-        for (input, number, position, bytes) in [
-            (&T[..], 0, 0, 11),
-            (&T[..8], 15, 7, 0),
-            (&[2, 1, 0, 0, 0, 0, 9], 16, 6, 0),
-            (&[2; 1_025], 20, 1_024, 0),
+fn an_answer_fills_four_places_and_leaves_the_rest() {
+    for length in [4, 5, 100] {
+        for (input, number, slots) in [
+            (&T[..], 0, [0, 11, 2, 1]),
+            (&T[1..], 0, [0, 5, 1, 0]),
+            (&T[..8], 15, [7, 0, 0, 0]),
+            (&[2, 1, 0, 0, 0, 0, 9], 16, [6, 0, 0, 0]),
+            (&[2; 1_025], 20, [1_024, 0, 0, 0]),
         ] {
             let mut answer = vec![u64::MAX; length];
             assert_eq!(tree_into(input, &mut answer), number);
-            assert_eq!(answer[..2], [position, bytes]);
-            assert!(answer[2..].iter().all(|&word| word == u64::MAX));
+            assert_eq!(answer[..4], slots);
+            assert!(answer[4..].iter().all(|&word| word == u64::MAX));
         }
     }
 }

@@ -28,12 +28,14 @@ pub const CONTRACTS: [Contracts; 3] = [
 ];
 
 /// The statements of the demands: file and name.
-pub const STATEMENTS: [(&str, &str); 10] = [
+pub const STATEMENTS: [(&str, &str); 12] = [
     ("formats/specs/Reader", "TreeReader"),
+    ("formats/specs/Measures", "TreeMeasures"),
     ("formats/specs/ProgramFiles", "ProgramFiles"),
     ("rules/specs/OrderChecker", "OrderChecker"),
     ("meaning/specs/StreamRun", "StreamRun"),
     ("meaning/specs/Meaning", "Meaning"),
+    ("meaning/specs/SourceMeasures", "SourceMeasures"),
     ("translation/specs/Demand3", "Demand3Holds"),
     ("translation/specs/EveryRun", "EveryRunHolds"),
     ("translation/specs/OutOfRange", "OutOfRangeHolds"),

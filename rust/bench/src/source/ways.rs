@@ -63,6 +63,8 @@ fn answer(sourced: reference::Sourced) -> Sourced {
         begun: sourced.begun,
         written: sourced.written,
         number: sourced.number,
+        tips: sourced.tips,
+        depth: sourced.depth,
     }
 }
 

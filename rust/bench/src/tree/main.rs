@@ -10,21 +10,21 @@ mod tests;
 use std::hint::black_box;
 
 use bench::{in_turn, Spread};
-use hogvax::Refused;
+use hogvax::{Measures, Refused};
 
 use shapes::{shapes, Shape};
 
 const ROUNDS: usize = 15;
 
-/// The tree's length, or its refusal.
-type Answer = Result<usize, Refused>;
+/// The tree's measures, or its refusal.
+type Answer = Result<Measures, Refused>;
 
 type Reader = fn(&[u8]) -> Answer;
 
 const READERS: [Reader; 3] = [hogvax::tree, plain::by_recursion, plain::by_loop];
 
-/// All readers give the same answer: the length of this tree.
-fn length(input: &[u8]) -> usize {
+/// All readers give the same answer: the measures of this tree.
+fn agreed(input: &[u8]) -> Measures {
     let [proved, by_recursion, by_loop] = READERS.map(|reader| reader(input));
     assert_eq!(proved, by_recursion);
     assert_eq!(proved, by_loop);
@@ -32,10 +32,12 @@ fn length(input: &[u8]) -> usize {
 }
 
 /// Reads all trees of an input in turn.
-fn read(reader: impl Fn(&[u8]) -> usize, shape: &Shape) {
+fn read(reader: impl Fn(&[u8]) -> Measures, shape: &Shape) {
     let mut at = 0;
     for _ in 0..shape.trees {
-        at += black_box(reader(black_box(&shape.bytes[at..])));
+        let measures = reader(black_box(&shape.bytes[at..]));
+        at += measures.bytes;
+        black_box(measures);
     }
     assert_eq!(at, shape.bytes.len());
 }
@@ -61,7 +63,7 @@ fn print_speeds(shape: &Shape) {
 fn main() {
     let shapes = shapes();
     for shape in &shapes {
-        read(length, shape);
+        read(agreed, shape);
     }
     println!("MB/s, and ratio of the proved reader's speed to that of each plain one:");
     println!("median of {ROUNDS} rounds\n");

@@ -1,7 +1,7 @@
 //! Two tree readers in plain Rust: by recursion on a tree's two parts, and by
 //! the loop that the proved reader has.
 
-use hogvax::Refused;
+use hogvax::{Measures, Refused};
 
 use crate::Answer;
 
@@ -23,14 +23,19 @@ fn refuse(number: u32, position: usize) -> Answer {
     Err(Refused { number, position })
 }
 
-/// The recursion finds the end as one number, so that all is passed in registers:
-/// the tree's end, or `usize::MAX` less the offset of the tag at which it is refused.
+/// The measures of the tree whose tokens end here, with so many nodes above its
+/// deepest leaf. A tree of n tips has n - 1 nodes: 6n - 1 bytes.
+fn measures(bytes: usize, depth: usize) -> Answer {
+    let tips = (bytes + 1) / 6;
+    Ok(Measures { bytes, tips, depth })
+}
+
 pub fn by_recursion(input: &[u8]) -> Answer {
-    let end = end_by_recursion(input, 0, MOST_DEPTH);
-    if end <= input.len() {
-        return Ok(end);
+    let found = part_by_recursion(input, 0, 0, 0);
+    if found.end <= input.len() {
+        return measures(found.end, found.deepest);
     }
-    let at = usize::MAX - end;
+    let at = usize::MAX - found.end;
     match input.get(at) {
         None => refuse(INPUT_ENDED, at),
         Some(&LEAF_TAG) => refuse(INPUT_ENDED, at + 1),
@@ -39,33 +44,52 @@ pub fn by_recursion(input: &[u8]) -> Answer {
     }
 }
 
-/// The end of the tree that begins at `at`, with room for so many nodes above its
-/// leaves.
-fn end_by_recursion(input: &[u8], at: usize, room: usize) -> usize {
+/// What the recursion gives: two numbers, so that all is passed in registers. The
+/// tips follow from the end.
+struct Found {
+    /// The part's end, or `usize::MAX` less the offset of the tag at which it is
+    /// refused.
+    end: usize,
+    /// The nodes above the deepest leaf so far.
+    deepest: usize,
+}
+
+/// The part that begins at `at`, with so many nodes above it, and above the deepest
+/// leaf before it. The right part of a node comes last, so that the compiler can make
+/// a loop of it.
+fn part_by_recursion(input: &[u8], at: usize, above: usize, deepest: usize) -> Found {
+    let refused = Found {
+        end: usize::MAX - at,
+        deepest,
+    };
     if input.len() <= at {
-        return usize::MAX - at;
+        return refused;
     }
     match input[at] {
-        LEAF_TAG if input.len() - at >= LEAF_BYTES => at + LEAF_BYTES,
-        NODE_TAG if room > 0 => {
-            let end = end_by_recursion(input, at + 1, room - 1);
-            if input.len() < end {
-                return end;
+        LEAF_TAG if input.len() - at >= LEAF_BYTES => Found {
+            end: at + LEAF_BYTES,
+            deepest: deepest.max(above),
+        },
+        NODE_TAG if above < MOST_DEPTH => {
+            let left = part_by_recursion(input, at + 1, above + 1, deepest);
+            if input.len() < left.end {
+                return left;
             }
-            end_by_recursion(input, end, room - 1)
+            part_by_recursion(input, left.end, above + 1, left.deepest)
         }
-        _ => usize::MAX - at,
+        _ => refused,
     }
 }
 
 /// `above` nodes are open; `above_next` are above the right tree that comes next, 0 if
-/// there is none. The mark of an open node is what `above_next` was before it.
+/// there is none; `deepest` were above the deepest leaf so far. The mark of an open
+/// node is what `above_next` was before it.
 pub fn by_loop(input: &[u8]) -> Answer {
     if input.len() >= LEAF_BYTES && input[0] == LEAF_TAG {
-        return Ok(LEAF_BYTES);
+        return measures(LEAF_BYTES, 0);
     }
     let mut marks = [0_u16; MOST_DEPTH];
-    let (mut at, mut above, mut above_next) = (0, 0, 0);
+    let (mut at, mut above, mut above_next, mut deepest) = (0, 0, 0, 0);
     while at < input.len() {
         match input[at] {
             NODE_TAG if above == MOST_DEPTH => return refuse(TOO_DEEP, at),
@@ -78,8 +102,9 @@ pub fn by_loop(input: &[u8]) -> Answer {
             LEAF_TAG if input.len() - at < LEAF_BYTES => return refuse(INPUT_ENDED, at + 1),
             LEAF_TAG => {
                 at += LEAF_BYTES;
+                deepest = deepest.max(above);
                 if above_next == 0 {
-                    return Ok(at);
+                    return measures(at, deepest);
                 }
                 above = above_next;
                 above_next = marks[above - 1].into();

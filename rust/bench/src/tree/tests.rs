@@ -7,7 +7,12 @@ use super::*;
 
 /// Both plain readers give the reference's answer, which is handed back.
 fn assert_like_reference(input: &[u8]) -> Answer {
-    let answer = reference::tree_end(input).map_err(|refusal| Refused {
+    let measures = reference::tree_measures(input).map(|measures| Measures {
+        bytes: measures.bytes,
+        tips: measures.tips,
+        depth: measures.depth,
+    });
+    let answer = measures.map_err(|refusal| Refused {
         number: refusal.number.into(),
         position: refusal.position as u64,
     });
@@ -45,5 +50,36 @@ fn they_stop_at_every_cut() {
     for length in 0..bytes.len() {
         assert_like_reference(&bytes[..length]).unwrap_err();
     }
-    assert_eq!(assert_like_reference(&bytes), Ok(bytes.len()));
+    let measures = assert_like_reference(&bytes).unwrap();
+    assert_eq!((measures.bytes, measures.tips), (bytes.len(), 100));
+}
+
+/// Every shape of so many tips, as tokens.
+fn every_shape(tips: usize) -> Vec<Vec<u8>> {
+    if tips == 1 {
+        return vec![vec![1, 7, 0, 0, 0]];
+    }
+    let mut shapes = Vec::new();
+    for left_tips in 1..tips {
+        for left in every_shape(left_tips) {
+            for right in every_shape(tips - left_tips) {
+                shapes.push([&[2], &left[..], &right[..]].concat());
+            }
+        }
+    }
+    shapes
+}
+
+/// The deepest leaf is the first, the last, or between them; bytes after the tree
+/// change nothing.
+#[test]
+fn they_measure_every_shape_of_up_to_nine_tips() {
+    for tips in 1..=9 {
+        for bytes in every_shape(tips) {
+            let alone = assert_like_reference(&bytes).unwrap();
+            assert_eq!((alone.bytes, alone.tips), (6 * tips - 1, tips));
+            let longer = [&bytes[..], &[2, 1, 0]].concat();
+            assert_eq!(assert_like_reference(&longer), Ok(alone));
+        }
+    }
 }

@@ -191,6 +191,8 @@ mod tests {
                 begun: 9,
                 written: usize::from(!short),
                 number: 0,
+                tips: usize::from(!short),
+                depth: 0,
             }
         });
         let written = answer.map(|(_, written)| written).ok();

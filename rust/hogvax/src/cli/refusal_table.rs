@@ -199,7 +199,7 @@ with fuel 24, and the same of its code; its source run begins 14 expressions:
   $ ./hogvax perform samples/code/grow.code samples/small.tokens --fuel 24
   refused 14 11 units 24 read 11 written 11 number 0
   $ ./hogvax source samples/programs/grow.program samples/small.tokens --fuel 13
-  refused 14 0 begun 13 written 0 number 0",
+  refused 14 0 begun 13 written 0 number 0 tips 0 depth 0",
     },
     Refusal {
         number: 15,
@@ -219,7 +219,7 @@ reader, in a stream run and in a source run:
   $ printf '\\1\\5\\0\\0' | ./hogvax perform samples/code/grow.code --fuel 25
   refused 15 1 units 1 read 1 written 0 number 0
   $ printf '\\1\\5\\0\\0' | ./hogvax source samples/programs/grow.program
-  refused 15 1 begun 0 written 0 number 0",
+  refused 15 1 begun 0 written 0 number 0 tips 0 depth 0",
     },
     Refusal {
         number: 16,
@@ -236,7 +236,7 @@ the input 03, for the tree reader, in a stream run and in a source run:
   $ printf '\\3' | ./hogvax perform samples/code/grow.code --fuel 25
   refused 16 0 units 0 read 0 written 0 number 0
   $ printf '\\3' | ./hogvax source samples/programs/grow.program
-  refused 16 0 begun 0 written 0 number 0",
+  refused 16 0 begun 0 written 0 number 0 tips 0 depth 0",
     },
     Refusal {
         number: 17,
@@ -257,7 +257,7 @@ writes none:
   refused 17 11 units 20 read 11 written 7 number 0
   $ ./hogvax source samples/programs/grow.program samples/small.tokens \\
     --space 10
-  refused 17 0 begun 14 written 0 number 0",
+  refused 17 0 begun 14 written 0 number 0 tips 0 depth 0",
     },
     Refusal {
         number: 18,
@@ -302,7 +302,7 @@ stream run has no such limit.",
   refused 20 1024
   $ head -c 1025 /dev/zero | tr '\\0' '\\2' |
     ./hogvax source samples/programs/grow.program
-  refused 20 1024 begun 0 written 0 number 0",
+  refused 20 1024 begun 0 written 0 number 0 tips 0 depth 0",
     },
     Refusal {
         number: 21,
@@ -326,6 +326,6 @@ code's and its source run; the first line of each, more is said after it:
   $ ./hogvax perform samples/code/sum.code samples/trees/reads.tokens --fuel 99
   refused 21 35 units 59 read 35 written 0 number 0
   $ ./hogvax source samples/programs/sum.program samples/trees/reads.tokens
-  refused 21 4 begun 32 written 0 number 0",
+  refused 21 4 begun 32 written 0 number 0 tips 0 depth 0",
     },
 ];

@@ -49,4 +49,4 @@ macro_rules! answer {
 }
 
 answer!(Ran counts units, read);
-answer!(Sourced counts begun);
+answer!(Sourced counts begun, tips, depth);

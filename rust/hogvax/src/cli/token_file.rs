@@ -1,9 +1,8 @@
 //! Token files, read tree by tree.
 
 use std::ffi::OsStr;
-use std::ops::Range;
 
-use hogvax::Refused;
+use hogvax::{Measures, Refused};
 
 use crate::exit_status::{Outcome, Trouble};
 use crate::input::Opening;
@@ -42,16 +41,19 @@ pub fn tell_of_newick(input: &Opening, refused: Option<Refused>) -> Result<(), T
     ))
 }
 
+/// What the tree reader says of a tree.
+type Read = Result<Measures, Refused>;
+
 /// What the tree reader says of the bytes from this offset on.
-fn read_tree(opening: &mut Opening, start: usize) -> Result<Result<usize, Refused>, Trouble> {
-    let needs_more = |answer: &Result<usize, Refused>| answer.as_ref().is_err_and(is_too_short);
+fn read_tree(opening: &mut Opening, start: usize) -> Result<Read, Trouble> {
+    let needs_more = |answer: &Read| answer.as_ref().is_err_and(is_too_short);
     opening.answer(needs_more, |bytes| Ok(hogvax::tree(&bytes[start..])))
 }
 
 /// What follows the trees that are read.
 enum Next {
-    /// A tree, and its offsets in the file.
-    Tree(Range<usize>),
+    /// A tree: where it begins in the file, and its measures.
+    Tree(usize, Measures),
     /// The end of the file.
     End,
     /// No tree. The refusal's position is counted from the start of the file.
@@ -65,9 +67,9 @@ pub struct Trees {
     end: usize,
 }
 
-/// The bytes of trees, or the refusal of the first one that is refused, its
+/// What was asked for, or the refusal of the first tree that is refused, its
 /// position counted from the start of the file.
-type Answer<'a> = Result<Result<&'a [u8], Refused>, Trouble>;
+type Answer<T> = Result<Result<T, Refused>, Trouble>;
 
 impl Trees {
     pub fn open(file: &OsStr) -> Result<Trees, Trouble> {
@@ -76,7 +78,7 @@ impl Trees {
     }
 
     /// What the tree reader says of the first tree, which must be there.
-    pub fn first(&mut self) -> Result<Result<usize, Refused>, Trouble> {
+    pub fn first(&mut self) -> Answer<Measures> {
         read_tree(&mut self.opening, 0)
     }
 
@@ -89,25 +91,26 @@ impl Trees {
     }
 
     /// The bytes of all trees.
-    pub fn all(&mut self) -> Answer<'_> {
+    pub fn all(&mut self) -> Answer<&[u8]> {
         loop {
             match self.next()? {
-                Next::Tree(_) => {}
+                Next::Tree(..) => {}
                 Next::End => return Ok(Ok(self.opening.bytes())),
                 Next::Refused(refused) => return Ok(Err(refused)),
             }
         }
     }
 
-    /// The bytes of the tree with this number. The first one has 1.
-    pub fn tree(&mut self, number: u64) -> Answer<'_> {
+    /// The bytes that begin with the tree of this number, and its measures. The
+    /// first one has 1.
+    pub fn tree(&mut self, number: u64) -> Answer<(&[u8], Measures)> {
         let mut count = 0;
         loop {
             match self.next()? {
-                Next::Tree(tree) => {
+                Next::Tree(start, measures) => {
                     count += 1;
                     if count == number {
-                        return Ok(Ok(&self.opening.bytes()[tree]));
+                        return Ok(Ok((&self.opening.bytes()[start..], measures)));
                     }
                 }
                 Next::End => {
@@ -123,9 +126,9 @@ impl Trees {
     fn next(&mut self) -> Result<Next, Trouble> {
         let start = self.end;
         Ok(match read_tree(&mut self.opening, start)? {
-            Ok(length) => {
-                self.end += length;
-                Next::Tree(start..self.end)
+            Ok(measures) => {
+                self.end += measures.bytes;
+                Next::Tree(start, measures)
             }
             Err(_) if start == self.opening.bytes().len() => Next::End,
             Err(refused) => Next::Refused(Refused {

@@ -6,7 +6,7 @@ mod strokes;
 use std::fmt;
 
 use crate::token::{tokens, Token};
-use crate::{tree, Refused};
+use crate::{tree, Measures, Refused};
 use path::Path;
 pub use strokes::Strokes;
 
@@ -53,37 +53,42 @@ impl Drawing<'_> {
     /// deep for the width is drawn wider. Or the refusal, as
     /// [`tree`](crate::tree) gives it.
     pub fn new(tokens: &[u8], width: usize, strokes: Strokes) -> Result<Drawing<'_>, Refused> {
-        let (tree, _) = tokens.split_at(tree(tokens)?);
-        let (depth, label) = size(tree);
+        let measures = tree(tokens)?;
+        Ok(Drawing::measured(tokens, measures, width, strokes))
+    }
+
+    /// As [`new`](Drawing::new), where [`tree`](crate::tree) gave these measures
+    /// for the same tokens: they are not read again. Panics where there are fewer
+    /// tokens than that.
+    pub fn measured(
+        tokens: &[u8],
+        measures: Measures,
+        width: usize,
+        strokes: Strokes,
+    ) -> Drawing<'_> {
+        let Measures { bytes, depth, .. } = measures;
+        let tree = &tokens[..bytes];
         // Of the other columns one is the root's own branch, and one is the
         // blank before a label.
-        let room = width.min(MOST_WIDTH).saturating_sub(label + 2);
+        let others = longest_label(tree) + 2;
+        let room = width.min(MOST_WIDTH).saturating_sub(others);
         let step = LEAST_STEP.max(room / depth.max(1));
-        Ok(Drawing {
+        Drawing {
             tree,
             step,
             columns: room.max(depth * step),
             strokes,
-        })
+        }
     }
 }
 
-/// The nodes above the deepest tip, and the characters of the longest label.
-fn size(tree: &[u8]) -> (usize, usize) {
-    let (mut depth, mut longest) = (0, 0);
-    // For each tree that is still to be read: the nodes above it.
-    let mut pending = vec![0];
-    for token in tokens(tree) {
-        let above = pending.pop().unwrap_or(0);
-        match token {
-            Token::Node => pending.extend([above + 1, above + 1]),
-            Token::Leaf(label) => {
-                depth = depth.max(above);
-                longest = longest.max(characters(label));
-            }
-        }
-    }
-    (depth, longest)
+/// The characters of a tree's longest label.
+fn longest_label(tree: &[u8]) -> usize {
+    let labels = tokens(tree).filter_map(|token| match token {
+        Token::Leaf(label) => Some(characters(label)),
+        Token::Node => None,
+    });
+    labels.max().unwrap_or(0)
 }
 
 /// How many characters a label has as text.

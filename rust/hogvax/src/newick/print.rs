@@ -20,11 +20,11 @@ pub fn print(tokens: &[u8]) -> Result<String, Refused> {
     let mut rest = tokens;
     while !rest.is_empty() {
         let start = (tokens.len() - rest.len()) as u64;
-        let length = tree(rest).map_err(|refused| Refused {
+        let measures = tree(rest).map_err(|refused| Refused {
             position: start + refused.position,
             ..refused
         })?;
-        let (tree, behind) = rest.split_at(length);
+        let (tree, behind) = rest.split_at(measures.bytes);
         print_tree(tree, &mut text);
         rest = behind;
     }

@@ -1,12 +1,13 @@
 //! The header's constants for slots and work words beside the library: each
-//! call needs as many slots as its constant says, fills them and no more, and
+//! call needs as many slots as the header says, fills them and no more, and
 //! touches nothing where it has fewer.
 
 use super::*;
 
-/// Makes each call with a slot less than its constant, then with all. Last,
-/// calls that are refused before their run leave the work words as they were.
-/// The exit status is 0, or 1 with the test that failed on standard error.
+/// Makes each call with a slot less than it needs, then with all. Then calls that
+/// are refused before their run leave the work words as they were. Last, the tree
+/// reader in as many slots as are enough for all calls but the runs. The exit status
+/// is 0, or 1 with the test that failed on standard error.
 const TEXT: &str = r#"
 #include <stdio.h>
 #include <stdlib.h>
@@ -14,6 +15,8 @@ const TEXT: &str = r#"
 #include "hogvax.h"
 
 #define FILLER 0xa5
+/* The slots of a call that answers a position and bytes alone. */
+#define TWO_SLOTS (HOGVAX_BYTES + 1)
 #define TEST(what) if (!(what)) { fprintf(stderr, "%s\n", #what); exit(1); }
 
 /* Case 0, Leaf, Var 0, Node, Call 0 on 2, Call 0 on 1. */
@@ -128,12 +131,12 @@ int main(void) {
     TEST(hogvax_translate(program, program_length, stream, sizeof stream,
                           answer, HOGVAX_ANSWER_SLOTS) == 0);
     stream_length = (size_t)answer[HOGVAX_BYTES];
-    needs(tree, HOGVAX_ANSWER_SLOTS);
-    needs(pack, HOGVAX_ANSWER_SLOTS);
-    needs(unpack, HOGVAX_ANSWER_SLOTS);
-    needs(check, HOGVAX_ANSWER_SLOTS);
-    needs(check_records, HOGVAX_ANSWER_SLOTS);
-    needs(translate, HOGVAX_ANSWER_SLOTS);
+    needs(tree, HOGVAX_TREE_SLOTS);
+    needs(pack, TWO_SLOTS);
+    needs(unpack, TWO_SLOTS);
+    needs(check, TWO_SLOTS);
+    needs(check_records, TWO_SLOTS);
+    needs(translate, TWO_SLOTS);
     needs(perform, HOGVAX_RUN_SLOTS);
     needs(run, HOGVAX_RUN_SLOTS);
     needs(source, HOGVAX_SOURCE_SLOTS);
@@ -158,6 +161,10 @@ int main(void) {
     leaves(source, HOGVAX_SOURCE_SLOTS, HOGVAX_TOO_DEEP);
     prepare(swap, sizeof swap, tokens, sizeof tokens);
     leaves(run, HOGVAX_RUN_SLOTS, HOGVAX_OUT_OF_ORDER);
+    refill();
+    TEST(tree(HOGVAX_ANSWER_SLOTS) == 0);
+    TEST(lent.answer[HOGVAX_POSITION] == 0 && lent.answer[HOGVAX_BYTES] == sizeof tokens);
+    TEST(TWO_SLOTS <= HOGVAX_ANSWER_SLOTS);
     return 0;
 }
 "#;

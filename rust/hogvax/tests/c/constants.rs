@@ -63,7 +63,7 @@ fn c_name(case: &str) -> String {
     name
 }
 
-const LENGTHS: [(&str, usize); 12] = [
+const LENGTHS: [(&str, usize); 13] = [
     ("HOGVAX_RECORD_BYTES", RECORD_BYTES),
     ("HOGVAX_INSTRUCTION_BYTES", INSTRUCTION_BYTES),
     ("HOGVAX_BLOCK_BYTES", BLOCK_BYTES),
@@ -73,17 +73,20 @@ const LENGTHS: [(&str, usize); 12] = [
     ("HOGVAX_LONGEST_CODE", hogvax::LONGEST_CODE),
     ("HOGVAX_VALUE_WORDS", VALUE_WORDS),
     ("HOGVAX_RETURN_WORDS", RETURN_WORDS),
+    ("HOGVAX_TREE_SLOTS", 4),
     ("HOGVAX_RUN_SLOTS", 5),
-    ("HOGVAX_SOURCE_SLOTS", 4),
-    ("HOGVAX_ANSWER_SLOTS", 2),
+    ("HOGVAX_SOURCE_SLOTS", 6),
+    ("HOGVAX_ANSWER_SLOTS", 4),
 ];
 
 /// Of a stream run: position, units, bytes read, bytes written, the number. Of a
-/// source run: position, begun, bytes written, the number. Of the other calls:
-/// position, bytes.
-const SLOTS: [(&str, usize); 9] = [
+/// source run: position, begun, bytes written, the number, tips, depth. Of the tree
+/// reader: position, bytes, tips, depth. Of the other calls: position, bytes.
+const SLOTS: [(&str, usize); 13] = [
     ("HOGVAX_POSITION", 0),
     ("HOGVAX_BYTES", 1),
+    ("HOGVAX_TIPS", 2),
+    ("HOGVAX_DEPTH", 3),
     ("HOGVAX_UNITS", 1),
     ("HOGVAX_READ", 2),
     ("HOGVAX_WRITTEN", 3),
@@ -91,6 +94,8 @@ const SLOTS: [(&str, usize); 9] = [
     ("HOGVAX_SOURCE_BEGUN", 1),
     ("HOGVAX_SOURCE_WRITTEN", 2),
     ("HOGVAX_SOURCE_NUMBER", 3),
+    ("HOGVAX_SOURCE_TIPS", 4),
+    ("HOGVAX_SOURCE_DEPTH", 5),
 ];
 
 /// These constants and no others.

@@ -148,7 +148,10 @@ fn the_examples_run_grow_on_t() {
     let grown = "02 01 06 00 00 00 01 08 00 00 00\n";
     for (example, line) in [
         (RUN, "ended units 25 read 11 written 11 number 0\n"),
-        (SOURCE, "ended begun 14 written 11 number 0\n"),
+        (
+            SOURCE,
+            "ended begun 14 written 11 number 0 tips 2 depth 1\n",
+        ),
     ] {
         let text = [line, grown].concat();
         example.assert_prints(&program, &tokens, &text, 0);
@@ -162,7 +165,7 @@ fn the_source_example_runs_a_program_out_of_order() {
     let tokens = repository("samples/small.tokens");
     let refused = "refused 11 6 units 0 read 0 written 0 number 0\n";
     RUN.assert_prints(&program, &tokens, refused, 1);
-    let text = "ended begun 10 written 11 number 0\n\
+    let text = "ended begun 10 written 11 number 0 tips 2 depth 1\n\
         02 01 07 00 00 00 01 05 00 00 00\n";
     SOURCE.assert_prints(&program, &tokens, text, 0);
 }

@@ -20,7 +20,7 @@ static uint8_t records[HOGVAX_LONGEST_RECORDS], input[10000], output[10000];
 static uint8_t file[HOGVAX_LONGEST_FILE], code[HOGVAX_LONGEST_CODE];
 static uint32_t values[HOGVAX_VALUE_WORDS];
 static uint64_t returns[HOGVAX_RETURN_WORDS];
-static uint64_t answer[HOGVAX_RUN_SLOTS];
+static uint64_t answer[HOGVAX_SOURCE_SLOTS];
 static size_t records_length, input_length, file_length;
 
 static void print(const char *call, uint32_t number) {
@@ -108,9 +108,10 @@ static void calls(const char *name) {
 static void tree(int depth) {
     deep_tree(depth);
     printf("depth %d:", depth);
-    print("tree", hogvax_tree(input, input_length, answer, HOGVAX_ANSWER_SLOTS));
-    printf(" bytes %d %d\n", (int)answer[HOGVAX_BYTES],
+    print("tree", hogvax_tree(input, input_length, answer, HOGVAX_TREE_SLOTS));
+    printf(" bytes %d %d", (int)answer[HOGVAX_BYTES],
            (int)hogvax_tree_bytes(input, input_length));
+    printf(" tips %d depth %d\n", (int)answer[HOGVAX_TIPS], (int)answer[HOGVAX_DEPTH]);
 }
 
 static void *deepest(void *unused) {
@@ -140,8 +141,8 @@ int main(void) {
 fn the_deepest_calls_fit_in_1_mib_of_stack() {
     assert!(HEADER.contains("up to 1 MiB of the thread's stack"));
     let output = succeed(&mut Command::new(build_text(TEXT, "stack")));
-    let lines = "depth 1025: tree 20 1024 bytes 0 0\n\
-        depth 1024: tree 0 0 bytes 6149 6149\n\
+    let lines = "depth 1025: tree 20 1024 bytes 0 0 tips 0 depth 0\n\
+        depth 1024: tree 0 0 bytes 6149 6149 tips 1025 depth 1024\n\
         tests: pack 0 0 unpack 0 0 check 0 0 check_records 0 0 translate 0 0 run 18 0 \
         source 18 0\n\
         calls: pack 0 0 unpack 0 0 check 11 1024 check_records 11 1024 translate 11 1024 \

@@ -54,7 +54,7 @@ fn long_trees_go_through() {
     let (units, length) = (10 * tips + 5 * (tips - 1), grown.len());
     let streamed = format!("ended units {units} read {length} written {length} number 0\n");
     let begun = 5 * tips + 4 * (tips - 1);
-    let sourced = format!("ended begun {begun} written {length} number 0\n");
+    let sourced = format!("ended begun {begun} written {length} number 0 tips {tips} depth 18\n");
     for (verb, line) in [(PERFORM, &streamed), (RUN, &streamed), (SOURCE, &sourced)] {
         let output = verb.run_grow_on(&tokens, &["--fuel", "1000000000"]);
         assert_gives(&output, 0, &grown, line);

@@ -125,7 +125,7 @@ fn refusals_of_the_run_itself_are_not_explained() {
     let line = "refused 14 0 units 0 read 0 written 0 number 0\n";
     let output = RUN.run_first(GROW.as_bytes(), &["--fuel", "0"]);
     assert_gives(&output, 1, &[], line);
-    let line = "refused 17 0 begun 14 written 0 number 0\n";
+    let line = "refused 17 0 begun 14 written 0 number 0 tips 0 depth 0\n";
     let output = SOURCE.run_first(GROW.as_bytes(), &["--space", "10"]);
     assert_gives(&output, 1, &[], line);
 }
@@ -162,7 +162,7 @@ fn a_line_that_stands_elsewhere_is_told() {
     }
     for (verb, line) in [
         (RUN, "ended units 17 read 11 written 0 number 12\n"),
-        (SOURCE, "ended begun 8 written 0 number 12\n"),
+        (SOURCE, "ended begun 8 written 0 number 12 tips 2 depth 1\n"),
     ] {
         let output = verb.run_first(MISPLACED.as_bytes(), &[]);
         assert_gives(&output, 0, b"12\n", &format!("{line}{MISPLACED_NOTICE}"));

@@ -17,7 +17,7 @@ fn runs() -> [(Vec<String>, &'static str); 3] {
         (words(["perform", &code, "--fuel", "9"]), stream),
         (
             words(["source", &program, "--fuel", "9"]),
-            "begun 0 written 0 number 0",
+            "begun 0 written 0 number 0 tips 0 depth 0",
         ),
     ]
 }

@@ -13,11 +13,11 @@ fn sum() -> String {
 
 /// What is said of Sum on two leaves.
 fn summed(verb: &Verb, number: &str) -> String {
-    let counts = match verb.name {
-        "run" => "units 17 read 11",
-        _ => "begun 8",
+    let (counts, measures) = match verb.name {
+        "run" => ("units 17 read 11", ""),
+        _ => ("begun 8", " tips 2 depth 1"),
     };
-    format!("ended {counts} written 0 number {number}\n")
+    format!("ended {counts} written 0 number {number}{measures}\n")
 }
 
 // Numbers

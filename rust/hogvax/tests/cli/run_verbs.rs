@@ -67,10 +67,10 @@ pub const SOURCE: Verb = Verb {
     usage: "usage: hogvax source PROGRAM [FILE] \
         [--fuel N] [--space M] [--most-space M] [--out FILE]",
     enough: "14",
-    ended: "ended begun 14 written 11 number 0\n",
+    ended: "ended begun 14 written 11 number 0 tips 2 depth 1\n",
     less: "13",
-    spent: "refused 14 0 begun 13 written 0 number 0\n",
-    not_begun: "begun 0 written 0 number 0\n",
+    spent: "refused 14 0 begun 13 written 0 number 0 tips 0 depth 0\n",
+    not_begun: "begun 0 written 0 number 0 tips 0 depth 0\n",
 };
 
 pub const ALL: [Verb; 3] = [PERFORM, RUN, SOURCE];

@@ -5,7 +5,7 @@ use super::*;
 
 /// What is said of a run that is refused after so many expressions begun.
 fn refused(number: u32, position: usize, begun: u64) -> String {
-    format!("refused {number} {position} begun {begun} written 0 number 0\n")
+    format!("refused {number} {position} begun {begun} written 0 number 0 tips 0 depth 0\n")
 }
 
 /// There is no number after a refusal.
@@ -22,7 +22,8 @@ fn a_refused_number_is_not_given() {
 fn programs_out_of_order_are_evaluated() {
     let swapped = [2, 1, 7, 0, 0, 0, 1, 5, 0, 0, 0];
     let output = SOURCE.run_first(&bytes("programs/swap.program"), &[]);
-    assert_gives(&output, 0, &swapped, "ended begun 10 written 11 number 0\n");
+    let line = "ended begun 10 written 11 number 0 tips 2 depth 1\n";
+    assert_gives(&output, 0, &swapped, line);
     let one = || Expr::constant(1);
     let left = |above: u8| if above == 0 { 0 } else { 2 * above - 1 };
     let cases = (0..16).rev();
@@ -33,7 +34,7 @@ fn programs_out_of_order_are_evaluated() {
     ] {
         let program = file(false, body);
         assert_says(&run_on(&["check"], &program), 1, told);
-        let line = format!("ended begun {begun} written 0 number 1\n");
+        let line = format!("ended begun {begun} written 0 number 1 tips 2 depth 1\n");
         assert_gives(&SOURCE.run_first(&program, &[]), 0, b"1\n", &line);
     }
 }

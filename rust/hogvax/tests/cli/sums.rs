@@ -36,7 +36,7 @@ fn said(verb: &Verb, explained: &str) -> String {
             let line = refused(21, 15, 11, 0);
             format!("{line}{explained}  bytes read by then: 11\n")
         }
-        _ => format!("refused 21 4 begun 8 written 0 number 0\n{explained}"),
+        _ => format!("refused 21 4 begun 8 written 0 number 0 tips 0 depth 0\n{explained}"),
     }
 }
 
@@ -138,7 +138,8 @@ fn the_source_run_may_not_say_which_sum_it_is() {
         let line = refused(21, 8, 6, 2);
         assert_gives(&output, 1, &[], &format!("{line}{told}"));
         let output = run_on(&["source", &path], input);
-        let line = format!("refused {number} {position} begun 0 written 0 number 0\n");
+        let counts = "begun 0 written 0 number 0 tips 0 depth 0";
+        let line = format!("refused {number} {position} {counts}\n");
         assert_gives(&output, 1, &[], &line);
     }
 }

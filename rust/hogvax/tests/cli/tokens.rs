@@ -196,7 +196,8 @@ fn tokens_of_trees_that_are_too_deep_are_refused() {
     let whole = format!("{}1{};", "(".repeat(1_024), ",1)".repeat(1_024));
     let output = tokens_on(&whole);
     assert_eq!(output.status.code(), Some(0));
-    assert_says(&run_on(&["tree"], &output.stdout), 0, "tree 6149\n");
+    let line = "tree 6149 tips 1025 depth 1024\n";
+    assert_says(&run_on(&["tree"], &output.stdout), 0, line);
 }
 
 /// No more is read than the refusal needs.

@@ -2,15 +2,39 @@
 
 use super::*;
 
+/// What is said of T.
+const TREE_T: &str = "tree 11 tips 2 depth 1\n";
+
 #[test]
-fn tree_prints_the_length_of_the_sample() {
-    assert_says(&run(&["tree", &sample("small.tokens")]), 0, "tree 11\n");
+fn tree_prints_the_measures_of_the_samples() {
+    assert_says(&run(&["tree", &sample("small.tokens")]), 0, TREE_T);
+    let clades = "tree 53 tips 9 depth 5\n";
+    assert_says(&run(&["tree", &sample("clades.tokens")]), 0, clades);
+}
+
+/// Trees whose deepest tip is the first, the last, or neither; `(` is a fork.
+#[test]
+fn tree_prints_tips_and_depth() {
+    for (newick, line) in [
+        ("7;", "tree 5 tips 1 depth 0\n"),
+        ("((1,2),3);", "tree 17 tips 3 depth 2\n"),
+        ("(1,(2,3));", "tree 17 tips 3 depth 2\n"),
+        ("((1,2),(3,4));", "tree 23 tips 4 depth 2\n"),
+        ("((1,(2,3)),4);", "tree 23 tips 4 depth 3\n"),
+        ("(1,((2,3),4));", "tree 23 tips 4 depth 3\n"),
+        ("(((1,2),(3,(4,5))),(6,7));", "tree 41 tips 7 depth 4\n"),
+    ] {
+        let tokens = run_on(&["tokens"], newick.as_bytes()).stdout;
+        assert_says(&run_on(&["tree"], &tokens), 0, line);
+        let behind = [&tokens[..], &tokens[..], &[2, 2, 2]].concat();
+        assert_says(&run_on(&["tree"], &behind), 0, line);
+    }
 }
 
 #[test]
 fn tree_reads_standard_input() {
-    assert_says(&run_on(&["tree"], &T), 0, "tree 11\n");
-    assert_says(&run_on(&["tree", "-"], &T), 0, "tree 11\n");
+    assert_says(&run_on(&["tree"], &T), 0, TREE_T);
+    assert_says(&run_on(&["tree", "-"], &T), 0, TREE_T);
     assert_says(&run(&["tree"]), 1, "refused 15 0\n");
 }
 
@@ -32,7 +56,7 @@ fn tree_prints_refusals() {
 fn tree_reads_large_inputs() {
     let mut input = vec![3; 20_000_000];
     input[..T.len()].copy_from_slice(&T);
-    assert_says(&run_on(&["tree"], &input), 0, "tree 11\n");
+    assert_says(&run_on(&["tree"], &input), 0, TREE_T);
 }
 
 /// The tree is longer than what is read of it at first.
@@ -43,7 +67,7 @@ fn tree_reads_long_trees() {
     });
     let length = 6 * (1 << 19) - 1;
     assert_eq!(tree.len(), length);
-    let answer = format!("tree {length}\n");
+    let answer = format!("tree {length} tips 524288 depth 19\n");
     assert_says(&run_on(&["tree"], &tree), 0, &answer);
     let behind = [&tree[..], &[3; 3]].concat();
     assert_says(&run_on(&["tree"], &behind), 0, &answer);

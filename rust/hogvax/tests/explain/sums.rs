@@ -275,6 +275,8 @@ fn any_bytes_may_be_explained() {
             begun: random.below(2_000) as u64,
             written: 0,
             number: 0,
+            tips: 0,
+            depth: 0,
         };
         let explanation = explain_sum(records, &input, &sourced);
         assert!(explanation.message.starts_with("the sum of "));

@@ -3,6 +3,7 @@
 use std::time::{Duration, Instant};
 
 use hogvax::newick::read;
+use hogvax::Measures;
 
 use super::*;
 
@@ -29,7 +30,9 @@ fn a_tip_may_stand_under_1024_forks() {
             let text = format!("{};", text(&tree));
             let read = read(text.as_bytes()).unwrap();
             assert!(read.tokens == tree.tokens());
-            assert_eq!(hogvax::tree(&read.tokens), Ok(6 * (depth + 1) - 1));
+            let (bytes, tips) = (6 * (depth + 1) - 1, depth + 1);
+            let measures = Measures { bytes, tips, depth };
+            assert_eq!(hogvax::tree(&read.tokens), Ok(measures));
         }
     }
 }

@@ -4,6 +4,7 @@ use std::fmt::{self, Write};
 
 use hogvax::draw::{Drawing, Strokes};
 use hogvax::newick::read;
+use hogvax::Measures;
 
 use super::picture::read_back;
 use super::*;
@@ -152,6 +153,12 @@ fn cherries(tree: &Tree) -> usize {
     tokens.windows(3).filter(|three| is_cherry(three)).count()
 }
 
+/// The columns of the longest line.
+fn widest(drawing: &str) -> usize {
+    let columns = drawing.lines().map(|line| line.chars().count());
+    columns.max().unwrap()
+}
+
 /// How wide the drawing of a tree is: it fills the width, but a level has at
 /// least 2 columns.
 fn expected_width(tree: &Tree, width: usize) -> usize {
@@ -167,13 +174,13 @@ fn expected_width(tree: &Tree, width: usize) -> usize {
 /// gives the tree. Whether it fits the width.
 fn assert_drawing(tree: &Tree, width: usize, strokes: Strokes) -> bool {
     let drawing = draw(tree, width, strokes);
-    let widest = drawing.lines().map(|line| line.chars().count()).max();
-    assert_eq!(widest, Some(expected_width(tree, width)), "{drawing}");
+    let widest = widest(&drawing);
+    assert_eq!(widest, expected_width(tree, width), "{drawing}");
     assert_eq!(drawing.lines().count(), tree.tips() + cherries(tree));
     let blank_ends = drawing.lines().filter(|line| line.ends_with(' ')).count();
     assert_eq!(blank_ends, 0, "{drawing}");
     assert_eq!(&read_back(&drawing, strokes), tree, "{drawing}");
-    widest <= Some(width)
+    widest <= width
 }
 
 #[test]
@@ -273,6 +280,27 @@ fn bytes_after_the_tree_are_not_drawn() {
     let tokens = [&tree.tokens()[..], &[3; 20]].concat();
     let drawing = Drawing::new(&tokens, 80, Strokes::Lines).unwrap();
     assert_eq!(drawing.to_string(), draw(&tree, 80, Strokes::Lines));
+}
+
+/// A tree that was read is drawn by what the tree reader gave: its depth is not
+/// looked for again.
+#[test]
+fn measures_that_are_given_are_drawn_by() {
+    let mut random = Random::new(445);
+    for _ in 0..200 {
+        let tips = 1 + random.below(30);
+        let tree = generate::tree(&mut random, tips);
+        let tokens = [&tree.tokens()[..], &[3; 20]].concat();
+        let measures = hogvax::tree(&tokens).unwrap();
+        for width in [0, 80] {
+            let drawing = Drawing::measured(&tokens, measures, width, Strokes::Lines);
+            assert_eq!(drawing.to_string(), draw(&tree, width, Strokes::Lines));
+        }
+        let depth = measures.depth + 1;
+        let deeper = Measures { depth, ..measures };
+        let wider = Drawing::measured(&tokens, deeper, 0, Strokes::Lines).to_string();
+        assert_eq!(widest(&wider), 2 + widest(&draw(&tree, 0, Strokes::Lines)));
+    }
 }
 
 #[test]

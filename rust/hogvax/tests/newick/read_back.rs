@@ -42,10 +42,12 @@ fn the_tokens_are_trees() {
         trees.iter().for_each(|tree| writer.tree(tree));
         let read = read(writer.text.as_bytes()).unwrap();
         let mut rest = &read.tokens[..];
-        for _ in 0..read.trees {
-            let length = hogvax::tree(rest).unwrap();
-            rest = &rest[length..];
+        for tree in &trees {
+            let measures = hogvax::tree(rest).unwrap();
+            assert_eq!((measures.tips, measures.depth), (tree.tips(), tree.depth()));
+            rest = &rest[measures.bytes..];
         }
+        assert_eq!(read.trees, trees.len());
         assert!(rest.is_empty());
     }
 }

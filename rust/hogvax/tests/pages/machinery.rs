@@ -107,7 +107,7 @@ fn every_trial_has_a_new_folder() {
 
 #[test]
 fn the_command_line_and_the_samples_are_there() {
-    let text = "```\n$ ./hogvax tree samples/small.tokens\ntree 11\n```\n";
+    let text = "```\n$ ./hogvax tree samples/small.tokens\ntree 11 tips 2 depth 1\n```\n";
     let found = differences(&Page::new(text), &folder("there"));
     assert_eq!(found, [""; 0]);
 }

@@ -37,13 +37,13 @@ pub fn assert_answers_alone<const N: usize, C: RunCall<N>>(all: &[Known<C, N>]) 
     }
 }
 
-/// The last slot is the number's sign extension: "Sum of leaves 2147483647 and
-/// 1: −2147483648."
+/// The number's slot is its sign extension: "Sum of leaves 2147483647 and 1:
+/// −2147483648."
 pub fn assert_sign_extended<const N: usize, C: RunCall<N>>(lent: &mut Lent, all: &[Known<C, N>]) {
     let mut seen = [0; 2];
     for known in all {
         let (name, number) = (&known.name, known.number);
-        let word = lent.call_into(&known.case).slots[N - 1];
+        let word = lent.call_into(&known.case).slots[C::WRITTEN + 1];
         assert_eq!(word as i64, i64::from(number), "{name}");
         assert_eq!(word >> 63 == 1, number < 0, "{name}");
         seen[usize::from(number < 0)] += 1;

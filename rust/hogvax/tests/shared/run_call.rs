@@ -23,7 +23,8 @@ const MARGIN: usize = 8;
 pub struct Gave<const N: usize> {
     pub number: u32,
     /// The refusal's position; the units or the expressions begun; the bytes
-    /// read, in a stream run; the bytes written; the number, sign-extended.
+    /// read, in a stream run; the bytes written; the number, sign-extended; in a
+    /// source run the tips and the depth of the tree.
     pub slots: [u64; N],
     pub output: Vec<u8>,
     pub code: Vec<u8>,
@@ -66,7 +67,7 @@ pub trait RunCall<const N: usize>: fmt::Debug + Sized {
     /// What the safe functions answer.
     type Answer: PartialEq + fmt::Debug;
 
-    /// The slot that counts the bytes written.
+    /// The slot that counts the bytes written; the number is in the next.
     const WRITTEN: usize;
 
     /// The safe function, in a work space that is lent.

@@ -64,7 +64,9 @@ fn adds_wait_in_every_open_call() {
     let body = adds(511, call(0));
     let endless = file(&Program::new(vec![number_valued(0, body)]));
     let begun = 512 * 1_024;
-    let refused = |number, begun| format!("refused {number} 0 begun {begun} written 0 number 0");
+    let refused = |number, begun| {
+        format!("refused {number} 0 begun {begun} written 0 number 0 tips 0 depth 0")
+    };
     assert_eq!(line(&endless, &left(0), u64::MAX), refused(18, begun));
     assert_eq!(line(&endless, &left(0), begun), refused(18, begun));
     let less = begun - 1;
@@ -78,13 +80,16 @@ fn adds_are_taken_up_again_in_every_open_call() {
     let program = file(&Program::new(vec![number_valued(0, body)]));
     let begun = 1_023 * (1 + 510 + 1 + 510) + 2;
     let number = 1_023 * 510 + 1;
-    let ended = format!("ended begun {begun} written 0 number {number}");
+    let ended = format!("ended begun {begun} written 0 number {number} tips 1024 depth 1023");
     assert_eq!(line(&program, &left(1_023), begun), ended);
     // A tree of depth 1,024 is read, and opens a call too many.
     let refused = line(&program, &left(1_024), MUCH);
     assert!(refused.starts_with("refused 18 0 "), "{refused}");
     let deeper = line(&program, &left(1_025), MUCH);
-    assert_eq!(deeper, "refused 20 1024 begun 0 written 0 number 0");
+    assert_eq!(
+        deeper,
+        "refused 20 1024 begun 0 written 0 number 0 tips 0 depth 0"
+    );
 }
 
 /// A thousand calls, each the argument of the one before, with two open at
@@ -99,7 +104,7 @@ fn calls_are_arguments_of_calls() {
         number_valued(1, more),
     ]));
     let begun = 1_000 + 1 + 3 * 1_000;
-    let ended = format!("ended begun {begun} written 0 number 993");
+    let ended = format!("ended begun {begun} written 0 number 993 tips 1 depth 0");
     assert_eq!(line(&program, &left(0), begun), ended);
 }
 
@@ -114,7 +119,7 @@ fn arguments_wait_in_every_open_call() {
         number_valued(1, body),
     ]));
     let begun = 2 + 1_023 * 1_021;
-    let refused = format!("refused 18 0 begun {begun} written 0 number 0");
+    let refused = format!("refused 18 0 begun {begun} written 0 number 0 tips 0 depth 0");
     assert_eq!(line(&program, &left(0), MUCH), refused);
 }
 
@@ -129,13 +134,11 @@ fn results_may_be_deeper_than_the_tree_reader_reads() {
     let result = left(300 * 1_023);
     let (begun, written) = (1_023 * (1 + 300 + 1 + 300 * 2) + 3, result.len());
     let (line, output) = source(&program, &left(1_023), begun as u64, written + 1);
-    assert_eq!(
-        line,
-        format!("ended begun {begun} written {written} number 0")
-    );
+    let ended = format!("ended begun {begun} written {written} number 0 tips 1024 depth 1023");
+    assert_eq!(line, ended);
     assert!(output[..written] == result && output[written] == FILLER);
     let short = source(&program, &left(1_023), MUCH, written - 1);
-    let line = format!("refused 17 0 begun {begun} written 0 number 0");
+    let line = format!("refused 17 0 begun {begun} written 0 number 0 tips 0 depth 0");
     assert_eq!(short, (line, vec![FILLER; written - 1]));
 }
 
@@ -157,6 +160,8 @@ fn the_deepest_trees_are_evaluated() {
             let length = tokens.len();
             let (line, output) = source(&program, &tokens, MUCH, length);
             assert!(line.starts_with("ended "), "{line}");
+            let measured = format!(" tips {} depth {depth}", depth + 1);
+            assert!(line.ends_with(&measured), "{line}");
             assert!(output == tokens, "depth {depth}");
             let _ = lent.answer(&SourceCase::new(&program, &tokens, MUCH, length));
         }

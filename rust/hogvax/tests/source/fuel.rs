@@ -25,6 +25,8 @@ struct Meant {
     /// The expressions begun, and the number given.
     begun: u64,
     given: u64,
+    /// The tips and the depth of the tree.
+    tree: [u64; 2],
 }
 
 impl Meant {
@@ -33,7 +35,7 @@ impl Meant {
         let (file, tokens) = (file(program), tree.tokens());
         let case = SourceCase::new(&file, &tokens, MODERATE, 100_000);
         let gave = lent.answer(&case);
-        let [position, begun, written, given] = gave.slots;
+        let [position, begun, written, given, ..] = gave.slots;
         matches!(gave.number, 0 | 18 | 21).then(|| Meant {
             file,
             tokens,
@@ -42,6 +44,7 @@ impl Meant {
             result: gave.output[..written as usize].to_vec(),
             begun,
             given,
+            tree: [tree.tips(), tree.depth()].map(|count| count as u64),
         })
     }
 
@@ -51,15 +54,15 @@ impl Meant {
     fn with(&self, fuel: u64, room: usize) -> Gave {
         let mut output = vec![FILLER; room];
         let (number, slots) = if fuel < self.begun {
-            (14, [0, fuel, 0, 0])
+            (14, refused_slots(0, fuel))
         } else if self.number != 0 {
-            (self.number, [self.position, self.begun, 0, 0])
+            (self.number, refused_slots(self.position, self.begun))
         } else if room < self.result.len() {
-            (17, [0, self.begun, 0, 0])
+            (17, refused_slots(0, self.begun))
         } else {
             output[..self.result.len()].copy_from_slice(&self.result);
-            let written = self.result.len() as u64;
-            (0, [0, self.begun, written, self.given])
+            let (written, [tips, depth]) = (self.result.len() as u64, self.tree);
+            (0, [0, self.begun, written, self.given, tips, depth])
         };
         Gave {
             number,

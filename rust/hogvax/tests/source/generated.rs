@@ -154,7 +154,10 @@ fn each_damage_to_a_file_gives_its_refusal() {
             let (number, position) = (u32::from(refusal.number), refusal.position as u64);
             match number {
                 11 | 12 => assert!(matches!(gave.number, 0 | 14 | 17 | 18 | 21), "{case:?}"),
-                _ => assert_eq!((gave.number, gave.slots), (number, [position, 0, 0, 0])),
+                _ => assert_eq!(
+                    (gave.number, gave.slots),
+                    (number, refused_slots(position, 0))
+                ),
             }
             seen[number as usize] += 1;
             count += 1;

@@ -12,7 +12,7 @@ const REFUSALS: [u32; 18] = [
 ];
 
 /// The reference's known source runs.
-pub fn all() -> Vec<Known<SourceCase, 4>> {
+pub fn all() -> Vec<Known<SourceCase, SLOTS>> {
     let known = known::all().into_iter().map(|known| Known {
         name: known.name,
         case: known.case,
@@ -80,13 +80,13 @@ fn source<const N: usize>(file: &[u8], input: &[u8], fuel: u64) -> (String, [u8;
 #[test]
 fn grow_on_t() {
     let grown = [2, 1, 6, 0, 0, 0, 1, 8, 0, 0, 0, 9];
-    let line = "ended begun 14 written 11 number 0".to_owned();
+    let line = "ended begun 14 written 11 number 0 tips 2 depth 1".to_owned();
     assert_eq!(source(&grow(), &T, 14), (line, grown));
     for fuel in 0..14 {
-        let line = format!("refused 14 0 begun {fuel} written 0 number 0");
+        let line = format!("refused 14 0 begun {fuel} written 0 number 0 tips 0 depth 0");
         assert_eq!(source(&grow(), &T, fuel), (line, [9; 12]));
     }
-    let line = "refused 17 0 begun 14 written 0 number 0".to_owned();
+    let line = "refused 17 0 begun 14 written 0 number 0 tips 0 depth 0".to_owned();
     assert_eq!(source(&grow(), &T, 14), (line, [9; 10]));
 }
 
@@ -102,7 +102,7 @@ fn right_tree_first() {
     let refused = hogvax::check(&swap).unwrap_err();
     assert_eq!(refused.to_string(), "refused 11 6");
     let swapped = [2, 1, 7, 0, 0, 0, 1, 5, 0, 0, 0];
-    let line = "ended begun 10 written 11 number 0".to_owned();
+    let line = "ended begun 10 written 11 number 0 tips 2 depth 1".to_owned();
     assert_eq!(source(&swap, &T, 10), (line, swapped));
 }
 
@@ -110,7 +110,7 @@ fn right_tree_first() {
 #[test]
 fn a_tree_left_unread() {
     let body = Expr::case(0, Expr::constant(1), call(1));
-    let line = "ended begun 4 written 0 number 1".to_owned();
+    let line = "ended begun 4 written 0 number 1 tips 2 depth 1".to_owned();
     let unread = alone(number_valued(0, body));
     assert_eq!(source(&unread, &T, 4), (line, [9; 1]));
 }
@@ -120,9 +120,9 @@ fn a_tree_left_unread() {
 fn call_0_on_0() {
     for endless in [number_valued(0, call(0)), tree_valued(0, call(0))] {
         let endless = alone(endless);
-        let line = "refused 14 0 begun 1023 written 0 number 0".to_owned();
+        let line = "refused 14 0 begun 1023 written 0 number 0 tips 0 depth 0".to_owned();
         assert_eq!(source(&endless, &T, 1_023), (line, [9; 1]));
-        let line = "refused 18 0 begun 1024 written 0 number 0".to_owned();
+        let line = "refused 18 0 begun 1024 written 0 number 0 tips 0 depth 0".to_owned();
         assert_eq!(source(&endless, &T, 1_024), (line.clone(), [9; 1]));
         assert_eq!(source(&endless, &T, u64::MAX), (line, []));
     }
@@ -137,15 +137,15 @@ fn sum_of_two_leaves_is_out_of_range() {
     let sum = alone(number_valued(0, body));
     let input = [2, 1, 0xff, 0xff, 0xff, 0x7f, 1, 1, 0, 0, 0];
     for fuel in 0..8 {
-        let line = format!("refused 14 0 begun {fuel} written 0 number 0");
+        let line = format!("refused 14 0 begun {fuel} written 0 number 0 tips 0 depth 0");
         assert_eq!(source(&sum, &input, fuel), (line, [9; 3]));
     }
     for fuel in [8, 9, u64::MAX] {
-        let line = "refused 21 4 begun 8 written 0 number 0".to_owned();
+        let line = "refused 21 4 begun 8 written 0 number 0 tips 0 depth 0".to_owned();
         assert_eq!(source(&sum, &input, fuel), (line, [9; 3]));
     }
     // One less is the greatest number.
     let input = [2, 1, 0xfe, 0xff, 0xff, 0x7f, 1, 1, 0, 0, 0];
-    let line = "ended begun 8 written 0 number 2147483647".to_owned();
+    let line = "ended begun 8 written 0 number 2147483647 tips 2 depth 1".to_owned();
     assert_eq!(source(&sum, &input, 8), (line, [9; 3]));
 }

@@ -9,6 +9,7 @@ mod generated;
 mod known;
 #[path = "../shared/known_runs.rs"]
 mod known_runs;
+mod measures;
 mod names;
 mod order;
 #[path = "../shared/run_call.rs"]
@@ -21,7 +22,7 @@ mod sums;
 
 use std::time::{Duration, Instant};
 
-use gave::Gave;
+use gave::{refused_slots, Gave, SLOTS};
 use hogvax::Sourced;
 use reference::generate::sources::MODERATE;
 use reference::machine::{FILLER, RETURN_WORDS, VALUE_WORDS};
@@ -57,7 +58,7 @@ fn tree_valued(parameters: u8, body: Expr) -> Function {
     }
 }
 
-impl RunCall<4> for SourceCase {
+impl RunCall<SLOTS> for SourceCase {
     type Answer = Sourced;
 
     const WRITTEN: usize = 2;

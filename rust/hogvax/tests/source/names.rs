@@ -19,16 +19,19 @@ fn check(lent: &mut Lent, constructed: &Constructed) {
     } = constructed;
     let (written, room) = (bytes.len(), bytes.len() + 3);
     let output = [&bytes[..], &[FILLER; 3]].concat();
+    let tree = reference::tree_measures(tokens).unwrap();
+    let [written, tips, depth] = [written, tree.tips, tree.depth].map(|count| count as u64);
+    let number = i64::from(*number) as u64;
     let expected = Gave {
         number: 0,
-        slots: [0, *begun, written as u64, i64::from(*number) as u64],
+        slots: [0, *begun, written, number, tips, depth],
         output,
         code: vec![],
     };
     let case = SourceCase::new(&file(program), tokens, *begun, room);
     assert_eq!(lent.answer(&case), expected, "{program:?}");
     let gave = lent.call_into(&case.with_fuel(begun - 1));
-    let slots = [0, begun - 1, 0, 0];
+    let slots = refused_slots(0, begun - 1);
     assert_eq!((gave.number, gave.slots), (14, slots), "{program:?}");
 }
 

@@ -48,7 +48,7 @@ fn endless() -> Vec<u8> {
 /// and these slots.
 fn assert_refused(lent: &mut Lent, case: &SourceCase, number: u32, position: u64, begun: u64) {
     let gave = lent.answer(case);
-    let slots = [position, begun, 0, 0];
+    let slots = refused_slots(position, begun);
     assert_eq!((gave.number, gave.slots), (number, slots), "{case:?}");
     assert!(gave.output.iter().all(|&byte| byte == FILLER), "{case:?}");
 }

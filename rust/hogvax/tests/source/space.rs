@@ -37,7 +37,7 @@ fn work_words_that_are_too_few_give_13() {
             if (1..=10).contains(&gave.number) {
                 assert_eq!(short, gave, "{case:?}");
             } else {
-                assert_eq!((short.number, short.slots), (13, [0; 4]), "{case:?}");
+                assert_eq!((short.number, short.slots), (13, [0; SLOTS]), "{case:?}");
                 assert!(short.output.iter().all(|&byte| byte == FILLER));
             }
         }
@@ -77,7 +77,7 @@ fn outputs_that_are_longer() {
 // Answers
 
 #[test]
-fn an_answer_takes_four_slots() {
+fn an_answer_takes_six_slots() {
     for (case, _) in one_of_each() {
         assert_takes_slots(&case, case.lengths());
     }
@@ -90,7 +90,7 @@ fn a_call_refused_before_its_run_touches_nothing_else() {
         if gave.number == 0 {
             for words in SHORT {
                 let lengths = with_words(&case, words).lengths();
-                assert_touches_nothing_else(&case, lengths, 13, [0; 4]);
+                assert_touches_nothing_else(&case, lengths, 13, [0; SLOTS]);
             }
         }
         if ![0, 14, 17, 18, 21].contains(&gave.number) {
@@ -100,7 +100,7 @@ fn a_call_refused_before_its_run_touches_nothing_else() {
 }
 
 #[test]
-fn an_answer_fills_four_places_and_leaves_the_rest() {
+fn an_answer_fills_six_places_and_leaves_the_rest() {
     for (case, expected) in one_of_each() {
         assert_fills_slots(&case, case.lengths(), &expected);
     }

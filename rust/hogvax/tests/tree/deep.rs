@@ -8,8 +8,10 @@ fn node(left: &[u8], right: &[u8]) -> Vec<u8> {
     [&[NODE_TAG], left, right].concat()
 }
 
-fn assert_read(bytes: &[u8]) {
-    assert_answer(bytes, Ok(bytes.len()));
+/// Read whole, as a tree of that depth.
+fn assert_read(bytes: &[u8], depth: usize) {
+    let tips = (bytes.len() + 1) / 6;
+    assert_answer(bytes, read(tips, depth));
     assert_like_reference(bytes).unwrap();
 }
 
@@ -26,7 +28,7 @@ fn caterpillars_about_the_limit() {
             for path in paths(depth) {
                 let bytes = caterpillar(&path);
                 assert_eq!(bytes.len(), 6 * (depth + 1) - 1);
-                assert_read(&bytes);
+                assert_read(&bytes, depth);
             }
         }
         for path in [paths(1_025), paths(1_026), paths(5_000)].concat() {
@@ -41,8 +43,8 @@ fn random_caterpillars_about_the_limit() {
         let mut random = Random::new(15);
         for _ in 0..500 {
             let path = random_path(&mut random, 1_025);
-            assert_read(&caterpillar(&path[..1_023]));
-            assert_read(&caterpillar(&path[..1_024]));
+            assert_read(&caterpillar(&path[..1_023]), 1_023);
+            assert_read(&caterpillar(&path[..1_024]), 1_024);
             assert_too_deep(&caterpillar(&path), end_offset(&path[..1_024]));
         }
     });
@@ -68,7 +70,10 @@ fn what_stands_under_1_024_nodes() {
             let last = offset + 5;
             match path.contains(&Left) {
                 true => assert_answer(&with(&LEAF), refused(15, last)),
-                false => assert_answer(&with(&LEAF), Ok(last)),
+                false => {
+                    assert_eq!(last, 6 * 1_025 - 1);
+                    assert_answer(&with(&LEAF), read(1_025, 1_024));
+                }
             }
         }
     });
@@ -85,9 +90,8 @@ fn the_second_leaf_under_1_024_nodes() {
             assert_too_deep(&[&down[..], &[2, 2, 2]].concat(), offset);
             assert_answer(&[&down[..], &[7]].concat(), refused(16, offset));
             assert_answer(&[&down[..], &LEAF[..4]].concat(), refused(15, offset + 1));
-            assert_read(&tree_along(&path, &node(&LEAF, &LEAF), |_, _| {
-                LEAF.to_vec()
-            }));
+            let whole = tree_along(&path, &node(&LEAF, &LEAF), |_, _| LEAF.to_vec());
+            assert_read(&whole, 1_024);
         }
     });
 }
@@ -101,7 +105,7 @@ fn two_deep_parts_side_by_side() {
             for right in paths(1_024) {
                 let right_offset = 1 + read.len() + end_offset(&right[..1_023]);
                 let (right_read, right_deep) = (caterpillar(&right[..1_023]), caterpillar(&right));
-                assert_read(&node(&read, &right_read));
+                assert_read(&node(&read, &right_read), 1_024);
                 assert_too_deep(&node(&read, &right_deep), right_offset);
                 assert_too_deep(&node(&deep, &right_read), left_offset);
                 assert_too_deep(&node(&deep, &right_deep), left_offset);
@@ -122,7 +126,7 @@ fn down_to_the_limit_beside_every_node() {
                 caterpillar(&paths(length)[above % 12])
             });
             assert_eq!(bytes.len(), 6 * (1_025 + 1_023 * 1_024 / 2) - 1);
-            assert_read(&bytes);
+            assert_read(&bytes, 1_024);
         }
     });
 }
@@ -157,7 +161,7 @@ fn finished_nodes_are_not_open() {
         for depth in [1, 2, 5] {
             for path in paths(1_024) {
                 let beside = |above: usize| balanced(depth.min(1_023_usize.saturating_sub(above)));
-                assert_read(&tree_along(&path, &LEAF, |above, _| beside(above)));
+                assert_read(&tree_along(&path, &LEAF, |above, _| beside(above)), 1_024);
                 let mut after_node = 0;
                 let longer = [&path[..], &[Right]].concat();
                 let bytes = tree_along(&longer, &LEAF, |above, at| {
@@ -178,7 +182,7 @@ fn down_to_the_limit_again_and_again() {
     on_a_small_stack(|| {
         for path in paths(1_016) {
             let bytes = under_a_balanced_top(8, |_| caterpillar(&path));
-            assert_read(&bytes);
+            assert_read(&bytes, 1_024);
             let last = bytes.len() - caterpillar(&path).len();
             let longer = [&path[..], &[Left]].concat();
             let bytes = under_a_balanced_top(8, |number| match number {

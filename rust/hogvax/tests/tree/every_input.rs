@@ -29,16 +29,18 @@ fn every_short_input_is_answered_as_the_reference_does() {
     seen.assert_all_but_too_deep(1_000);
 }
 
-/// The tokens of every shape of so many tips, with the same leaf at each.
-fn every_shape(tips: usize, leaf: [u8; 5]) -> Vec<Vec<u8>> {
+/// The tokens of every shape of so many tips, with the same leaf at each, and its
+/// depth.
+pub fn every_shape(tips: usize, leaf: [u8; 5]) -> Vec<(Vec<u8>, usize)> {
     if tips == 1 {
-        return vec![leaf.to_vec()];
+        return vec![(leaf.to_vec(), 0)];
     }
     let mut shapes = Vec::new();
     for left_tips in 1..tips {
-        for left in every_shape(left_tips, leaf) {
-            for right in every_shape(tips - left_tips, leaf) {
-                shapes.push([&[NODE_TAG], &left[..], &right[..]].concat());
+        for (left, left_depth) in every_shape(left_tips, leaf) {
+            for (right, right_depth) in every_shape(tips - left_tips, leaf) {
+                let tokens = [&[NODE_TAG], &left[..], &right[..]].concat();
+                shapes.push((tokens, 1 + left_depth.max(right_depth)));
             }
         }
     }
@@ -49,9 +51,9 @@ fn every_shape(tips: usize, leaf: [u8; 5]) -> Vec<Vec<u8>> {
 fn every_shape_of_up_to_nine_tips_and_every_cut_of_it() {
     let mut trees = 0;
     for tips in 1..=9 {
-        for bytes in every_shape(tips, LEAF) {
+        for (bytes, depth) in every_shape(tips, LEAF) {
             trees += 1;
-            assert_answer(&bytes, Ok(6 * tips - 1));
+            assert_answer(&bytes, read(tips, depth));
             for length in 0..bytes.len() {
                 assert_like_reference(&bytes[..length]).unwrap_err();
             }
@@ -67,7 +69,7 @@ fn every_shape_of_up_to_nine_tips_with_every_tag_replaced_by_the_other() {
     let mut seen = Seen::default();
     for label in [0x0102_0102, 0x0201_0201, 0x0101_0101, 0x0202_0202, 0] {
         let [a, b, c, d] = i32::to_le_bytes(label);
-        for bytes in (1..=9).flat_map(|tips| every_shape(tips, [1, a, b, c, d])) {
+        for (bytes, _) in (1..=9).flat_map(|tips| every_shape(tips, [1, a, b, c, d])) {
             for offset in tag_offsets(&bytes) {
                 let mut changed = bytes.clone();
                 changed[offset] = LEAF_TAG + NODE_TAG - bytes[offset];
@@ -80,7 +82,7 @@ fn every_shape_of_up_to_nine_tips_with_every_tag_replaced_by_the_other() {
 
 #[test]
 fn every_shape_of_up_to_nine_tips_with_every_tag_replaced_by_no_tag() {
-    for mut bytes in (1..=9).flat_map(|tips| every_shape(tips, LEAF)) {
+    for (mut bytes, _) in (1..=9).flat_map(|tips| every_shape(tips, LEAF)) {
         for offset in tag_offsets(&bytes) {
             let tag = bytes[offset];
             for no_tag in [0, 3, 128 + tag, 255] {

@@ -80,7 +80,10 @@ impl Near {
     fn count(&mut self, input: &[u8]) {
         let answer = assert_like_reference(input);
         self.answers.count(answer);
-        let end = answer.unwrap_or_else(|refused| refused.position as usize);
+        let end = match answer {
+            Ok(measures) => measures.bytes,
+            Err(refused) => refused.position as usize,
+        };
         if deepest_leaf(&input[..end]) == DEPTH_LIMIT {
             match answer.map_err(|refused| refused.number as u8) {
                 Ok(_) => self.read_at_limit += 1,
@@ -121,7 +124,7 @@ fn damage_to_a_tree_of_greatest_depth_is_found() {
         let mut near = Near::default();
         for _ in 0..6_000 {
             let whole = caterpillar(&random_path(&mut random, DEPTH_LIMIT));
-            assert_answer(&whole, Ok(whole.len()));
+            assert_answer(&whole, read(DEPTH_LIMIT + 1, DEPTH_LIMIT));
             near.count(&tag_changed(&mut random, whole.clone()));
             near.count(&damaged(&mut random, whole));
         }

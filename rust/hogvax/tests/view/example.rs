@@ -6,7 +6,7 @@ use std::process::{Command, Output};
 use std::sync::OnceLock;
 
 use reference::generate::{damaged, left_caterpillar, right_caterpillar};
-use reference::{tree_end, Random, DEPTH_LIMIT};
+use reference::{tree_measures, Measures, Random, DEPTH_LIMIT};
 
 use super::compiler::repository;
 use super::*;
@@ -29,9 +29,9 @@ fn run(program: &Path, words: &[&Path]) -> Output {
 fn expected(tokens: &[u8]) -> (String, u8) {
     let (mut text, mut offset) = (String::new(), 0);
     while offset < tokens.len() {
-        match tree_end(&tokens[offset..]) {
-            Ok(bytes) => {
-                text += &format!("offset {offset} bytes {bytes}\n");
+        match tree_measures(&tokens[offset..]) {
+            Ok(Measures { bytes, tips, depth }) => {
+                text += &format!("offset {offset} bytes {bytes} tips {tips} depth {depth}\n");
                 offset += bytes;
             }
             Err(refusal) => {

@@ -5,7 +5,7 @@ use std::process::Command;
 
 use super::*;
 
-/// A line for each input: its name and length, the number and the bytes that
+/// A line for each input: its name and length, the number, bytes, tips and depth that
 /// `hogvax_tree` answers, and how far below the frame of their caller the two calls
 /// wrote. They run on a thread whose stack is known, and filled before each call.
 const TEXT: &str = r#"
@@ -27,7 +27,7 @@ static const uint8_t leaf[] = {1, 5, 0, 0, 0};
 static void *stack;
 static uint8_t *input;
 static size_t length;
-static uint64_t answer[HOGVAX_ANSWER_SLOTS];
+static uint64_t answer[HOGVAX_TREE_SLOTS];
 
 /* Makes a call, and gives how far below this frame it wrote. */
 static int used(int bytes_alone) {
@@ -38,7 +38,7 @@ static int used(int bytes_alone) {
     if (bytes_alone) {
         hogvax_tree_bytes(input, length);
     } else {
-        hogvax_tree(input, length, answer, HOGVAX_ANSWER_SLOTS);
+        hogvax_tree(input, length, answer, HOGVAX_TREE_SLOTS);
     }
     for (lowest = stack; lowest < end && *lowest == FILLER; lowest++) {
     }
@@ -46,9 +46,10 @@ static int used(int bytes_alone) {
 }
 
 static void *measure(void *name) {
-    int number = (int)hogvax_tree(input, length, answer, HOGVAX_ANSWER_SLOTS);
-    printf("%s, %d bytes: %d %d, %d %d\n", (const char *)name, (int)length, number,
-           (int)answer[HOGVAX_BYTES], used(0), used(1));
+    int number = (int)hogvax_tree(input, length, answer, HOGVAX_TREE_SLOTS);
+    printf("%s, %d bytes: %d %d %d %d, ", (const char *)name, (int)length, number,
+           (int)answer[HOGVAX_BYTES], (int)answer[HOGVAX_TIPS], (int)answer[HOGVAX_DEPTH]);
+    printf("%d %d\n", used(0), used(1));
     return NULL;
 }
 
@@ -129,16 +130,16 @@ int main(void) {
 
 /// What is printed before the last comma.
 const ANSWERS: [&str; 10] = [
-    "leaf, 5 bytes: 0 5",
-    "full, 100663295 bytes: 0 100663295",
-    "left, 6149 bytes: 0 6149",
-    "right, 6149 bytes: 0 6149",
-    "too deep, 6155 bytes: 20 0",
-    "too deep, 6155 bytes: 20 0",
-    "too deep, 6154 bytes: 20 0",
-    "broken, 6148 bytes: 15 0",
-    "no tag, 6148 bytes: 16 0",
-    "none, 0 bytes: 15 0",
+    "leaf, 5 bytes: 0 5 1 0",
+    "full, 100663295 bytes: 0 100663295 16777216 24",
+    "left, 6149 bytes: 0 6149 1025 1024",
+    "right, 6149 bytes: 0 6149 1025 1024",
+    "too deep, 6155 bytes: 20 0 0 0",
+    "too deep, 6155 bytes: 20 0 0 0",
+    "too deep, 6154 bytes: 20 0 0 0",
+    "broken, 6148 bytes: 15 0 0 0",
+    "no tag, 6148 bytes: 16 0 0 0",
+    "none, 0 bytes: 15 0 0 0",
 ];
 
 const PAGE: &str = include_str!("../../../../docs/CALLING.md");

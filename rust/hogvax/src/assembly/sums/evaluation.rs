@@ -282,8 +282,8 @@ impl Evaluation<'_> {
             Start::At(start) => Some(start),
             Start::After(left) if left == self.passed.0 => Some(self.passed.1),
             Start::After(left) => {
-                let length = crate::tree(self.tokens.get(left..)?).ok()?;
-                Some(left + length)
+                let measures = crate::tree(self.tokens.get(left..)?).ok()?;
+                Some(left + measures.bytes)
             }
         }
     }

@@ -89,9 +89,9 @@ fn draw(file: &OsStr, words: &Words) -> Outcome {
         false => Strokes::Lines,
     };
     let mut trees = Trees::open(file)?;
-    let tree = trees.tree(number)?;
-    match tree.and_then(|tree| Drawing::new(tree, width, strokes)) {
-        Ok(drawing) => {
+    match trees.tree(number)? {
+        Ok((tokens, measures)) => {
+            let drawing = Drawing::measured(tokens, measures, width, strokes);
             output::print_long(&drawing)?;
             Ok(Ended::Done)
         }

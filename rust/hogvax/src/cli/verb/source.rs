@@ -20,17 +20,18 @@ translates nothing. PROGRAM is a program file or a text, as in 'hogvax help
 assemble'. The program need not take its trees in order, so it may be one that
 'hogvax check' refuses with 11 or 12. A tree that it gives goes to standard
 output or into the file of --out, as tokens; a number goes there as text, on a
-line of its own. On standard error it prints 'ended begun B written W number X':
-the expressions begun, the bytes written, and the number, 0 if the program gives
-a tree. Bytes after the tree in FILE are not looked at.
+line of its own. On standard error it prints 'ended begun B written W number X
+tips T depth D', on one line: the expressions begun, the bytes written, the
+number, 0 if the program gives a tree, and the tips and the depth of the tree in
+FILE, as in 'hogvax help tree'. Bytes after that tree are not looked at.
 
 If the program, the input or the run is refused, it writes no data and prints
-'refused NUMBER POSITION begun B written 0 number 0' on standard error. The
-number is 1 to 10 if the program is refused, as in 'hogvax help check', and 15,
-16 or 20 if no tree begins FILE, as in 'hogvax help tree'; B is then 0. It is 14
-if the fuel is used up, 18 if too many calls are open and 17 if the output is
-shorter than the result, and the position is then 0. It is 21 if a sum is out of
-range, at the record of the Add. 'hogvax why NUMBER' says more.
+'refused NUMBER POSITION begun B written 0 number 0 tips 0 depth 0' on standard
+error. The number is 1 to 10 if the program is refused, as in 'hogvax help
+check', and 15, 16 or 20 if no tree begins FILE, as in 'hogvax help tree'; B is
+then 0. It is 14 if the fuel is used up, 18 if too many calls are open and 17 if
+the output is shorter than the result, and the position is then 0. It is 21 if a
+sum is out of range, at the record of the Add. 'hogvax why NUMBER' says more.
 
 What is wrong with a text is said on standard error, too, with line and column.
 A text that can't be read is 'refused FILE:LINE:COLUMN:' and what is wrong.
@@ -48,7 +49,7 @@ PROGRAM or FILE may be standard input, '-', but not both.
 
 Example:
   $ ./hogvax source samples/programs/swap.program samples/small.tokens --out out
-  ended begun 10 written 11 number 0
+  ended begun 10 written 11 number 0 tips 2 depth 1
 ",
     run,
 };

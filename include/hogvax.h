@@ -49,13 +49,15 @@
  *   HOGVAX_POSITION and HOGVAX_BYTES. Slots after them are untouched.
  * - With fewer slots the call returns HOGVAX_SPACE_TOO_SHORT, whatever else is
  *   wrong, and touches no buffer. HOGVAX_ANSWER_SLOTS are enough for every call
- *   that is no run.
+ *   other than a run.
  * - Later versions may append slots, and these constants then grow; no slot
  *   gets another meaning. So use the constants, and compile again for another
  *   version of the library: one that needs more slots than it is lent returns
  *   HOGVAX_SPACE_TOO_SHORT, as above. A program that was compiled when
- *   HOGVAX_ANSWER_SLOTS was 2 and HOGVAX_SOURCE_SLOTS was 4 need only be compiled
- *   again: tips and depth stand in slots that were not there before.
+ *   HOGVAX_ANSWER_SLOTS was 2 and HOGVAX_SOURCE_SLOTS was 4 must be compiled
+ *   again. Look at its arrays first: each must have as many slots as the call is
+ *   lent. HOGVAX_SOURCE_SLOTS is the greatest of these constants now;
+ *   HOGVAX_RUN_SLOTS was.
  *
  * Numbers of several bytes have their low byte first in every buffer of bytes.
  */
@@ -102,8 +104,8 @@ extern "C" {
 #define HOGVAX_RUN_SLOTS 5
 #define HOGVAX_SOURCE_SLOTS 6
 
-/* As many slots as any call needs that is no run; all but hogvax_tree fill the
- * first two. */
+/* Enough slots for any call other than a run; all of these but hogvax_tree fill
+ * the first two only. */
 #define HOGVAX_ANSWER_SLOTS 4
 
 /* ---- Slots of an answer */
@@ -189,8 +191,8 @@ enum hogvax_refusal {
 size_t hogvax_tree_bytes(const uint8_t *input, size_t input_len);
 
 /* Finds the end of the tree that begins `input`: HOGVAX_BYTES is its length, and
- * HOGVAX_TIPS and HOGVAX_DEPTH are its tips and its depth, so that nobody need go
- * through the tree again for these.
+ * HOGVAX_TIPS and HOGVAX_DEPTH are its tips and its depth, so a caller need not
+ * walk the tree for them.
  *
  * Refused with 15 at the start of the tag or label that is not whole, or with 16
  * or 20 at the tag; bytes, tips and depth are then 0. Bytes after the tree do not

@@ -12,7 +12,8 @@ ghost use Rattle.refusal.specs.Inner.Verdicts.{verdictResult};
 ghost use Rattle.answers.specs.Inner.Stores.{Stored, Stores};
 ghost use Rattle.answers.specs.Answer.{answerSlots, Answers};
 
-// How many slots an answer takes. Slots that a later version adds come after these.
+// How many slots an answer of position and bytes takes. (`HOGVAX_ANSWER_SLOTS` of the header is
+// larger: it is enough for `hogvax_tree`, too.) Slots that a later version adds come after these.
 const ANSWER_SLOTS: usize = 2;
 
 // Whether the answer array has all slots.

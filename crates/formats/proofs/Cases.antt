@@ -11,7 +11,7 @@ use Rattle.formats.specs.Arithmetic.{plus, unbounded, wordFor, resultOf}
 use Rattle.formats.specs.Written.{written}
 use Rattle.formats.specs.Measures.{Measures, measuresOf, firstMeasures, measuresOr0}
 use Rattle.formats.specs.Inner.Trees.{labelEnd, endByTag, endAt, measuresBy}
-use Rattle.formats.specs.Tokens.{Tree, leaf, node, tips, depth, nodeTag, mostDepth, tokens, tagOf, tagAt, labelAt, branchesAt, treeByTag, treeAt, firstTree, ownBytes, endFrom, firstEnd}
+use Rattle.formats.specs.Tokens.{Tree, leaf, node, tips, depth, nodeTag, tokens, tagOf, tagAt, labelAt, branchesAt, treeByTag, treeAt, firstTree, ownBytes, endFrom, firstEnd}
 use Rattle.formats.specs.Results.{done, refusal}
 
 -- tree T (01, Worked programs), and its bytes 02 01 05 00 00 00 01 07 00 00 00

@@ -3,7 +3,7 @@
 -- (`Look`), and whether the label is whole. `end-of-tree`: with labels of 4 bytes these are of the
 -- tree that is read; `measures-first`: so are the first tree's measures. `read-by` and `stopped-by`
 -- lead back from the measures, or the refusal, to that tree.
-use Prim.Native.Nat.{ℕ, zero, suc, _+_, _*_, _/_, _≤_, _<_, max}
+use Prim.Native.Nat.{ℕ, zero, suc, _+_, _/_, _≤_, _<_, max}
 use mathlib.Core.Bool.{Bool, true, false}
 use mathlib.Core.List.{List, [], _++_}
 use mathlib.Core.Path.{_≡_, refl, sym, ap, ap₂, _∙_}

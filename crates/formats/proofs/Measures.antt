@@ -1,8 +1,8 @@
 -- The proof of the statement of specs/Measures: what the tree reader gives together with a tree's
 -- end.
-use Prim.Native.Nat.{ℕ, zero, suc, _+_, _*_, _-_, _≤_, max, zero-le}
+use Prim.Native.Nat.{ℕ, zero, suc, _*_, _-_, _≤_, max, zero-le}
 use mathlib.Core.List.{List, _++_}
-use mathlib.Core.Path.{_≡_, refl, sym, ap, subst, _∙_}
+use mathlib.Core.Path.{_≡_, refl, sym, ap}
 use native.Mathlib.Decide.{decLe}
 use native.Mathlib.Nat.{zero-add, max-eq-left, max-eq-right}
 use native.Mathlib.Omega.{arith}
@@ -10,7 +10,7 @@ use lib.ListN.{length}
 use Rattle.formats.specs.Numbers.{Bytes}
 use Rattle.formats.specs.Results.{Result, done, refusal, onValue}
 use Rattle.formats.specs.Tokens.{Tree, leaf, node, tips, depth, tokens, mostDepth, firstTree, endFrom, firstEnd}
-use Rattle.formats.specs.Measures.{Measures, measuresOf, firstMeasures, noMeasures, measuresOr0, LeafUnder, here, in-left, in-right, TreeMeasures}
+use Rattle.formats.specs.Measures.{Measures, measuresOf, firstMeasures, measuresOr0, LeafUnder, here, in-left, in-right, TreeMeasures}
 use Rattle.formats.proofs.Tokens.{six-a-tip}
 use Rattle.formats.proofs.Reader.{tree-reader}
 use Rattle.formats.proofs.Endings.{read-by}

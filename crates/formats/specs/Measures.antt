@@ -33,8 +33,8 @@ unfoldable pub measuresOr0 : Result Measures → Measures
 measuresOr0 (done m) = m
 measuresOr0 (refusal number position) = noMeasures
 
--- The tree has a leaf with so many nodes above it.
-pub data LeafUnder : ℕ → Tree → Type 0 where
+-- A leaf of the tree has n nodes above it.
+pub data LeafUnder : (n : ℕ) → Tree → Type 0 where
   here : {x : ℕ} → LeafUnder 0 (leaf x)
   in-left : {n : ℕ} {l r : Tree} → LeafUnder n l → LeafUnder (suc n) (node l r)
   in-right : {n : ℕ} {l r : Tree} → LeafUnder n r → LeafUnder (suc n) (node l r)

@@ -1,10 +1,10 @@
 -- The proof of the statement of specs/SourceMeasures: what a source run passes on of its tree.
 use Prim.Native.Nat.{ℕ}
 use mathlib.Core.List.{List}
-use mathlib.Core.Path.{_≡_, refl, sym, ap, ap₂, _∙_}
+use mathlib.Core.Path.{_≡_, refl, ap, ap₂}
 use Rattle.formats.specs.Results.{Result, done, refusal}
 use Rattle.formats.specs.Tokens.{Tree, firstTree}
-use Rattle.formats.specs.Measures.{Measures, measuresOf, firstMeasures, noMeasures, measuresOr0}
+use Rattle.formats.specs.Measures.{measuresOf, noMeasures, measuresOr0}
 use Rattle.formats.proofs.Measures.{of-tree}
 use Rattle.formats.proofs.Results.{done-not}
 use Rattle.meaning.specs.SourceRun.{SourceInput, checkSource, sourceRun, unlessRefused, passedOn}

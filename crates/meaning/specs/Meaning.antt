@@ -259,8 +259,8 @@ pub record Passed (file input : List ℕ) (values returns : ℕ) (program : Prog
   pub return-space : returnWords ≤ returns
   pub reads : firstTree input ≡ done t
 
--- A call that ended: every field of its answer, and every byte of the output. (Of N5 and what it
--- adds to the answer speaks specs/SourceMeasures.)
+-- A call that ended: every field of its answer, and every byte of the output. (What N5 adds to the
+-- answer is stated in specs/SourceMeasures.)
 pub record EndedWith (n : ℕ) (v : Value) (output : List ℕ) (ran : SourceRan) : Type 0 where
   pub outcome : ran .answer .outcome ≡ done tt
   pub expressions : ran .answer .begun ≡ n

@@ -10,7 +10,7 @@ use Rattle.formats.specs.Measures.{Measures, measuresOf, noMeasures}
 use Rattle.meaning.specs.SourceRun.{sourceRun, passedOn}
 use Rattle.meaning.specs.Meaning.{Passed}
 
--- A program and a tree that pass every check before the evaluation, and m are the tree's measures.
+-- A program and a tree that pass every check before the evaluation; m holds the tree's measures.
 pub record MeasuredTree (file input : List ℕ) (values returns : ℕ) (m : Measures) : Type 0 where
   pub program : Program
   pub tree : Tree

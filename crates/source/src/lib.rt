@@ -32,7 +32,7 @@ const VALUE_WORDS: usize = 16384;
 const RETURN_WORDS: usize = 2048;
 
 // What a source run answers: ended or refused, expressions begun, bytes written, the number, and
-// what the reader measured of the tree; nothing of it where the run is refused.
+// the tree's measures, all 0 where the run is refused.
 pub struct SourceAnswer {
     pub verdict: Verdict,
     pub begun: u64,
@@ -174,18 +174,9 @@ fn run_records(
     let tree = tree::tree_answer(input);
     match tree {
         TreeAnswer::Refused(why, position) => refused(why, position, 0),
-        TreeAnswer::Tree(measures) => {
+        TreeAnswer::Tree(found) => {
             let first = first_node(flat);
-            evaluate(
-                &table,
-                input,
-                measures,
-                first,
-                fuel,
-                output,
-                values,
-                returns,
-            )
+            evaluate(&table, input, found, first, fuel, output, values, returns)
         }
     }
 }

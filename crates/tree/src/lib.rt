@@ -36,7 +36,7 @@ pub enum TreeAnswer {
     Refused(Refusal, usize),
 }
 
-// What is answered where there is no tree, or where its run is refused.
+// What is answered where there is no tree, or where the source run is refused.
 pub fn no_measures() -> Measures
     ensures { λ r. ⌜ measured r ≡ noMeasures ⌝ }
 {
@@ -138,7 +138,10 @@ pub fn first_tree(input: &[u8]) -> &[u8]
 {
     let found = tree_answer(input);
     match found {
-        TreeAnswer::Tree(measures) => &input[..measures.bytes],
+        TreeAnswer::Tree(measures) => {
+            let end = measures.bytes;
+            &input[..end]
+        }
         TreeAnswer::Refused(why, position) => &input[..0],
     }
 }

@@ -1,7 +1,7 @@
 -- A law for each way out of `tree`.
 use Prim.Native.Nat.{ℕ}
 use mathlib.Core.List.{List}
-use mathlib.Core.Path.{_≡_, refl, sym, ap, subst, _∙_}
+use mathlib.Core.Path.{_≡_, sym, ap, subst, _∙_}
 use Rattle.formats.specs.Measures.{Measures, noMeasures, measuresOr0}
 use Rattle.formats.specs.Results.{Result, done, refusal}
 use Rattle.refusal.specs.declared.Refusal.{Refusal}

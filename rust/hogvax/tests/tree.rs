@@ -26,7 +26,7 @@ const T: [u8; 11] = [2, 1, 5, 0, 0, 0, 1, 7, 0, 0, 0];
 
 type Answer = Result<Measures, Refused>;
 
-/// A tree of so many tips is read. N5: "An accepted tree's bytes must equal 6
+/// A tree of `tips` tips is read. N5: "An accepted tree's bytes must equal 6
 /// times the tips less 1."
 fn read(tips: usize, depth: usize) -> Answer {
     let bytes = 6 * tips - 1;

@@ -102,6 +102,22 @@ fn by_splits(random: &mut Random, tips: usize, split: fn(&mut Random, usize) -> 
     Tree::from_prefix(&tokens).expect("every split leaves tips on both sides")
 }
 
+/// Every shape of `tips` tips, each once, with label 1 at every leaf.
+pub fn shapes(tips: usize) -> Vec<Tree> {
+    if tips == 1 {
+        return vec![Tree::leaf(1)];
+    }
+    let mut all = Vec::new();
+    for left_tips in 1..tips {
+        let rights = shapes(tips - left_tips);
+        for left in shapes(left_tips) {
+            let with_left = |right: &Tree| Tree::node(left.clone(), right.clone());
+            all.extend(rights.iter().map(with_left));
+        }
+    }
+    all
+}
+
 /// A byte that is often a tag, sometimes nearly one.
 pub fn tag_like_byte(random: &mut Random) -> u8 {
     match random.below(16) {

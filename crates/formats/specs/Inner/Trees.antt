@@ -36,7 +36,7 @@ endByTag width above s p deepest below =
     ]
 
 -- The end of the tree that begins at offset p, under `above` nodes, with labels of `width` bytes,
--- and room for so many nodes above its leaves: the right tree begins where the left one ends, and
+-- and room for `room` nodes above its leaves: the right tree begins where the left one ends, and
 -- the deepest leaf is sought on from the deepest one before. With a width of 4 it is the end of the
 -- tree that `treeAt` reads (`end-of-tree`); with 0 the buffer is tags alone.
 unfoldable pub endAt : (width room above : ℕ) → List ℕ → (p deepest : ℕ) → Result Ending

@@ -27,7 +27,7 @@ use Rattle.source.specs.declared.SourceAnswer.{SourceAnswer}
 abbrev pub sourceAnswer : SourceAnswer → Due
 sourceAnswer a = record { outcome = verdictResult (a .verdict); begun = a .begun; bytesWritten = a .written; number = a .number }
 
--- The answer of a run that is refused after so many expressions.
+-- The answer of a run that is refused after `begun` expressions.
 pub record RefusedAs (number position begun : ℕ) (r : SourceAnswer) : Type 0 where
   pub answer : sourceAnswer r ≡ record { outcome = refusal number position; begun = begun; bytesWritten = 0; number = 0 }
   pub measures : measured (r .measures) ≡ noMeasures

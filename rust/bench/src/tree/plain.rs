@@ -23,8 +23,8 @@ fn refuse(number: u32, position: usize) -> Answer {
     Err(Refused { number, position })
 }
 
-/// The measures of the tree whose tokens end here, with so many nodes above its
-/// deepest leaf. A tree of n tips has n - 1 nodes: 6n - 1 bytes.
+/// The measures of a tree of `bytes` bytes whose deepest leaf is under `depth` nodes.
+/// A tree of n tips has n - 1 nodes: 6n - 1 bytes.
 fn measures(bytes: usize, depth: usize) -> Answer {
     let tips = (bytes + 1) / 6;
     Ok(Measures { bytes, tips, depth })
@@ -54,9 +54,9 @@ struct Found {
     deepest: usize,
 }
 
-/// The part that begins at `at`, with so many nodes above it, and above the deepest
-/// leaf before it. The right part of a node comes last, so that the compiler can make
-/// a loop of it.
+/// The part that begins at `at`, under `above` nodes; the deepest leaf before it is
+/// under `deepest` nodes. The right part of a node comes last, so that the compiler can
+/// make a loop of it.
 fn part_by_recursion(input: &[u8], at: usize, above: usize, deepest: usize) -> Found {
     let refused = Found {
         end: usize::MAX - at,

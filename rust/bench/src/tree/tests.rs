@@ -1,7 +1,7 @@
 //! The plain readers are right, so that a comparison with them means something.
 
-use reference::generate::{damaged, mixed_caterpillar, tag_like_bytes, tree};
-use reference::{Random, DEPTH_LIMIT};
+use reference::generate::{self, damaged, mixed_caterpillar, tag_like_bytes, tree};
+use reference::{Random, Tree, DEPTH_LIMIT};
 
 use super::*;
 
@@ -54,28 +54,12 @@ fn they_stop_at_every_cut() {
     assert_eq!((measures.bytes, measures.tips), (bytes.len(), 100));
 }
 
-/// Every shape of so many tips, as tokens.
-fn every_shape(tips: usize) -> Vec<Vec<u8>> {
-    if tips == 1 {
-        return vec![vec![1, 7, 0, 0, 0]];
-    }
-    let mut shapes = Vec::new();
-    for left_tips in 1..tips {
-        for left in every_shape(left_tips) {
-            for right in every_shape(tips - left_tips) {
-                shapes.push([&[2], &left[..], &right[..]].concat());
-            }
-        }
-    }
-    shapes
-}
-
 /// The deepest leaf is the first, the last, or between them; bytes after the tree
 /// change nothing.
 #[test]
 fn they_measure_every_shape_of_up_to_nine_tips() {
     for tips in 1..=9 {
-        for bytes in every_shape(tips) {
+        for bytes in generate::shapes(tips).iter().map(Tree::tokens) {
             let alone = assert_like_reference(&bytes).unwrap();
             assert_eq!((alone.bytes, alone.tips), (6 * tips - 1, tips));
             let longer = [&bytes[..], &[2, 1, 0]].concat();

@@ -57,9 +57,9 @@ impl Drawing<'_> {
         Ok(Drawing::measured(tokens, measures, width, strokes))
     }
 
-    /// As [`new`](Drawing::new), where [`tree`](crate::tree) gave these measures
-    /// for the same tokens: they are not read again. Panics where there are fewer
-    /// tokens than that.
+    /// As [`new`](Drawing::new), with the measures that [`tree`](crate::tree) gave
+    /// for the same tokens, so the tree reader is not called again. Panics if
+    /// `tokens` is shorter than `measures.bytes`.
     pub fn measured(
         tokens: &[u8],
         measures: Measures,

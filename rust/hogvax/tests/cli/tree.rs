@@ -26,8 +26,8 @@ fn tree_prints_tips_and_depth() {
     ] {
         let tokens = run_on(&["tokens"], newick.as_bytes()).stdout;
         assert_says(&run_on(&["tree"], &tokens), 0, line);
-        let behind = [&tokens[..], &tokens[..], &[2, 2, 2]].concat();
-        assert_says(&run_on(&["tree"], &behind), 0, line);
+        let longer = [&tokens[..], &tokens[..], &[2, 2, 2]].concat();
+        assert_says(&run_on(&["tree"], &longer), 0, line);
     }
 }
 
@@ -69,8 +69,8 @@ fn tree_reads_long_trees() {
     assert_eq!(tree.len(), length);
     let answer = format!("tree {length} tips 524288 depth 19\n");
     assert_says(&run_on(&["tree"], &tree), 0, &answer);
-    let behind = [&tree[..], &[3; 3]].concat();
-    assert_says(&run_on(&["tree"], &behind), 0, &answer);
+    let longer = [&tree[..], &[3; 3]].concat();
+    assert_says(&run_on(&["tree"], &longer), 0, &answer);
     let (short, position) = (&tree[..length - 1], length - 4);
     let refused = format!("refused 15 {position}\n");
     assert_says(&run_on(&["tree"], short), 1, &refused);

@@ -19,8 +19,8 @@ fn alone(function: Function) -> Vec<u8> {
     file(&Program::new(vec![function]))
 }
 
-/// The tree that is told by its tags: `*` for a node, `.` for a leaf.
-fn told(tags: &str) -> Tree {
+/// The tree with these tags: `*` for a node, `.` for a leaf.
+fn from_tags(tags: &str) -> Tree {
     let token = |tag| match tag {
         '*' => Token::Node,
         _ => Token::Leaf(7),
@@ -34,12 +34,12 @@ fn told(tags: &str) -> Tree {
 fn trees() -> Vec<(Tree, usize, usize)> {
     let mut random = Random::new(470);
     vec![
-        (told("."), 1, 0),
-        (told("*.."), 2, 1),
-        (told("**..."), 3, 2),
-        (told("*.*.."), 3, 2),
-        (told("**.*..."), 4, 3),
-        (told("*.***...*.."), 6, 4),
+        (from_tags("."), 1, 0),
+        (from_tags("*.."), 2, 1),
+        (from_tags("**..."), 3, 2),
+        (from_tags("*.*.."), 3, 2),
+        (from_tags("**.*..."), 4, 3),
+        (from_tags("*.***...*.."), 6, 4),
         (balanced(&mut random, 1 << 10), 1 << 10, 10),
         (mixed_caterpillar(&mut random, 300), 301, 300),
         (mixed_caterpillar(&mut random, 1_024), 1_025, 1_024),

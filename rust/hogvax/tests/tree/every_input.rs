@@ -29,7 +29,7 @@ fn every_short_input_is_answered_as_the_reference_does() {
     seen.assert_all_but_too_deep(1_000);
 }
 
-/// The tokens of every shape of so many tips, with the same leaf at each, and its
+/// The tokens of every shape of `tips` tips, with the same leaf at each, and its
 /// depth.
 pub fn every_shape(tips: usize, leaf: [u8; 5]) -> Vec<(Vec<u8>, usize)> {
     if tips == 1 {

@@ -7,8 +7,8 @@ use super::every_input::every_shape;
 use super::paths::*;
 use super::*;
 
-/// The tokens of a tree that is told by its tags: `*` for a node, `.` for a leaf.
-fn told(tags: &str) -> Vec<u8> {
+/// The tokens of the tree with these tags: `*` for a node, `.` for a leaf.
+fn from_tags(tags: &str) -> Vec<u8> {
     let token = |tag| match tag {
         '*' => vec![NODE_TAG],
         _ => LEAF.to_vec(),
@@ -35,12 +35,12 @@ fn known_trees_have_their_tips_and_depth() {
         ("**.**....", 5, 4),
         ("*.***...*..", 6, 4),
     ] {
-        let tokens = told(tags);
+        let tokens = from_tags(tags);
         assert_answer(&tokens, read(tips, depth));
         assert_like_reference(&tokens).unwrap();
         // Another tree after it, and the start of one.
         for after in [".", "*..", "**", "*.***...*.."] {
-            let input = [&tokens[..], &told(after)].concat();
+            let input = [&tokens[..], &from_tags(after)].concat();
             assert_answer(&input, read(tips, depth));
         }
     }
@@ -60,7 +60,7 @@ fn leaf_depths(tree: &[u8]) -> Vec<usize> {
 }
 
 /// Tips and depth that a reader answers for a tree with such leaf depths, in an
-/// input of so many bytes.
+/// input of this length.
 type Reader = fn(&[usize], usize) -> (usize, usize);
 
 /// Wrong readers.

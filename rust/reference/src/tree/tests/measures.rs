@@ -55,22 +55,6 @@ fn a_lone_leaf_has_depth_0() {
     }
 }
 
-/// The tokens of all shapes with so many tips, every label 1.
-fn shapes(tips: usize) -> Vec<Vec<Token>> {
-    if tips == 1 {
-        return vec![vec![Token::Leaf(1)]];
-    }
-    let mut all = Vec::new();
-    for left in 1..tips {
-        let rights = shapes(tips - left);
-        for left in shapes(left) {
-            let trees = rights.iter().map(|right| [&left[..], right].concat());
-            all.extend(trees.map(|parts| [vec![Token::Node], parts].concat()));
-        }
-    }
-    all
-}
-
 /// As N14 counts them, "5 for four tips, 4,862 for ten". The deepest of n
 /// tips, from 2 on, have n - 2 nodes under the first, each at one of two
 /// sides.
@@ -78,11 +62,10 @@ fn shapes(tips: usize) -> Vec<Vec<Token>> {
 fn all_small_shapes() {
     let counts = [1, 1, 2, 5, 14, 42, 132, 429, 1_430, 4_862];
     for (tips, count) in (1..).zip(counts) {
-        let all = shapes(tips);
+        let all = generate::shapes(tips);
         assert_eq!(all.len(), count);
         let mut deepest = 0;
-        for tokens in all {
-            let tree = Tree::from_prefix(&tokens).expect("a tree");
+        for tree in all {
             assert_eq!(tree.tips(), tips);
             assert_measured(&tree.tokens(), tips, tree.depth());
             deepest += usize::from(tree.depth() == tips - 1);
@@ -123,8 +106,9 @@ fn depth_1024_is_reported() {
     assert_refused(&tree.tokens(), 20, last_node_tag(&tree));
 }
 
-/// Two leaves, then for each side so many nodes about them with two leaves at
-/// that side: the left ones lie around the right ones, or these around them.
+/// Two leaves, with `left` nodes about them that have two leaves at the left, and
+/// `right` nodes that have two at the right: the left ones are outside, or the right
+/// ones.
 fn about(left: usize, right: usize, left_outside: bool) -> Tree {
     let two = || node(leaf(1), leaf(2));
     let to_left = |tree| (0..left).fold(tree, |tree, _| node(two(), tree));

@@ -31,6 +31,8 @@ a_deepest (node l r) = of_deeper l r (a_deepest l) (a_deepest r)
 no_deeper : (t : Tree) (n : ℕ) → LeafUnder n t → n ≤ depth t
 unfolding depth
 no_deeper (leaf x) zero here = zero-le
+no_deeper (leaf x) (suc n) u = elim u [ ]
+no_deeper (node l r) zero u = elim u [ ]
 no_deeper (node l r) (suc n) (in_left u) = let h = no_deeper l n u in omega arith
 no_deeper (node l r) (suc n) (in_right u) = let h = no_deeper r n u in omega arith
 

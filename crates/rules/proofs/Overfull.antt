@@ -53,6 +53,7 @@ module _ (gs : List Signature) where
   which (later (all_three e t h) f) = after_it t f
 
   nowhere : {r : ℕ} (xs : List Entry) → xs ≡ [] → FirstFails gs xs too_many_words r → ⊥
+  nowhere [] e f = elim f [ ]
   nowhere (x ∷ xs) e f = let z : suc (length xs) ≡ 0 = ap length e in omega arith
 
   -- at a record where the words are tested one more is too many; other records do not fail so

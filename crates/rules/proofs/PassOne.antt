@@ -63,6 +63,7 @@ module _ (gs : List Signature) where
 
   fails_first : (xs : List Entry) (number r : ℕ) → FirstFails gs xs number r → pass_over gs xs ≡ refusal number r
   unfolding pass_over
+  fails_first [] number r h = elim h [ ]
   fails_first (x ∷ xs) number r (here f) = then_refused _ (fails_says f)
   fails_first (x ∷ xs) number r (later h f) = then_done _ (holds_says h) ∙ fails_first xs number r f
 

@@ -50,6 +50,7 @@ in_names c (t ∷ ss) (named (suc j) h e) = there (in_names (suc c) ss (named j 
 -- .. and no others
 names-in : (c : ℕ) (ss : List Signature) {x : Binding} → In x (function_names c ss) → Named c ss x
 unfolding nth function_names
+names-in c [] h = elim h [ ]
 names-in c (s ∷ ss) here = named {b = c} 0 (omega arith) refl
 names-in c (s ∷ ss) (there i) = further (names-in (suc c) ss i)
   where
@@ -220,6 +221,7 @@ called : {gs : List Signature} {g n a b : ℕ} {xs : Args} {Δ : List ℕ} {Δ' 
     → ((σ : Ty) → Curried σ → (Θ : List Name) → Spine (env_of gs g) g n (name (tree_name a)) τ xs σ Θ → Trees Δ Θ → Applies gs g n Δ σ xs a τ)
     → Types gs g n Δ (call a b xs) τ
 called {gs} {g} (headed (Judges.T-Var2 i) s) t d = call_typed (known gs g i) (λ c. d _ c _ s t)
+called (headed Judges.T-Var1 s) t d = elim s [ ]
 
 tree_applied : {gs : List Signature} {g n a : ℕ} {Δ : List ℕ} {σ τ : Ty} → TypesName Δ a σ → Applies gs g n Δ (arrow σ τ) no_args a τ
 tree_applied TypesName.T-Var1 = to_tree TypesName.T-Var1
@@ -234,8 +236,8 @@ split {gs} {g} {n} {e} {τ} t both = apart (λ l. Types gs g n l e τ) _ _ t bot
 no_more : {Γ : List Binding} {g n : ℕ} {N : Term} {τ : Ty} {xs : Args} {Δ : List Name} (s : Sort) → Spine Γ g n N τ xs (result_type s) Δ
     → ⊥
 unfolding result_type
-no_more number_valued = elim [ ]
-no_more tree_valued = elim [ ]
+no_more number_valued s = elim s [ ]
+no_more tree_valued s = elim s [ ]
 
 -- an expression by its term's one rule, and arguments one after the other
 mutual
@@ -253,6 +255,7 @@ mutual
   typed {gs} {g} (case_of a p q) (Judges.T-Case d i j k) t =
       split t (λ Θ₁ Θ₂ l r. Types.T-Case (tree_typed gs g i l) (typed p j r) (typed q k (more (more r))))
   typed (call a b xs) j t = called (head_of xs (name (function_name b)) j) t (λ σ c Θ s t. typed_args xs c s t)
+  typed (var a) Judges.T-Var1 t = elim t [ ]
 
   typed_args : {gs : List Signature} {g n a : ℕ} {Δ : List ℕ} {Δ' : List Name} {σ τ : Ty} (xs : Args) → Curried σ
       → Spine (env_of gs g) g n (name (tree_name a)) τ xs σ Δ' → Trees Δ Δ'

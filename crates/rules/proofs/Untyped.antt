@@ -99,6 +99,7 @@ module _ (gs : List Signature) where
 
   -- where names are bound and types right, it is the words
   fails_words : {number r : ℕ} (xs : List Entry) → Every (BoundTyped gs) xs → FirstFails gs xs number r → number ≡ too_many_words
+  fails_words [] h e = elim e [ ]
   fails_words (entry sc k kind ∷ xs) h (here (name_not_bound e)) = absurd (false≢true (sym e ∙ h.0.0))
   fails_words (entry sc k kind ∷ xs) h (here (wrong-type e f)) = absurd (false≢true (sym f ∙ h.0.1))
   fails_words (entry sc k kind ∷ xs) h (here (too-many-words e f g)) = refl
@@ -112,6 +113,7 @@ module _ (gs : List Signature) where
 
   -- at one of their records
   fails_among : {number r : ℕ} (k : ℕ) (xs : List Entry) → Numbered k xs → FirstFails gs xs number r → Among k (length xs) r
+  fails_among k [] h e = elim e [ ]
   fails_among k (entry sc q kind ∷ xs) h (here (name_not_bound e)) = rw h.0 (own k (length xs))
   fails_among k (entry sc q kind ∷ xs) h (here (wrong-type e f)) = rw h.0 (own k (length xs))
   fails_among k (entry sc q kind ∷ xs) h (here (too-many-words e f g)) = rw h.0 (own k (length xs))
@@ -132,6 +134,7 @@ module _ (gs : List Signature) where
       → FirstFails gs (entered_all k fs) number r
       → InFunction P r k fs
   unfolding entered_all
+  in_function P k [] follows fails = elim fails [ ]
   in_function P k (f ∷ fs) follows fails = elim (fails_split (entered (start_of f) k f.body) _ fails) [
     | inl first ↦
         let many = many_entered f k in
@@ -147,6 +150,7 @@ module _ (gs : List Signature) where
   -- where every function is typed
   all_typed : {number r : ℕ} (k : ℕ) (fs : List Function) → Every (TypedFunction gs) fs → FirstFails gs (entered_all k fs) number r → number ≡ too_many_words
   unfolding entered_all
+  all_typed k [] type_fits fails = elim fails [ ]
   all_typed k (f ∷ fs) type_fits fails = elim (fails_split (entered (start_of f) k f.body) _ fails) [
     | inl first ↦ fails_words _ (fine_function f k type_fits.0).each first
     | inr after ↦ all_typed (k + size f.body) fs type_fits.1 after

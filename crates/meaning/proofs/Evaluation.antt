@@ -329,7 +329,7 @@ pub least_open :
     → Takes program E e o' n v ↔ (nesting_in d < o')
 least_open program E e o n v d o' = (
   λ d'. (agree program d o' n v d').below,
-  elim o' [
+  elim o' as (λ o'. (nesting_in d < o') → Takes program E e o' n v) [
     | zero ↦ λ h. absurd (omega arith)
     | suc o' ↦ λ h. rw (rules_begun program E e o n v d) at (rebuilt d o' (omega arith))
   ],

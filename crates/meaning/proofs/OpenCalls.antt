@@ -20,7 +20,7 @@ use lib.ListN.{length}
 use Rattle.formats.specs.Arithmetic.{Op}
 use Rattle.formats.specs.Tokens.{Tree, leaf, node, Labelled}
 use Rattle.formats.specs.Records.{nth}
-use Rattle.formats.specs.Programs.{Expr, if_zero, case_of, call, Args, Every, Sort, Function, Program}
+use Rattle.formats.specs.Programs.{Expr, if_zero, case_of, call, Args, Every, Sort, Function, Program, size}
 use Rattle.formats.proofs.Arithmetic.{result_fits}
 use Rattle.meaning.specs.Evaluation.{Value, number, Environment, tree_named, with_number, with_trees, in_call, picked, branch, in_branch, result_number}
 use Rattle.meaning.specs.Evaluation.{Takes, Const, Var, Compute, IfZero, Let, Leaf, Node, Case, Call, TakesArgs, no_more, one_more, Ends}
@@ -280,7 +280,14 @@ module _ (program : Program) (k : ℕ) where
         comes_map {P = Derived E s (picked i z w) (suc k)} {S = λ m why x. StopsIn program E (picked_record i r e z) (picked i z w) (suc k) m why x}
         (λ m x part. (IfZero t.0 part.0, part.1))
         (λ m why x s. in_picked t.0 s)
-        (elim i [ zero ↦ known_z E numbers trees _ | suc j ↦ known_w E numbers trees _ ]))
+        (elim i as (λ i. ComesTo
+        (value_of s)
+        (Derived E s (picked i z w) (suc k))
+        (λ m why x. StopsIn program E (picked_record i r e z) (picked i z w) (suc k) m why x)
+        (elim i [ zero ↦ evaluate (called program k) E (suc r + size e) z | suc j ↦ evaluate (called program k) E (suc r + size e + size z) w ])) [
+          | zero ↦ known_z E numbers trees _
+          | suc j ↦ known_w E numbers trees _
+        ]))
     | proper_let (d₁ → known_p) (d₂ → known_body) ↦ λ E numbers trees r.
         comes_begins (comes_next _ (known_p E numbers trees _) (λ n why x s. in_named s) λ n i p.
         comes_map

@@ -18,7 +18,7 @@ use Rattle.formats.specs.Arithmetic.{Op}
 use Rattle.formats.specs.Tokens.{Tree, leaf as a_leaf, node as a_node}
 use Rattle.formats.specs.Records.{nth}
 use Rattle.formats.specs.Programs.{Expr, call, Args, no_args, arg, Sort, Function, Program}
-use Rattle.rules.specs.Printed.{number_name, tree_name, function_name, Term, int, lam, name, app, compute_term, case, if_zero_01, term_of, applied, lams, function_term}
+use Rattle.rules.specs.Printed.{number_name, tree_name, function_name, Term, int, lam, name, app, compute_term, node_term, case, if_zero_01, term_of, applied, lams, function_term}
 use Rattle.meaning.specs.Levels.{at_level}
 use Rattle.meaning.specs.Evaluation.{Value, Environment, with_number, with_trees, in_call, result_number}
 use Rattle.meaning.specs.OpenCalls.{Reason, no_call, no_result, Outcome, gives, stops, begins, after_begun, followed_by, number_or, tree_or, result_tree}
@@ -106,6 +106,18 @@ does_compute r op i j =
     comes_computed r op i j
     (λ x e. reaches_one (Es-Plus e))
     (λ e. gets_stuck (record { last = _; reached = nothing; stuck = at_sum hole e }))
+
+-- two trees become the parts of one
+does_node :
+    {program : Program} {k : ℕ} {M N : Term} {o p : Outcome Value}
+    → Does program k Value.tree value_term M o
+    → Does program k Value.tree value_term N p
+    → Does program k Value.tree value_term (node_term M N)
+    (followed_by o (λ x. followed_by p (λ y. gives (Value.tree (a_node (result_tree x) (result_tree y))))))
+unfolding value_term tree_term plug result_tree after_begun
+does_node left_part right_part =
+    does_part _ (node_left hole _) left_part
+    (λ l. does_part _ (node_right (tree_value l) hole) right_part (λ r. given 0 (a_node l r) nothing))
 
 -- ---- expressions
 
@@ -213,9 +225,7 @@ module _ (program : Program) (proper : ProperProgram program) where
       | proper_leaf (p → hp) ↦ λ E r g_is n_is.
           comes_begins (does_part _ (in_leaf hole) (hp E (suc r) g_is n_is) (λ i. given 0 (a_leaf i) nothing))
       | proper_node (p → hp) (q → hq) ↦ λ E r g_is n_is.
-          comes_begins
-          (does_part _ (node_left hole _) (hp E (suc r) g_is n_is)
-          (λ l. does_part _ (node_right (tree_value l) hole) (hq E _ g_is n_is) (λ r. given 0 (a_node l r) nothing)))
+          comes_begins (does_node (hp E (suc r) g_is n_is) (hq E _ g_is n_is))
       | proper_case {g} {n} {a} {p} {q} a< (_ → hp) (_ → hq) ↦ λ E r g_is n_is.
           let found = level_found E.trees a (rw (← n_is) a<) in
           rw found.is

@@ -77,7 +77,7 @@ module _ (P : Reason → ℕ → Type 0) where
   unfolding nth nodes sum_of_counts signature_of size
   body_has [] b {f} e h = absurd (none-ne-some f e)
   body_has (g ∷ fs) zero {f} e h = rw (← some-injective g f e, add-zero) (parts_have (prefix g.body) (nodes fs) h).0
-  body_has (g ∷ fs) (suc b) e h = rw (← add_assoc) (body_has fs b e (parts_have (prefix g.body) (nodes fs) h).1)
+  body_has {r} (g ∷ fs) (suc b) e h = rw (← add_assoc) (body_has {r = r + length (prefix g.body)} fs b e (parts_have (prefix g.body) (nodes fs) h).1)
 
   -- ---- where an expression stops
 
@@ -165,7 +165,7 @@ module _ (program : Program) where
   not_for_fuel t o n q (in_first_call known s) = of_node (body_stops 0 known s)
     where
       no_kind : (kind : Kind) → StopsAtKind kind no_fuel → ⊥
-      no_kind kind = elim [ ]
+      no_kind kind h = elim h [ ]
 
       of_node : {q : ℕ} → AtNode program no_fuel q → ⊥
       of_node (at_node k kind is stop) = no_kind kind stop

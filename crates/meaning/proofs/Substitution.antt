@@ -189,11 +189,16 @@ pub unfolded :
     → nth program.functions b ≡ some f
     → fixing program (function_name b) (function_term f) ≡ environment_of program (bare [])
 unfolding environment_of fixing fixes fix_of same_name at_level
-unfolded program b f known = fun_ext (λ z. elim z [ number_name k ↦ refl | tree_name k ↦ refl | function_name c ↦ by_test c (eqb b c) refl ])
+unfolded program b f known = fun_ext by_name
   where
     by_test : (c : ℕ) (same : Bool) → eqb b c ≡ same → ◌≡◌ {A = Option Term} (elim same [ true ↦ some (fix_of b f) | false ↦ fixes program (function_name c) ]) (fixes program (function_name c))
     by_test c true e = rw (← eqb-true b c e) (rw (known, fixes))
     by_test c false e = refl
+
+    by_name : (z : Name) → fixing program (function_name b) (function_term f) z ≡ environment_of program (bare []) z
+    by_name (number_name k) = refl
+    by_name (tree_name k) = refl
+    by_name (function_name c) = by_test c (eqb b c) refl
 
 -- what a name stands for stays, if it is closed
 named_stays : {A : Type 0} (f : A → Term) → ((x : A) → Closed (f x)) → (o : Option A) → Joined (map f o) none (map f o)
@@ -240,7 +245,7 @@ module _ (program : Program) (proper : ProperProgram program) where
   unfolding environment_of substitute only without same_name
   put_number E g i M e = joined M (record {
     functions = λ b. refl;
-    names = λ z. elim z [
+    names = λ z. elim z as (λ z. Joined (without (number_name g) (environment_of program E) z) (only (number_name g) (int i) z) (environment_of program (with_number i E) z)) [
       | number_name k ↦ joined_newest int (λ i τ k. refl) i E.numbers g k e
       | tree_name k ↦ stays E (tree_name k)
       | function_name b ↦ stays E (function_name b)
@@ -255,7 +260,7 @@ module _ (program : Program) (proper : ProperProgram program) where
   unfolding environment_of only without same_name
   put_tree numbers t M = joined M (record {
     functions = λ b. refl;
-    names = λ z. elim z [
+    names = λ z. elim z as (λ z. Joined (without (tree_name 0) (environment_of program (bare numbers)) z) (only (tree_name 0) (tree_term t) z) (environment_of program (in_call numbers t) z)) [
       | number_name k ↦ stays (bare numbers) (number_name k)
       | tree_name k ↦ joined_newest tree_term tree_closed t [] 0 k refl
       | function_name b ↦ stays (bare numbers) (function_name b)
@@ -272,18 +277,19 @@ module _ (program : Program) (proper : ProperProgram program) where
   unfolding environment_of only both without same_name
   put_trees E n l r M e = joined M (record {
     functions = λ b. refl;
-    names = λ z. elim z [
-      | number_name k ↦ stays E (number_name k)
-      | tree_name k ↦
-          joined_at (eqb n k) (tree_term l)
-          (λ left. let is = eqb-true n k left in rw (level_older r k (l ∷ E.trees) (omega arith), level_newest l k E.trees (omega arith)))
-          (λ not_left.
-          let not_l = eqb-false n k not_left in
-          joined_at (eqb (suc n) k) (tree_term r) (λ right. rw (level_newest r k (l ∷ E.trees) (omega (arith, eqb-true (suc n) k right))))
-          (λ not_right.
-          let not_r = eqb-false (suc n) k not_right in
-          rw (level_older r k (l ∷ E.trees) (omega arith), level_older l k E.trees (omega arith))
-          (named_stays tree_term tree_closed (at_level E.trees k))))
-      | function_name b ↦ stays E (function_name b)
-    ];
+    names = λ z. elim z as (λ z. Joined (without (tree_name n) (without (tree_name (suc n)) (environment_of program E)) z)
+        (both (tree_name n) (tree_term l) (tree_name (suc n)) (tree_term r) z) (environment_of program (with_trees l r E) z)) [
+          | number_name k ↦ stays E (number_name k)
+          | tree_name k ↦
+              joined_at (eqb n k) (tree_term l)
+              (λ left. let is = eqb-true n k left in rw (level_older r k (l ∷ E.trees) (omega arith), level_newest l k E.trees (omega arith)))
+              (λ not_left.
+              let not_l = eqb-false n k not_left in
+              joined_at (eqb (suc n) k) (tree_term r) (λ right. rw (level_newest r k (l ∷ E.trees) (omega (arith, eqb-true (suc n) k right))))
+              (λ not_right.
+              let not_r = eqb-false (suc n) k not_right in
+              rw (level_older r k (l ∷ E.trees) (omega arith), level_older l k E.trees (omega arith))
+              (named_stays tree_term tree_closed (at_level E.trees k))))
+          | function_name b ↦ stays E (function_name b)
+        ];
   })

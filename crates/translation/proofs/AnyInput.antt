@@ -7,7 +7,7 @@
 -- bound of the bytes that are left.
 use Prim.Native.Nat.{ℕ, zero, suc, ◌+◌, ◌≤◌, ◌<◌}
 use mathlib.Core.List.{List, [], ◌∷◌, ◌++◌}
-use mathlib.Core.Path.{◌≡◌, sym, ap, subst, ◌∙◌}
+use mathlib.Core.Path.{◌≡◌, refl, sym, ap, subst, ◌∙◌}
 use native.Mathlib.Decide.{dec_le}
 use native.Mathlib.Nat.{zero-add}
 use native.Mathlib.Numerals.{add-one}
@@ -57,7 +57,7 @@ carries_tree s end p (node l r) ts fits (one_more there is more) h =
 -- an input that opens with a tree's tokens carries that tree up to their end
 pub carries_opening : {Faulty : Type 0} (t : Tree) (rest : List ℕ) → Labelled t → Carries Faulty (tokens t ++ rest) (length (tokens t)) 0 (t ∷ [])
 carries_opening t rest fits =
-    carries_tree (tokens t ++ rest) (length (tokens t)) 0 t [] fits (lies_first (tokens t) rest) (carries_offset (sym (zero-add _)) carried)
+    carries_tree (tokens t ++ rest) (length (tokens t)) 0 t [] fits (lies_first (tokens t) rest) (carries_offset (sym (zero-add _)) (carried refl))
 
 -- What an input begins with: a tree's tokens, or some tree's tokens up to a first fault.
 pub data Begins (s : List ℕ) : Type 0 where

@@ -76,7 +76,7 @@ on_first_words (i ∷ numbers) = picked (level_newest i (length numbers) numbers
 -- Where `Faulty` allows it, only up to a first fault: a tag that is not there, a byte that is no
 -- tag, or a label that is not whole; what the trees are from there on does not matter then.
 pub data Carries (Faulty : Type 0) (s : List ℕ) (end : ℕ) : ℕ → List Tree → Type 0 where
-  carried : Carries Faulty s end end []
+  carried : {p : ℕ} → p ≡ end → Carries Faulty s end p []
   a-leaf :
       {p x : ℕ} {ts : List Tree}
       → tag_at s p ≡ a_leaf

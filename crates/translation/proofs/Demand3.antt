@@ -48,7 +48,9 @@ unfolding outcome_of looked_at refusal_of
 none_looked_at read it_ended = refl
 none_looked_at read no_fuel = refl
 none_looked_at read no_space = refl
-none_looked_at read (at_stop why) = elim why [ for_fuel ↦ refl | no_call ↦ refl | no_result op i j ↦ refl ]
+none_looked_at read (at_stop for_fuel) = refl
+none_looked_at read (at_stop no_call) = refl
+none_looked_at read (at_stop (no_result op i j)) = refl
 none_looked_at read (at_fault none w) = absurd none
 
 -- a run's steps to where it stops

@@ -24,7 +24,7 @@ use Rattle.translation.proofs.Simulation.{appended, After, Stopped, none-left}
 
 -- where no tree is left the input has been read to the end
 at_the_end : {Faulty : Type 0} {s : List ℕ} {end p : ℕ} → Carries Faulty s end p [] → p ≡ end
-at_the_end carried = refl
+at_the_end (carried e) = e
 
 -- what has been written is the value's bytes
 bytes_are : (sort : Sort) (x : ValuesOf sort) → appended sort x [] ≡ result_bytes (value_of sort x)

@@ -158,7 +158,7 @@ module _ (program : Program) where
   pass_or_over r (f ∷ fs) h =
       let own = entered (start_of f) r f.body in
       elim (dec_le (words_in f) most_frame_words) [
-        | yes few ↦ elim (pass_or_over _ fs (every_right _ own _ h)) [
+        | yes few ↦ elim (pass_or_over (r + size f.body) fs (every_right _ own _ h)) [
           | inl rest ↦ inl (pass_both gs _ _ (passes _ _ _ r _ f.body (every_left _ own _ h) few).1 rest)
           | inr o ↦ inr (record { index = suc o.index; function = o.function; known = o.known; over = o.over })
         ]

@@ -88,5 +88,8 @@ module _ {s : List ℕ} {gs : List Signature} where
   pub row_others : {k i m : ℕ} {e : Expr} {ps : List Placed} → Row s gs k (placed_at i e ∷ ps) m → Row s gs (k + size e) ps m
   row_others (next h more) = more
 
+  row_done : {k m : ℕ} → Row s gs k [] m → k ≡ m
+  row_done end = refl
+
   pub row_last : {k i m : ℕ} {e : Expr} → Row s gs k (placed_at i e ∷ []) m → k + size e ≡ m
-  row_last (next h end) = refl
+  row_last r = row_done (row_others r)

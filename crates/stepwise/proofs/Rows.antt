@@ -145,7 +145,7 @@ module _ (entry arity : ℕ → ℕ) where
   rows_long_all : (r : ℕ) (fs : List Function) → Long (rows_of_all entry arity r fs) (sum_of_counts (map signature_of fs))
   unfolding rows_of_all sum_of_counts signature_of
   rows_long_all r [] = long_none
-  rows_long_all r (f ∷ fs) = long_joined (rows_long _ _ f.body) (rows_long_all _ fs)
+  rows_long_all r (f ∷ fs) = long_joined (rows_long _ _ f.body) (rows_long_all (r + size f.body) fs)
 
   -- the same, as equations
   pub length_rows : (p : Location) (r : ℕ) (e : Expr) → length (rows_of entry arity p r e) ≡ row_words * size e

@@ -1,5 +1,7 @@
 // The answer of a call from C or Rust: a number, and the first slots of an array that the caller
 // lends.
+#![tactic(auto)]
+
 ghost use Rattle.std.specs.Prelude.{◌≡◌, leb, length};
 ghost use Rattle.refusal.specs.Inner.FilledBuffer.{filled_result};
 ghost use Rattle.formats.specs.Results.{on_value};

@@ -1,4 +1,6 @@
 // A step of the source run: a record begins, and this is the next stage.
+#![tactic(auto)]
+
 ghost use Rattle.std.specs.Prelude.{◌+◌, ◌*◌, ◌<◌, ◌≡◌, get_or, set};
 ghost use Rattle.formats.specs.Numbers.{number_at};
 ghost use Rattle.stepwise.specs.Inner.Steps.{operand_at, more_at, frame_words, record_limit};

@@ -1,4 +1,6 @@
 // One block of a program file: the sum of its words, and the row "each block" for it.
+#![tactic(auto)]
+
 ghost use Rattle.std.specs.Prelude.{◌≡◌, ◌%◌, take, drop};
 ghost use Rattle.formats.specs.Results.{verdict};
 ghost use Rattle.formats.specs.Blocks.{word_limit, word_sum, zeros, used_fits, fields_fit, used_of};

@@ -1,5 +1,7 @@
 // Blocks of a program file read: the rows "blocks" and "each block", and the flat records taken out
 // of the blocks.
+#![tactic(auto)]
+
 ghost use Rattle.std.specs.Prelude.{◌+◌, ◌*◌, ◌≤◌, ◌≡◌, length, take, drop};
 ghost use Rattle.formats.specs.Results.{done, verdict, on_value};
 ghost use Rattle.formats.specs.Blocks.{block_bytes, block_row, flat_in, buffer_after};

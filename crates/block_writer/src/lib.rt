@@ -1,4 +1,6 @@
 // Blocks of a program file written: flat records put into blocks.
+#![tactic(auto)]
+
 ghost use Rattle.std.specs.Prelude.{◌+◌, ◌*◌, ◌-◌, ◌≤◌, ◌≡◌, ◌++◌, length, take, drop, replicate};
 ghost use Rattle.formats.specs.Written.{written};
 ghost use Rattle.formats.specs.Blocks.{block_bytes, records_bytes, block_body, block_of, blocks_for, file_of, in_room};

@@ -1,4 +1,6 @@
 // The order checker's calls from C and Rust.
+#![tactic(auto)]
+
 ghost use Rattle.formats.specs.Results.{on_value};
 ghost use Rattle.rules.specs.PassTwo.{check_records, check_file};
 ghost use Rattle.answers.specs.Answer.{Answers};

@@ -1,4 +1,6 @@
 // What is known where an expression's code is emitted, and on entering each part of a record.
+#![tactic(auto)]
+
 ghost use Rattle.std.specs.Prelude.{◌≡◌, min};
 ghost use Rattle.records.specs.Inner.Read.{part_of};
 ghost use Rattle.translation.specs.Templates.{word_of};
@@ -15,7 +17,7 @@ const NO_WORD: u16 = 0;
 // What is known where an expression is emitted: the words that the number names stand on, how many
 // names there are, how many words stand above the base, and whether a tree is expected. More names
 // than 16 count as 16: no program that passes pass one has more.
-#[derive(Drop)]
+#[derive(Clone, Copy)]
 pub struct Scope {
     pub words: [u16; MOST_NAMES],
     pub names: usize,

@@ -51,7 +51,7 @@ module _ (entry arity : ℕ → ℕ) where
   rows_split p r (call a b xs) = in-front p (Call a b) (omega (arith, after-args entry arity (suc r) xs, size_call a b xs)) (rows_args p (Call a b) r 0 (suc r) xs)
 
   -- rows of parts that stand one after the other reach up to their end
-  pub length_parts : (p : Location) (kind : Kind) (r i : ℕ) {s : List ℕ} {gs : List Signature} {k m : ℕ} {ps : List Placed} → Row s gs k ps m
+  pub length_parts : (p : Location) (kind : Kind) (r : ℕ) {s : List ℕ} {gs : List Signature} (i : ℕ) {k m : ℕ} {ps : List Placed} → Row s gs k ps m
       → row_words * k + length (rows_of_parts entry arity p kind r i ps) ≡ row_words * m
   unfolding rows_of_parts
   length_parts p kind r i end = add-zero _

@@ -1,5 +1,7 @@
 // The rows of a program's records, for the source run: a table of 8 words for each record, filled
 // from flat records, 8 bytes each.
+#![tactic(auto)]
+
 ghost use Rattle.std.specs.Prelude.{◌*◌, ◌≡◌};
 ghost use Rattle.formats.specs.Written.{written};
 ghost use Rattle.stepwise.specs.Inner.Rows.{row_words};
@@ -44,7 +46,7 @@ fn write_row(table: &mut [u16], k: usize, own: Own, location: Location, after: u
 
 // Fills the rows of the expression at record k, and gives the record after it. A record's own row
 // is written after those of its parts, when the record after them is known.
-#[cycle(decode_at_decode_parts)]
+#[cycle(decoding)]
 fn decode_at(
     flat: &[u8],
     table: &mut [u16],
@@ -87,7 +89,7 @@ fn decode_at(
 
 // Fills the rows of the parts of record r from part i on. The record has `count` parts, and part i
 // stands at record k.
-#[cycle(decode_at_decode_parts)]
+#[cycle(decoding)]
 fn decode_parts(
     flat: &[u8],
     table: &mut [u16],

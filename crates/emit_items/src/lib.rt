@@ -1,4 +1,6 @@
 // A template's items emitted as instructions.
+#![tactic(auto)]
+
 ghost use Rattle.std.specs.Prelude.{[], ◌∷◌, ◌≡◌};
 ghost use Rattle.records.specs.Inner.Read.{item_of, row};
 ghost use Rattle.emit_items.specs.Inner.Operations.{fields_in, instruction_for, operations_for, put_all, opcode_of_end};
@@ -34,14 +36,14 @@ const CALL: u8 = 12;
 
 // The addresses that items refer to: where the last part begins, and what comes after the whole
 // expression.
-#[derive(Drop)]
+#[derive(Clone, Copy)]
 pub struct Labels {
     pub last: usize,
     pub beyond: usize,
 }
 
 // The fields of an instruction.
-#[derive(Drop)]
+#[derive(Clone, Copy)]
 struct Instruction {
     opcode: u8,
     byte1: u8,

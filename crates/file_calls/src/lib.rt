@@ -1,4 +1,6 @@
 // The calls from C and Rust that write and read program files.
+#![tactic(auto)]
+
 ghost use Rattle.std.specs.Prelude.{length};
 ghost use Rattle.formats.specs.Blocks.{read_into, write_into};
 ghost use Rattle.answers.specs.Fills.{Fills};

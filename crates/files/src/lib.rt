@@ -1,5 +1,7 @@
 // Program files: the reader, from a file to flat records, and the writer, from flat records to the
 // file.
+#![tactic(auto)]
+
 ghost use Rattle.std.specs.Prelude.{length};
 ghost use Rattle.formats.specs.Blocks.{read_into, write_into};
 ghost use Rattle.formats.specs.Inner.Blocks.{program_into};

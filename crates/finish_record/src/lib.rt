@@ -1,4 +1,6 @@
 // A step of the source run: a record is finished, and this is the next stage, by its value.
+#![tactic(auto)]
+
 ghost use Rattle.std.specs.Prelude.{◌+◌, ◌*◌, ◌≡◌, get_or, set};
 ghost use Rattle.stepwise.specs.Inner.Steps.{slot_at, frame_words, on_right};
 ghost use Rattle.finish_record.specs.Inner.Rises.{Knows, Closes, Adds, Picks, Follows, Rises};

@@ -13,7 +13,7 @@ use borrow.Author.Tests.{le-leb, lt-leb, leb-true, leb-false}
 use lib.Dec.{leb}
 use lib.ListN.{length, take, length-append}
 use Rattle.formats.specs.Numbers.{Bytes, bytes_of}
-use Rattle.formats.specs.Refusals.{input_ended, not_aTag, too_deep}
+use Rattle.formats.specs.Refusals.{input_ended, not_a_tag, too_deep}
 use Rattle.formats.specs.Tokens.{Tree, tips, depth, label_bytes, most_depth, tokens, Tag, no_byte, a_leaf, a_node, other, tree_at, first_tree, own_bytes}
 use Rattle.formats.specs.Measures.{Measures, measures_of, first_measures}
 use Rattle.formats.specs.Inner.Trees.{leaf_bytes, Ending, label_end, end_by_tag, end_at, measures_at, measures_by}
@@ -53,7 +53,7 @@ module _ (width : ℕ) where
   end_past zero above deepest k = simp (end_at, end_by_tag, tag_is k)
   end_past (suc room) above deepest k = simp (end_at, end_by_tag, tag_is k)
 
-  pub end_other : (room above : ℕ) {s : List ℕ} {p : ℕ} (deepest : ℕ) → Look s p other → end_at width room above s p deepest ≡ refusal not_aTag p
+  pub end_other : (room above : ℕ) {s : List ℕ} {p : ℕ} (deepest : ℕ) → Look s p other → end_at width room above s p deepest ≡ refusal not_a_tag p
   unfolding end_at end_by_tag
   end_other zero above deepest k = simp (end_at, end_by_tag, tag_is k)
   end_other (suc room) above deepest k = simp (end_at, end_by_tag, tag_is k)

@@ -16,7 +16,7 @@ use lib.ListN.{length, get_or, take, drop, length-drop}
 use lib.Seq.{get_or-drop, take_all, split_at}
 use Rattle.formats.specs.Numbers.{Bytes, number_of}
 use Rattle.formats.specs.Buffers.{Opens, BytesAt, nothing, one_more}
-use Rattle.formats.specs.Refusals.{input_ended, not_aTag, too_deep}
+use Rattle.formats.specs.Refusals.{input_ended, not_a_tag, too_deep}
 use Rattle.formats.specs.Tokens.{Tree, leaf, node, Labelled, depth, leaf_tag, node_tag, label_bytes, most_depth, tokens, Tag, a_leaf, a_node, label_at, tree_at, first_tree}
 use Rattle.formats.specs.Reader.{Gave, Due, first, left, right, Refuses, no_tag, no_label, no_such_tag, under_too_many, OpensSomeTree, Ended, FitsNone, TooDeep, TreeReader}
 use Rattle.formats.proofs.Numbers.{length_bytes_of, bytes_of_opens, number_of_fits}
@@ -254,7 +254,7 @@ ended_at bs (no_label d tag cut) is =
 ended_at bs (no_such_tag d there nl nn) is = absurd (omega arith)
 ended_at bs (under_too_many d tag) is = absurd (omega arith)
 
-fits_none : {s : List ℕ} {n p : ℕ} → Refuses s n p → n ≡ not_aTag → FitsNone s p
+fits_none : {s : List ℕ} {n p : ℕ} → Refuses s n p → n ≡ not_a_tag → FitsNone s p
 fits_none (no_tag d e) is = absurd (omega arith)
 fits_none (no_label d tag cut) is = absurd (omega arith)
 fits_none (no_such_tag d there nl nn) is = fits_none_at d there nl nn
@@ -281,6 +281,6 @@ tree_reader =
       none = none;
       refuses = λ s n p bs. (fault_first s n p bs, back);
       ended = λ s p bs e. ended_at bs (fault_first s input_ended p bs e) refl;
-      fits_none = λ s p bs e. fits_none (fault_first s not_aTag p bs e) refl;
+      fits_none = λ s p bs e. fits_none (fault_first s not_a_tag p bs e) refl;
       too-deep = λ s p bs e. too-deep (fault_first s too_deep p bs e) refl;
     }

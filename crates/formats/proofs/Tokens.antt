@@ -14,7 +14,7 @@ use lib.Dec.{leb, ltb, eqb}
 use lib.ListN.{length, get_or, take, drop, length-append}
 use Rattle.formats.specs.Numbers.{Bytes, bytes_of, number_of, number_at}
 use Rattle.formats.specs.Buffers.{BytesAt, one_more}
-use Rattle.formats.specs.Refusals.{input_ended, not_aTag, too_deep}
+use Rattle.formats.specs.Refusals.{input_ended, not_a_tag, too_deep}
 use Rattle.formats.specs.Tokens.{Tree, leaf, node, Labelled, tips, depth, leaf_tag, node_tag, label_bytes, tokens, Tag, no_byte, a_leaf, a_node, other, tag_of, tag_at, label_at, branches_at, tree_by_tag, tree_at}
 use Rattle.formats.proofs.Numbers.{length_bytes_of, number_bytes_of, number_at_whole, number_at_lt, bytes_of_number_at}
 use Rattle.formats.proofs.Buffers.{lies_left, lies_right, lies_part, lies_taken, lies_append, lies_within}
@@ -83,7 +83,7 @@ unfolding tree_at tree_by_tag
 read_leaf zero k = simp (tree_at, tree_by_tag, tag_is k)
 read_leaf (suc room) k = simp (tree_at, tree_by_tag, tag_is k)
 
-pub read_other : (room : ℕ) {s : List ℕ} {p : ℕ} → Look s p other → tree_at room s p ≡ refusal not_aTag p
+pub read_other : (room : ℕ) {s : List ℕ} {p : ℕ} → Look s p other → tree_at room s p ≡ refusal not_a_tag p
 unfolding tree_at tree_by_tag
 read_other zero k = simp (tree_at, tree_by_tag, tag_is k)
 read_other (suc room) k = simp (tree_at, tree_by_tag, tag_is k)

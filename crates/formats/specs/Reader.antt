@@ -2,7 +2,7 @@
 use Rattle.std.specs.Prelude.{ℕ, suc, ◌+◌, ◌*◌, ◌-◌, ◌≤◌, ◌<◌, List, [], ◌∷◌, ◌++◌, ◌≢◌, ◌↔◌, ◌≡◌, length, get_or, take}
 use Rattle.formats.specs.Numbers.{Bytes}
 use Rattle.formats.specs.Buffers.{Opens, BytesAt}
-use Rattle.formats.specs.Refusals.{input_ended, not_aTag, too_deep}
+use Rattle.formats.specs.Refusals.{input_ended, not_a_tag, too_deep}
 use Rattle.formats.specs.Tokens.{Tree, Labelled, tips, depth, leaf_tag, node_tag, label_bytes, most_depth, tokens, first_tree}
 use Rattle.formats.specs.Results.{done, refusal}
 
@@ -38,7 +38,7 @@ pub data Refuses (s : List ℕ) : ℕ → ℕ → Type 0 where
   -- 15 at the start of a label that is not whole
   no_label : {p above : ℕ} → Due s p above → BytesAt s p (leaf_tag ∷ []) → length s < suc p + label_bytes → Refuses s input_ended (suc p)
   -- 16 at a byte that is not 1 or 2
-  no_such_tag : {p above : ℕ} → Due s p above → p < length s → get_or s p 0 ≢ leaf_tag → get_or s p 0 ≢ node_tag → Refuses s not_aTag p
+  no_such_tag : {p above : ℕ} → Due s p above → p < length s → get_or s p 0 ≢ leaf_tag → get_or s p 0 ≢ node_tag → Refuses s not_a_tag p
   -- 20 at a node tag under 1,024 others
   under_too_many : {p : ℕ} → Due s p most_depth → BytesAt s p (node_tag ∷ []) → Refuses s too_deep p
 
@@ -80,5 +80,5 @@ pub record TreeReader : Type 0 where
   pub refuses : (s : List ℕ) (number p : ℕ) → Bytes s → (first_tree s ≡ refusal number p) ↔ Refuses s number p
   -- What each number means.
   pub ended : (s : List ℕ) (p : ℕ) → Bytes s → first_tree s ≡ refusal input_ended p → Ended s
-  pub fits_none : (s : List ℕ) (p : ℕ) → Bytes s → first_tree s ≡ refusal not_aTag p → FitsNone s p
+  pub fits_none : (s : List ℕ) (p : ℕ) → Bytes s → first_tree s ≡ refusal not_a_tag p → FitsNone s p
   pub too-deep : (s : List ℕ) (p : ℕ) → Bytes s → first_tree s ≡ refusal too_deep p → TooDeep s p

@@ -62,8 +62,8 @@ abbrev pub input_ended : ℕ
 input_ended = 15
 
 -- a byte that is not 1 or 2 where a tag is due
-abbrev pub not_aTag : ℕ
-not_aTag = 16
+abbrev pub not_a_tag : ℕ
+not_a_tag = 16
 
 -- the output is full, or shorter than the result
 abbrev pub output_full : ℕ

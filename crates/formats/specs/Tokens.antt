@@ -1,7 +1,7 @@
 -- 01, Tokens: trees, their tokens, and the reading of the first tree of a buffer.
 use Rattle.std.specs.Prelude.{ℕ, zero, suc, ◌+◌, ◌^◌, ◌<◌, max, true, false, List, [], ◌∷◌, ◌++◌, length, get_or, leb, ltb, eqb}
 use Rattle.formats.specs.Numbers.{bytes_of, number_at}
-use Rattle.formats.specs.Refusals.{input_ended, not_aTag, too_deep}
+use Rattle.formats.specs.Refusals.{input_ended, not_a_tag, too_deep}
 use Rattle.formats.specs.Results.{Result, done, refusal, and_then}
 
 -- A rooted tree, two branches at each node, a label at each leaf: a 32-bit word.
@@ -75,7 +75,7 @@ tree_by_tag s p below =
       | no_byte ↦ refusal input_ended p
       | a_leaf ↦ label_at s (suc p)
       | a_node ↦ below p
-      | other ↦ refusal not_aTag p
+      | other ↦ refusal not_a_tag p
     ]
 
 -- The tree that begins at offset p, with room for so many nodes above its leaves. 01, The tree

@@ -1,4 +1,6 @@
 // The fields of a program's rows, and the words of frames, for the source run.
+#![tactic(auto)]
+
 ghost use Rattle.std.specs.Prelude.{◌+◌, ◌*◌, ◌≡◌, get_or, set};
 ghost use Rattle.stepwise.specs.Inner.Steps.{field as field_of, frame_words};
 

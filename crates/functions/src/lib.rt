@@ -1,4 +1,6 @@
 // The row "functions" over flat records of 8 bytes each.
+#![tactic(auto)]
+
 ghost use Rattle.std.specs.Prelude.{suc, ◌≡◌};
 ghost use Rattle.formats.specs.Programs.{most_parameters};
 ghost use Rattle.formats.specs.Refusals.{function_field};

@@ -1,4 +1,6 @@
 // The row "header" over flat records of 8 bytes each.
+#![tactic(auto)]
+
 ghost use Rattle.std.specs.Prelude.{◌≡◌};
 ghost use Rattle.formats.specs.Records.{fields};
 ghost use Rattle.formats.specs.Refusals.{header_field};

@@ -1,5 +1,7 @@
 // What C and Rust programs link: each function only calls its proved function. A slice is passed as
 // a pointer and a length.
+#![tactic(auto)]
+
 ghost use Rattle.std.specs.Prelude.{◌≡◌, length};
 ghost use Rattle.formats.specs.Blocks.{read_into, write_into};
 ghost use Rattle.formats.specs.Results.{on_value};

@@ -1,5 +1,7 @@
 // What a program links that reads trees alone and may hold no recursive routine: the tree reader's
 // calls of `hogvax_c`, under the same names and with the same contracts.
+#![tactic(auto)]
+
 ghost use Rattle.std.specs.Prelude.{◌≡◌, length};
 ghost use Rattle.formats.specs.Tokens.{first_tree, own_bytes};
 ghost use Rattle.formats.specs.Measures.{first_measures};

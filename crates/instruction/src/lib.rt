@@ -1,5 +1,7 @@
 // An instruction written into a code buffer, 8 bytes: opcode; byte 1; operand in 2–3; number in
 // 4–7.
+#![tactic(auto)]
+
 ghost use Rattle.std.specs.Prelude.{◌*◌, ◌≡◌};
 ghost use Rattle.formats.specs.Records.{record_bytes, fields, bytes_of_record};
 ghost use Rattle.formats.specs.Written.{written};

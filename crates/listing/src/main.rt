@@ -1,6 +1,9 @@
 // Reads a program file from standard input and prints its code listing, or the refusal. The text is
 // one proved function of the bytes that it is lent: `put_listing`.
-ghost use Rattle.std.specs.Prelude.{◌+◌, ◌*◌, ◌≤◌, ◌<◌, [], ◌∷◌, ◌≡◌, nat_abs, length};
+#![tactic(auto)]
+
+ghost use Rattle.std.specs.Prelude.{◌+◌, ◌*◌, ◌≤◌, ◌<◌, [], ◌∷◌, ◌≡◌, nat_abs, length, take, true};
+ghost use Rattle.std.specs.Io.KnownBytes.{Consumes, Appends};
 ghost use Rattle.formats.specs.Records.{record_at};
 ghost use Rattle.formats.specs.Results.{done};
 ghost use Rattle.translation.specs.Listing.{line_of, lines_from, refused_listing, instructions_in, listing_of, listing};
@@ -9,8 +12,8 @@ ghost use Rattle.translation.specs.ListingText.{field, signed_field, line_text, 
 ghost use Rattle.listing.specs.PrintedText.{longest_line, most_text, Puts};
 ghost use Rattle.listing.specs.Inner.Shown.{most_code, shown};
 
-use libc::{STDIN_FILENO, STDOUT_FILENO};
 use refusal::Filled;
+use std::io::{Read, Write};
 
 const INSTRUCTION_BYTES: usize = 8;
 
@@ -174,10 +177,46 @@ fn put_listing(out: &mut [u8], file: &[u8]) -> usize
     }
 }
 
-fn main() {
+// Reads until the buffer is full, the input ends or a read fails, and answers how many bytes it put
+// at the start of the buffer. A failed read is taken for the end of the input.
+fn read_full<R: Read>(input: &mut R, buffer: &mut [u8]) -> usize
+    ensures inside { result ≤ length buffer.new }
+    ensures count { result ≡ length (take result buffer.new) }
+    ensures bytes { Consumes (R.remaining input.old) (R.remaining input.new)
+        (take result buffer.new) }
+{
+    let mut done = 0;
+    while done < buffer.len() {
+        match input.read(&mut buffer[done..]) {
+            Ok(0) => break,
+            Ok(n) => done += n,
+            Err(_) => break,
+        }
+    }
+    done
+}
+
+// Writes all of the text and answers true, or stops at the first write that takes nothing or fails
+// and answers false, when some of the text may have been written.
+fn write_all<W: Write>(output: &mut W, text: &[u8]) -> bool
+    ensures { result ≡ true →
+        Appends (W.contents output.old) (W.contents output.new) text.now }
+{
+    let mut done = 0;
+    while done < text.len() {
+        match output.write(&text[done..]) {
+            Ok(0) => return false,
+            Ok(n) => done += n,
+            Err(_) => return false,
+        }
+    }
+    true
+}
+
+fn main(rt: HostRuntime) {
     let mut file = [0u8; INPUT_BYTES];
-    let bytes = io::read_full(STDIN_FILENO, &mut file);
+    let bytes = read_full(&mut rt.stdin(), &mut file);
     let mut out = [0u8; TEXT_BYTES];
     let last = put_listing(&mut out, &file[..bytes]);
-    io::write_all(STDOUT_FILENO, &out[..last]);
+    write_all(&mut rt.stdout(), &out[..last]);
 }

@@ -1,5 +1,8 @@
 // The stream run: instruction after instruction, over any code buffer.
+#![tactic(auto)]
+
 ghost use Rattle.std.specs.Prelude.{◌+◌, ◌*◌, ◌≤◌, ◌<◌, ◌≡◌, length};
+ghost use Rattle.formats.specs.Numbers.{number_at};
 ghost use Rattle.formats.specs.Records.{record_at};
 ghost use Rattle.meaning.specs.Instructions.{instruction_bytes, Push, Get, Add, Ifnot, Slide, Drop, WriteNumber, ReadTag, ReadNumber, Call, Return};
 ghost use Rattle.meaning.specs.Running.{value_words, return_words, none_done, stream_run};
@@ -9,8 +12,8 @@ ghost use Rattle.machine_state.specs.Inner.Answers.{run_answer, Performed};
 
 use machine_state::{
     Answer, CANNOT_PERFORM, ENDED, GOES_ON, INPUT_ENDED, INSTRUCTION_BYTES, LABEL_BYTES, LEAF_TAG,
-    MOST_SAVED, Machine, NODE_TAG, NOT_A_TAG, NUMBER, OPERAND, OUT_OF_RANGE, OUTPUT_FULL,
-    RETURN_WORDS, TOO_MANY_CALLS, VALUE_WORDS,
+    MOST_SAVED, Machine, NODE_TAG, NOT_A_TAG, OUT_OF_RANGE, OUTPUT_FULL, RETURN_WORDS,
+    TOO_MANY_CALLS, VALUE_WORDS,
 };
 use numbers::Sum;
 use refusal::{Refusal, Verdict};
@@ -26,6 +29,22 @@ fn fetch(code: &[u8], address: usize) -> &[u8]
 {
     let p = INSTRUCTION_BYTES * address;
     &code[p..p + INSTRUCTION_BYTES]
+}
+
+// The operand in the bytes of an instruction.
+fn operand_of(i: &[u8]) -> u16
+    requires { instruction_bytes ≤ length i.now }
+    ensures { result ≡ number_at 2 i.now 2 }
+{
+    words::word16(i[2], i[3])
+}
+
+// The number in the bytes of an instruction.
+fn number_of(i: &[u8]) -> u32
+    requires { instruction_bytes ≤ length i.now }
+    ensures { result ≡ number_at 4 i.now 4 }
+{
+    words32::word32(i[4], i[5], i[6], i[7])
 }
 
 // The machine at the next address, with its frame's words up to `top`.
@@ -299,19 +318,19 @@ fn step(
 {
     let opcode = i[0];
     match opcode {
-        0 => push(s, words32::read32(i, NUMBER), values),
-        1 => get(s, words::read16(i, OPERAND), values),
+        0 => push(s, number_of(i), values),
+        1 => get(s, operand_of(i), values),
         2 => add(s, values),
-        3 => ifnot(s, words::read16(i, OPERAND), values),
-        4 => machine_state::jump(s, words::read16(i, OPERAND)),
+        3 => ifnot(s, operand_of(i), values),
+        4 => machine_state::jump(s, operand_of(i)),
         5 => slide(s, values),
         6 => drop(s),
         7 => write_tag(s, LEAF_TAG, output),
         8 => write_tag(s, NODE_TAG, output),
         9 => write_number(s, values, output),
-        10 => read_tag(s, words::read16(i, OPERAND), input),
+        10 => read_tag(s, operand_of(i), input),
         11 => read_number(s, values, input),
-        12 => call(s, words::read16(i, OPERAND), i[1], returns),
+        12 => call(s, operand_of(i), i[1], returns),
         13 => give_back(s, i[1], values, returns),
         _ => machine_state::stopped(s, CANNOT_PERFORM),
     }

@@ -1,28 +1,28 @@
 -- The answer of a run that stops: a law for each way out of its functions.
 use Rattle.std.proofs.Common.{◌≡◌, ℕ, zero, suc, ◌+◌, ◌-◌, ◌%◌, ◌^◌, ◌<◌, ◌≤◌, ◌≢◌, List, [], ◌∷◌, length, get_or, sym, refl, ap, ◌∙◌, arith, eq-eqb, ne_eqb, le-leb}
-use native.Mathlib.Decide.{dec_le}
+use native.Mathlib.Decide.{dec_le, ℕ_discrete}
 use borrow.Author.Tests.{lt-leb}
-use Rattle.formats.specs.Refusals.{fuel_used_up, input_ended, not_aTag, output_full, too_many_calls, cannot_perform, out_of_range}
+use Rattle.formats.specs.Refusals.{fuel_used_up, input_ended, not_a_tag, output_full, too_many_calls, cannot_perform, out_of_range}
+use Rattle.formats.specs.Results.{refusal}
 use Rattle.refusal.specs.Inner.Numbers.{number}
 use Rattle.refusal.specs.declared.Refusal.{Refusal}
+use Rattle.refusal.specs.declared.Refusal.TheVariants.{FuelUsedUp}
 use Rattle.refusal.specs.declared.Verdict.TheVariants.{Passed, Refused}
 use Rattle.meaning.specs.Performing.{number_kept}
+use Rattle.meaning.specs.Running.{Answer as Due}
 use Rattle.machine_state.specs.declared.Machine.{Machine}
+use Rattle.machine_state.specs.declared.Answer.{Answer}
 use Rattle.machine_state.specs.Inner.States.{words_from, frame_of, has_ended}
-use Rattle.machine_state.specs.Inner.Answers.{refusal_number, due_at, Reports}
+use Rattle.machine_state.specs.Inner.Answers.{run_answer, refusal_number, due_at, Reports, in_64_bits, due_checked, ReportsChecked}
 
 -- ---- `refusal_of`
 
 module _ (stop : ℕ) where
-  pub named_fuel : stop ≡ fuel_used_up → fuel_used_up ≡ refusal_number stop
-  unfolding refusal_number
-  named_fuel e = sym (ap refusal_number e)
-
   pub named_input : stop ≡ input_ended → input_ended ≡ refusal_number stop
   unfolding refusal_number
   named_input e = sym (ap refusal_number e)
 
-  pub named_tag : stop ≡ not_aTag → not_aTag ≡ refusal_number stop
+  pub named_tag : stop ≡ not_a_tag → not_a_tag ≡ refusal_number stop
   unfolding refusal_number
   named_tag e = sym (ap refusal_number e)
 
@@ -39,24 +39,20 @@ module _ (stop : ℕ) where
   named_range e = sym (ap refusal_number e)
 
   pub named_rest :
-      stop ≢ fuel_used_up
-      → stop ≢ input_ended
-      → stop ≢ not_aTag
+      stop ≢ input_ended
+      → stop ≢ not_a_tag
       → stop ≢ output_full
       → stop ≢ too_many_calls
       → stop ≢ out_of_range
       → cannot_perform ≡ refusal_number stop
   unfolding refusal_number
-  named_rest a b c d e f =
-      elim (dec_le fuel_used_up stop) [
-        | no low ↦ let few : stop < fuel_used_up = omega arith in sym (simp (refusal_number, lt-leb _ _ few, ne_eqb stop out_of_range f))
-        | yes low ↦
-            let from_15 : input_ended ≤ stop = omega arith in
-            let many : too_many_calls < stop = omega arith in
-            sym (simp (refusal_number, le-leb _ _ low, lt-leb _ _ many, ne_eqb stop out_of_range f))
+  named_rest a b c d f =
+      elim (dec_le input_ended stop) [
+        | no low ↦ let few : stop < input_ended = omega arith in sym (simp (refusal_number, lt-leb _ _ few, ne_eqb stop out_of_range f))
+        | yes low ↦ let many : too_many_calls < stop = omega arith in sym (simp (refusal_number, le-leb _ _ low, lt-leb _ _ many, ne_eqb stop out_of_range f))
       ]
 
-pub ruleset named = (named_fuel, named_input, named_tag, named_output, named_calls, named_range, named_rest)
+pub ruleset named = (named_input, named_tag, named_output, named_calls, named_range, named_rest)
 
 -- ---- `number_kept`
 
@@ -94,21 +90,78 @@ pub ruleset kept = (kept_none, kept_past, kept_top)
 -- ---- `report`
 
 module _ (values : List ℕ) (units : ℕ) (s : Machine) where
-  pub reports_ended :
+  pub wrapped_ended :
       (number more : ℕ)
       → s.stop ≡ has_ended
       → number ≡ number_kept (frame_of values s)
       → more ≡ (units + 1) % 2 ^ 64
-      → Reports values units s (record { verdict = Passed; units = more; read = s.read; written = s.written; number = number })
+      → run_answer (record { verdict = Passed; units = more; read = s.read; written = s.written; number = number }) ≡ in_64_bits (due_at values units s)
   unfolding due_at
-  reports_ended number more e is counted = record { reports = rw (due_at, eq-eqb _ _ e, is, counted) refl }
+  wrapped_ended number more e is counted = rw (due_at, eq-eqb _ _ e, is, counted) refl
 
-  pub reports_refused :
+  pub wrapped_refused :
       (why : Refusal)
       → s.stop ≢ has_ended
+      → units < 2 ^ 64
       → number why ≡ refusal_number s.stop
-      → Reports values units s (record { verdict = Refused why s.read; units = units; read = s.read; written = s.written; number = 0 })
+      → run_answer (record { verdict = Refused why s.read; units = units; read = s.read; written = s.written; number = 0 }) ≡ in_64_bits (due_at values units s)
   unfolding due_at
-  reports_refused why h is = record { reports = rw (due_at, ne_eqb _ _ h, is) refl }
+  wrapped_refused why h wide is = let fits : units % 2 ^ 64 ≡ units = omega arith in rw (due_at, ne_eqb _ _ h, is, fits) refl
 
-pub ruleset reported = (reports_ended, reports_refused)
+  -- where the unit of the last return does not wrap, nothing is cut off
+  due_fits : units + 1 < 2 ^ 64 → in_64_bits (due_at values units s) ≡ due_at values units s
+  unfolding due_at
+  due_fits wide =
+      let one_more : (units + 1) % 2 ^ 64 ≡ units + 1 = omega arith in
+      let none_more : units % 2 ^ 64 ≡ units = omega arith in
+      elim (ℕ_discrete s.stop has_ended) [
+        | yes e ↦ rw (due_at, eq-eqb _ _ e, one_more) refl
+        | no h ↦ rw (due_at, ne_eqb _ _ h, none_more) refl
+      ]
+
+  pub reports_whole : (r : Answer) → run_answer r ≡ in_64_bits (due_at values units s) → units + 1 < 2 ^ 64 → Reports values units s r
+  reports_whole r is wide = record { reports = is ∙ due_fits wide }
+
+pub ruleset reported = (wrapped_ended, wrapped_refused, reports_whole)
+
+-- ---- `report_checked`
+
+module _ (values : List ℕ) (units : ℕ) (s : Machine) (r : Answer) (reported : run_answer r ≡ in_64_bits (due_at values units s)) where
+  pub checked_unfuelled :
+      s.stop ≡ fuel_used_up
+      → ReportsChecked values units s (record { verdict = Refused FuelUsedUp s.read; units = r.units; read = r.read; written = r.written; number = r.number })
+  unfolding due_at due_checked
+  checked_unfuelled e =
+      let no_end : s.stop ≢ has_ended = λ ended. absurd (omega arith) in
+      let plain : run_answer r
+      ≡ record { outcome = refusal (refusal_number s.stop) s.read; units = units % 2 ^ 64; bytes_read = s.read; bytes_written = s.written; number = 0 } =
+      reported ∙ rw (due_at, ne_eqb _ _ no_end) refl in
+      let units_are : r.units ≡ units % 2 ^ 64 = ap (λ (q : Due). q.units) plain in
+      let read_is : r.read ≡ s.read = ap (λ (q : Due). q.bytes_read) plain in
+      let written_is : r.written ≡ s.written = ap (λ (q : Due). q.bytes_written) plain in
+      let none_kept : r.number ≡ 0 = ap (λ (q : Due). q.number) plain in
+      record { reports = rw (due_checked, eq-eqb _ _ e, units_are, read_is, written_is, none_kept) refl }
+
+  pub checked_else : s.stop ≢ fuel_used_up → ReportsChecked values units s r
+  unfolding due_checked
+  checked_else h = record { reports = rw (due_checked, ne_eqb _ _ h) reported }
+
+pub ruleset reported_checked = (checked_unfuelled, checked_else)
+
+-- ---- what the loop of checked code takes from it
+
+module _ (values : List ℕ) (units : ℕ) (s : Machine) (r : Answer) (t : ReportsChecked values units s r) where
+  -- no fuel is left
+  pub unfuelled_is :
+      s.stop ≡ fuel_used_up
+      → units < 2 ^ 64
+      → run_answer r ≡ record { outcome = refusal fuel_used_up s.read; units = units; bytes_read = s.read; bytes_written = s.written; number = 0 }
+  unfolding due_checked
+  unfuelled_is e wide = let fits : units % 2 ^ 64 ≡ units = omega arith in t.reports ∙ rw (due_checked, eq-eqb _ _ e, fits) refl
+
+  -- every other stop is answered as that of any code
+  pub stop_is : s.stop ≢ fuel_used_up → units + 1 < 2 ^ 64 → Reports values units s r
+  unfolding due_checked
+  stop_is h wide =
+      let plain : in_64_bits (due_checked values units s) ≡ in_64_bits (due_at values units s) = rw (due_checked, ne_eqb _ _ h) refl in
+      record { reports = t.reports ∙ plain ∙ due_fits values units s wide }

@@ -1,10 +1,12 @@
 // The numbers of the stream machine, and the answer of a run that stops: what the run of any code
 // (`machine`) and the run of a checked program's code (`runner`) share.
-ghost use Rattle.std.specs.Prelude.{◌≡◌};
+#![tactic(auto)]
+
+ghost use Rattle.std.specs.Prelude.{◌≡◌, ◌+◌, ◌^◌, ◌<◌};
 ghost use Rattle.meaning.specs.Performing.{number_kept};
 ghost use Rattle.refusal.specs.Inner.Numbers.{number};
 ghost use Rattle.machine_state.specs.Inner.States.{frame_of, stopped_by, jump_to};
-ghost use Rattle.machine_state.specs.Inner.Answers.{refusal_number, Reports};
+ghost use Rattle.machine_state.specs.Inner.Answers.{run_answer, refusal_number, due_at, Reports, in_64_bits, ReportsChecked};
 
 use refusal::{Refusal, Verdict};
 
@@ -51,7 +53,7 @@ pub const LABEL_BYTES: usize = 4;
 // The numbers of the machine: the address, why it stops, where the frame's words begin and end, how
 // many bytes are read and written, how many words of the return places are in use. Flat, so that it
 // stays in registers; in this order both runs are fast (docs/BENCHMARKS.md).
-#[derive(Drop)]
+#[derive(Clone, Copy)]
 pub struct Machine {
     pub address: usize,
     pub stop: u32,
@@ -63,7 +65,7 @@ pub struct Machine {
 }
 
 // What a run answers: ended or refused, units, bytes read and written, and the number.
-#[derive(Drop)]
+#[derive(Clone, Copy)]
 pub struct Answer {
     pub verdict: Verdict,
     pub units: u64,
@@ -95,7 +97,6 @@ fn refusal_of(stop: u32) -> Refusal
     ensures { number result ≡ refusal_number stop }
 {
     match stop {
-        14 => Refusal::FuelUsedUp,
         15 => Refusal::InputEnded,
         16 => Refusal::NotATag,
         17 => Refusal::OutputFull,
@@ -119,9 +120,11 @@ fn number_kept(s: Machine, values: &[u32]) -> u32
     values[top - 1]
 }
 
-// The answer of a run that stops here, after `units` instructions.
+// The answer of a run that stops here, after `units` instructions. The unit of the last return is
+// counted in 64 bits, so that nothing is asked of the units.
 pub fn report(s: Machine, units: u64, values: &[u32]) -> Answer
-    ensures { Reports values.now units s result }
+    ensures reports { units + 1 < 2 ^ 64 → Reports values.now units s result }
+    ensures wrapped { run_answer result ≡ in_64_bits (due_at values.now units s) }
 {
     let stop = s.stop;
     if stop == ENDED {
@@ -140,4 +143,16 @@ pub fn report(s: Machine, units: u64, values: &[u32]) -> Answer
         written: s.written,
         number: 0,
     }
+}
+
+// The answer of a run of checked code that stops here: its loop stops the machine with 14 where no
+// fuel is left, and so 14 names its own refusal. All else is as above.
+pub fn report_checked(s: Machine, units: u64, values: &[u32]) -> Answer
+    ensures { ReportsChecked values.now units s result }
+{
+    let mut r = report(s, units, values);
+    if s.stop == FUEL_USED_UP {
+        r.verdict = Verdict::Refused(Refusal::FuelUsedUp, s.read);
+    }
+    r
 }

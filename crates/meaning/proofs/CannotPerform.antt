@@ -13,7 +13,7 @@ use borrow.Author.Tests.{ltb-true, ltb-false, leb-true, leb-false}
 use lib.Dec.{lit<, leb, ltb}
 use lib.ListN.{length}
 use Rattle.formats.specs.Arithmetic.{Op, result_of}
-use Rattle.formats.specs.Refusals.{input_ended, not_aTag, output_full, too_many_calls, cannot_perform, out_of_range}
+use Rattle.formats.specs.Refusals.{input_ended, not_a_tag, output_full, too_many_calls, cannot_perform, out_of_range}
 use Rattle.formats.specs.Tokens.{label_bytes, Tag, no_byte, a_leaf, a_node, other, tag_at}
 use Rattle.formats.specs.Numbers.{bytes_of, number_of, number_at}
 use Rattle.formats.specs.Records.{fields, bytes_of_record, record_at, nth}
@@ -226,7 +226,7 @@ module _ (m : Setting) (s : State) where
   exactly_tag no_byte a (past ends_before) h = refused {number = input_ended} (no_tag ends_before) (λ e. absurd (omega arith)) h
   exactly_tag a_leaf a l h = going h
   exactly_tag a_node a l h = going h
-  exactly_tag other a (at_other there no_leaf no_node) h = refused {number = not_aTag} (no_such_tag there no_leaf no_node) (λ e. absurd (omega arith)) h
+  exactly_tag other a (at_other there no_leaf no_node) h = refused {number = not_a_tag} (no_such_tag there no_leaf no_node) (λ e. absurd (omega arith)) h
 
   -- a return
   exactly_leave :

@@ -7,7 +7,7 @@ use mathlib.Core.Option.{Option, none, some}
 use mathlib.Core.Path.{◌≡◌, subst}
 use lib.Dec.{lit<, eqb, leb}
 use lib.ListN.{length, take, drop}
-use Rattle.formats.specs.Refusals.{wrong_type, not_bound, input_ended, not_aTag, space_too_short, out_of_range}
+use Rattle.formats.specs.Refusals.{wrong_type, not_bound, input_ended, not_a_tag, space_too_short, out_of_range}
 use Rattle.formats.specs.Results.{Result, done, refusal, and_then, on_value, value_if, each}
 use Rattle.formats.specs.Tokens.{Tree, label_bytes, Tag, no_byte, a_leaf, a_node, other, tag_at, label_at, branches_at, tree_by_tag, tree_at, first_tree, tokens}
 use Rattle.formats.specs.Records.{Record, fields, record_bytes, nth, Kind, fields_of, kind_of, same_fields, function_below, node_record}
@@ -151,7 +151,7 @@ tag_early : (s : List ℕ) (p : ℕ) (below : ℕ → Result Tree) → ((q : ℕ
 unfolding tree_by_tag
 tag_early s p below h = by_tag (tag_at s p)
   where
-    by_tag : (g : Tag) → Early {A = Tree} (elim g [ no_byte ↦ refusal input_ended p | a_leaf ↦ label_at s (suc p) | a_node ↦ below p | other ↦ refusal not_aTag p ])
+    by_tag : (g : Tag) → Early {A = Tree} (elim g [ no_byte ↦ refusal input_ended p | a_leaf ↦ label_at s (suc p) | a_node ↦ below p | other ↦ refusal not_a_tag p ])
     by_tag no_byte = a_refusal (lit< tt)
     by_tag a_leaf = label_early s (suc p)
     by_tag a_node = h p

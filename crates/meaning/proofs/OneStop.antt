@@ -21,7 +21,7 @@ use Rattle.meaning.specs.Evaluation.{Takes, Const, Var, Compute, IfZero, Let, Le
 use Rattle.meaning.specs.Evaluation.{if_zero_units, case_units, counted, units_in, units_in_args}
 use Rattle.meaning.specs.OpenCalls.{Reason, no_call, no_result, number_or, tree_or, result_tree}
 use Rattle.meaning.specs.Unfinished.{StopsIn, out-of-range, in_first, in_second, in_test, in_picked, in_named, in_body, in_label, in_left, in_right}
-use Rattle.meaning.specs.Unfinished.{in-branch, in_arguments, too_many, in-call, StopsInArgs, in_this, in_later, StopsOn, none_open, in_first_call, Breaks}
+use Rattle.meaning.specs.Unfinished.{in-branch, in_arguments, too_many, in-call, in_this, in_later, StopsOn, none_open, in_first_call, Breaks}
 use Rattle.meaning.specs.Unfinished.{branch_units, units_until, bytes_until, stop_units, stop_bytes}
 use Rattle.meaning.proofs.Evaluation.{by_args, takes_open}
 use Rattle.meaning.proofs.Unfinished.{stops_open, units_until_args, bytes_until_args}

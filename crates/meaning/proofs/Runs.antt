@@ -10,7 +10,7 @@ use lib.ListN.{length, length-append}
 use Rattle.formats.specs.Refusals.{fuel_used_up}
 use Rattle.meaning.specs.Performing.{Setting, State, goes, ends, refuses, step}
 use Rattle.meaning.specs.Running.{Run, Stop, ended, refused, stopped, after_performing, run, units_of}
-use Rattle.meaning.specs.StreamRun.{StepRefusal, ended_there, not_a_tag, full, too_many, cannot, out-of-range, Grows, Steps, here, on, Stops, used_up, returned, stuck, after_all, Runs}
+use Rattle.meaning.specs.StreamRun.{StepRefusal, ended_there, not-a-tag, full, too_many, cannot, out-of-range, Grows, Steps, here, on, Stops, used_up, returned, stuck, after_all, Runs}
 use Rattle.meaning.proofs.Steps.{it_goes, it_ends, it_refuses, stepped, Follows, grows_same, follows_same, follows_on, follows_step, one_step}
 
 -- ---- a run by the outcome of its first instruction
@@ -95,7 +95,7 @@ module _ {m : Setting} {fuel : ℕ} {s : State} where
     where
       not_fuel : {n : ℕ} → StepRefusal n → n ≢ fuel_used_up
       not_fuel ended_there e = omega arith
-      not_fuel not_a_tag e = omega arith
+      not_fuel not-a-tag e = omega arith
       not_fuel full e = omega arith
       not_fuel too_many e = omega arith
       not_fuel cannot e = omega arith

@@ -19,7 +19,7 @@ use Rattle.meaning.specs.Instructions.{Instruction, Operation, Push, Get, Comput
 use Rattle.meaning.specs.Levels.{at_level}
 use Rattle.meaning.specs.Performing.{Setting, Caller, State, words_below, words_standing, calls_open, Step, goes, ends, refuses, go_to, holding, reading, writing}
 use Rattle.meaning.specs.Performing.{pop_one, pop_two, if_room, push_word, push_result, write, on_tag, take_number, open_call, kept, leave, operate, perform, step}
-use Rattle.meaning.specs.StreamRun.{StepRefusal, ended_there, not_a_tag, full, too_many, cannot, out-of-range, Within, Grows, OneStep}
+use Rattle.meaning.specs.StreamRun.{StepRefusal, ended_there, not-a-tag, full, too_many, cannot, out-of-range, Within, Grows, OneStep}
 use Rattle.meaning.proofs.CannotPerform.{cannot_first}
 use Rattle.meaning.proofs.Stopping.{refused_exactly, ends_exactly}
 
@@ -171,7 +171,7 @@ module _ (m : Setting) (s : State) where
   sound_tag no_byte a l = ended_there
   sound_tag a_leaf a (at_leaf there is) = follows_reading m s _ 1 (omega arith)
   sound_tag a_node a (at_node there is) = follows_reading m s a 1 (omega arith)
-  sound_tag other a l = not_a_tag
+  sound_tag other a l = not-a-tag
 
   sound_number : words_standing s < m.most_words → Sound m s (take_number m s)
   unfolding take_number words_standing

@@ -11,7 +11,7 @@ use native.Mathlib.Omega.{arith}
 use borrow.Author.Tests.{le-ltb, lt-leb}
 use lib.Dec.{leb, ltb}
 use lib.ListN.{length}
-use Rattle.formats.specs.Refusals.{input_ended, not_aTag, output_full, too_many_calls, cannot_perform, out_of_range}
+use Rattle.formats.specs.Refusals.{input_ended, not_a_tag, output_full, too_many_calls, cannot_perform, out_of_range}
 use Rattle.formats.specs.Tokens.{label_bytes, tag_of, tag_at}
 use Rattle.formats.specs.Numbers.{bytes_of, number_of, number_at, signed32}
 use Rattle.formats.specs.Arithmetic.{unbounded, word_for, result_of}
@@ -123,7 +123,7 @@ at_the_limits = refl
 derivations :
     Refused (alone_with (ReadTag 0) [] 0) (standing_at 0 0) input_ended
     × Refused (alone_with ReadNumber (5 ∷ 0 ∷ 0 ∷ []) 0) (standing_at 0 0) input_ended
-    × Refused (alone_with (ReadTag 0) (3 ∷ []) 0) (standing_at 0 0) not_aTag
+    × Refused (alone_with (ReadTag 0) (3 ∷ []) 0) (standing_at 0 0) not_a_tag
     × Refused (alone_with LeafTag [] 0) (standing_at 0 0) output_full
     × Refused (alone_with NodeTag [] 0) (standing_at 0 0) output_full
     × Refused (alone_with WriteNumber [] 3) (standing_at 1 0) output_full

@@ -34,8 +34,8 @@ stops_open s = elim s as (λ E r e o n why x s. 1 ≤ o) (λ E r xs o n before w
 
 -- ---- units and bytes
 
--- What `units_until` counts along arguments. (The clauses are those of `units_until`, so that the two
--- agree by computation.)
+-- What `units_until` counts along arguments. (The clauses are those of `units_until`, so that the
+-- two agree by computation.)
 abbrev pub units_until_args :
     {program : Program} {E : Environment} {r : ℕ} {xs : Args} {o n : ℕ} {before : List ℕ} {why : Reason} {x : ℕ}
     → StopsInArgs program E r xs o n before why x

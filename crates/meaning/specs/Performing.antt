@@ -3,7 +3,7 @@ use Rattle.std.specs.Prelude.{ℕ, zero, suc, ◌+◌, true, false, List, [], �
 use Rattle.std.proofs.Math.Option.{Option, none, some}
 use Rattle.formats.specs.Numbers.{bytes_of, number_at}
 use Rattle.formats.specs.Arithmetic.{result_of}
-use Rattle.formats.specs.Refusals.{input_ended, not_aTag, output_full, too_many_calls, cannot_perform, out_of_range}
+use Rattle.formats.specs.Refusals.{input_ended, not_a_tag, output_full, too_many_calls, cannot_perform, out_of_range}
 use Rattle.formats.specs.Tokens.{leaf_tag, node_tag, label_bytes, Tag, no_byte, a_leaf, a_node, other, tag_at}
 use Rattle.meaning.specs.Levels.{at_level}
 use Rattle.meaning.specs.Instructions.{Instruction, Operation, Push, Get, Compute, Ifnot, Jump, Slide, Drop, LeafTag, NodeTag, WriteNumber, ReadTag, ReadNumber, Call, Return, operation_of}
@@ -127,7 +127,7 @@ unfoldable pub on_tag : Tag → ℕ → State → Step
 on_tag no_byte a s = refuses input_ended
 on_tag a_leaf a s = goes (to_next (reading 1 s))
 on_tag a_node a s = goes (go_to a (reading 1 s))
-on_tag other a s = refuses not_aTag
+on_tag other a s = refuses not_a_tag
 
 -- The four bytes of a number, pushed.
 unfoldable pub take_number : Setting → State → Step

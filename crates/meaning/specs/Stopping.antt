@@ -6,7 +6,7 @@
 use Rattle.std.specs.Prelude.{ℕ, ◌+◌, ◌≤◌, ◌<◌, List, [], ◌∷◌, ◌≢◌, ◌≡◌, length, get_or}
 use Rattle.std.proofs.Math.Option.{none}
 use Rattle.formats.specs.Arithmetic.{Op, result_of}
-use Rattle.formats.specs.Refusals.{input_ended, not_aTag, output_full, too_many_calls, cannot_perform, out_of_range}
+use Rattle.formats.specs.Refusals.{input_ended, not_a_tag, output_full, too_many_calls, cannot_perform, out_of_range}
 use Rattle.formats.specs.Tokens.{leaf_tag, node_tag, label_bytes}
 use Rattle.meaning.specs.Instructions.{Operation, Compute, LeafTag, NodeTag, WriteNumber, ReadTag, ReadNumber, Call, Return}
 use Rattle.meaning.specs.Performing.{Setting, State, calls_open}
@@ -24,7 +24,7 @@ pub data Prevented (m : Setting) (s : State) : Operation → ℕ → Type 0 wher
       → s.read < length m.input
       → get_or m.input s.read 0 ≢ leaf_tag
       → get_or m.input s.read 0 ≢ node_tag
-      → Prevented m s (ReadTag a) not_aTag
+      → Prevented m s (ReadTag a) not_a_tag
   -- "17 output full": a leaf tag or a node tag with no room for 1 byte, a write number with no room
   -- for 4
   no_room_for_leaf : m.space < length s.output + 1 → Prevented m s LeafTag output_full

@@ -3,7 +3,7 @@
 use Rattle.std.specs.Prelude.{ℕ, ◌+◌, ◌≤◌, ◌<◌, List, [], ◌∷◌, ◌++◌, ◌↔◌, ◌≢◌, ◌≡◌, true, false, eqb, length, take}
 use Rattle.std.proofs.Math.Option.{some}
 use Rattle.formats.specs.Buffers.{Opens}
-use Rattle.formats.specs.Refusals.{fuel_used_up, input_ended, not_aTag, output_full, too_many_calls, cannot_perform, out_of_range}
+use Rattle.formats.specs.Refusals.{fuel_used_up, input_ended, not_a_tag, output_full, too_many_calls, cannot_perform, out_of_range}
 use Rattle.formats.specs.Results.{Result, done, refusal}
 use Rattle.formats.specs.Tokens.{label_bytes}
 use Rattle.meaning.specs.Instructions.{Instruction, Operation, operation_of, instruction_of, unused_zeroed}
@@ -18,7 +18,7 @@ use Rattle.meaning.specs.Running.{written_by, untouched_by}
 -- What an instruction may be refused with. (14 is a refusal of the run.)
 pub data StepRefusal : ℕ → Type 0 where
   ended_there : StepRefusal input_ended
-  not_a_tag : StepRefusal not_aTag
+  not-a-tag : StepRefusal not_a_tag
   full : StepRefusal output_full
   too_many : StepRefusal too_many_calls
   cannot : StepRefusal cannot_perform
@@ -102,7 +102,7 @@ looked_at (done x) = 0
 looked_at (refusal number position) =
     elim (eqb number input_ended) [
       | true ↦ label_bytes
-      | false ↦ elim (eqb number not_aTag) [ true ↦ 1 | false ↦ 0 ]
+      | false ↦ elim (eqb number not_a_tag) [ true ↦ 1 | false ↦ 0 ]
     ]
 
 -- The opening bytes of an input that a call's answer rests on.

@@ -2,7 +2,7 @@
 -- number, and that a call which is refused before its run leaves them as they were. (A run without
 -- fuel is a run: 14 is its own refusal.)
 use Rattle.std.specs.Prelude.{ℕ, Bool, true, ◌||◌, List, ◌≡◌, eqb, leb, length}
-use Rattle.formats.specs.Refusals.{space_too_short, input_ended, not_aTag, too_deep}
+use Rattle.formats.specs.Refusals.{space_too_short, input_ended, not_a_tag, too_deep}
 use Rattle.formats.specs.Results.{Result, refusal}
 
 -- The numbers that a call is refused with before its stream run: 1 to 13.
@@ -12,7 +12,7 @@ before_stream number = leb number space_too_short
 -- The numbers that a call is refused with before its source run: 1 to 13, and those of the tree
 -- reader, 15, 16 and 20.
 unfoldable pub before_source : ℕ → Bool
-before_source number = leb number space_too_short || (eqb number input_ended || (eqb number not_aTag || eqb number too_deep))
+before_source number = leb number space_too_short || (eqb number input_ended || (eqb number not_a_tag || eqb number too_deep))
 
 -- The work words of a call with this outcome: unprimed at entry, primed at exit. `before` says
 -- which refusals come before the run.

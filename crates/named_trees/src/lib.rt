@@ -1,4 +1,6 @@
 // Where the tree begins that a record of a program names, in a frame of the source run.
+#![tactic(auto)]
+
 ghost use Rattle.std.specs.Prelude.{◌≡◌};
 ghost use Rattle.stepwise.specs.Inner.Steps.{tree_at};
 ghost use Rattle.named_trees.specs.Inner.Offsets.{part_at, tree_offset};

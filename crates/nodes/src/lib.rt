@@ -1,4 +1,6 @@
 // The row "nodes" over flat records of 8 bytes each, and how many parts a node has.
+#![tactic(auto)]
+
 ghost use Rattle.std.specs.Prelude.{◌≡◌};
 ghost use Rattle.formats.specs.Records.{part_count};
 ghost use Rattle.formats.specs.Results.{verdict};

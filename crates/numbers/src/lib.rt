@@ -1,12 +1,14 @@
 // 32-bit words as numbers in two's complement: their exact sums, and the number that a word stands
 // for.
+#![tactic(auto)]
+
 ghost use Rattle.std.specs.Prelude.{◌≡◌};
 ghost use Rattle.formats.specs.Numbers.{signed32};
 ghost use Rattle.formats.specs.Arithmetic.{plus, result_of};
 ghost use Rattle.numbers.specs.Inner.Sums.{word_in, extended_of};
 
 // What two words add up to: the word of the exact sum, or the sum is out of range.
-#[derive(Drop)]
+#[derive(Clone, Copy)]
 pub enum Sum {
     Word(u32),
     OutOfRange,

@@ -1,4 +1,6 @@
 // A step of the source run: a call opens, and this is the next stage.
+#![tactic(auto)]
+
 ghost use Rattle.std.specs.Prelude.{suc, ◌-◌, ◌*◌, ◌<◌, ◌≡◌, set};
 ghost use Rattle.stepwise.specs.Inner.Steps.{slot_at, more_at, frame_words, record_limit, most_waiting, copied};
 ghost use Rattle.open_call.specs.Inner.Opens.{Opens};

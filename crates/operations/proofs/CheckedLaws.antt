@@ -78,8 +78,8 @@ module _ (fuel k : ℕ) (values values' : List ℕ) (s r : Machine) where
 
 -- ---- `read_number`
 
--- Where fewer bytes are left than a test asks for, which asks for no more than a label has, no label
--- is whole. So a test that asks for too few fails where the bytes are read, and not here.
+-- Where fewer bytes are left than a test asks for, which asks for no more than a label has, no
+-- label is whole. So a test that asks for too few fails where the bytes are read, and not here.
 pub no_label : (n asked : ℕ) → n < asked → leb asked label_bytes ≡ true → n < label_bytes
 no_label n asked fewer e = omega (arith, fewer, leb-true asked label_bytes e)
 

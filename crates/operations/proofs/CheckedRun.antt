@@ -22,11 +22,12 @@ use Rattle.meaning.proofs.WorkWords.{run_refused}
 use Rattle.machine_state.specs.declared.Machine.{Machine}
 use Rattle.machine_state.specs.declared.Answer.{Answer}
 use Rattle.machine_state.specs.Inner.States.{state_of, limit_of, goes_on, Sound}
-use Rattle.machine_state.specs.Inner.Answers.{refusal_number, due_at, Reports, Performed}
+use Rattle.machine_state.specs.Inner.Answers.{ReportsChecked, Performed}
+use Rattle.machine_state.proofs.Laws.{unfuelled_is, stop_is}
 use Rattle.operations.specs.Inner.Effects.{Does, Steps}
 use Rattle.operations.specs.Inner.Checked.{Safe, Able, Turns}
 use Rattle.operations.proofs.StepLaws.{there, not_there, steps_none, turns_there}
-use Rattle.operations.proofs.RunLaws.{Running, stops_here, turned_on, turned_stops}
+use Rattle.operations.proofs.RunLaws.{Running, stops_here, turned_on, turned_not_14, turned_stops}
 
 -- ---- after an instruction, or none
 
@@ -137,26 +138,30 @@ module _ (code input : List ℕ) (fuel : ℕ) (output₀ values₀ returns₀ : 
         turned_on code input fuel output₀ values₀ returns₀ output values returns s units h output' values' returns' r (fuel_left fuel units more) (performed more) goes
 
     -- it stops: no fuel is left ..
-    unfuelled : (a : Answer) → fuel - units ≡ 0 → Reports values' units r a → Performed due output' values₀ values' returns₀ returns' a
-    unfolding outcome_of number_reported before_stream due_at refusal_number
-    unfuelled a none t =
+    unfuelled : (a : Answer) → Fits w64 fuel → fuel - units ≡ 0 → ReportsChecked values' units r a → Performed due output' values₀ values' returns₀ returns' a
+    unfolding outcome_of number_reported before_stream
+    unfuelled a wide none t =
         let all : length h.past ≡ fuel = omega (arith, h.counted, h.fuelled) in
         let now : fuel ≡ units = omega (arith, h.fuelled) in
         let is = (d.used_up none).0 in
+        let stop : r.stop ≡ fuel_used_up = ap (λ (q : Machine). q.stop) is in
         let values_kept = checked_values code input fuel output₀ values₀ returns₀ output values returns s units h i output' values' returns' r d in
         let returns_kept = checked_returns code input fuel output₀ values₀ returns₀ output values returns s units h i output' values' returns' r d in
         stops_here code input fuel output₀ values₀ returns₀ output values returns s units h
         h.past (refused fuel_used_up) output' values' returns' a (used_up h.led all)
-        (t.reports ∙ rw (is, all, now) refl)
+        (unfuelled_is values' units r a t stop (omega arith) ∙ rw (is, all, now) refl)
         (d.used_up none).3
         (run_refused before_stream _ _ _ _ _ values_kept returns_kept fuel_used_up s.read refl refl)
 
-    -- .. or the instruction stops
-    pub checked_stops : (a : Answer) → Fits w64 fuel → r.stop ≢ goes_on → Reports values' units r a → Performed due output' values₀ values' returns₀ returns' a
+    -- .. or the instruction stops, which is never with 14
+    pub checked_stops : (a : Answer) → Fits w64 fuel → r.stop ≢ goes_on → ReportsChecked values' units r a → Performed due output' values₀ values' returns₀ returns' a
     checked_stops a wide stops t = elim (either (fuel - units)) [
-      | inl none ↦ unfuelled a none t
+      | inl none ↦ unfuelled a wide none t
       | inr more ↦
-          turned_stops code input fuel output₀ values₀ returns₀ output values returns s units h output' values' returns' r (fuel_left fuel units more) (performed more) a wide stops t
+          let inside = fuel_left fuel units more in
+          let not_14 = turned_not_14 code input fuel output₀ values₀ returns₀ output values returns s units h output' values' returns' r inside (performed more) in
+          turned_stops code input fuel output₀ values₀ returns₀ output values returns s units h output' values' returns' r inside (performed more) a wide stops
+          (stop_is values' units r a t not_14)
     ]
 
 pub ruleset checked_run = (fetch_inside, step_sound, step_able, checked_on, checked_stops)

@@ -55,3 +55,12 @@ module _ (code : List ℕ) (address : ℕ) (whole : instruction_bytes * address 
       cc (opcode, byte1, operand, number)
 
 pub ruleset fetched = (record_there, length_inside)
+
+-- ---- `operand_of` and `number_of`
+
+module _ (i : List ℕ) (r : ℕ) (whole : instruction_bytes ≤ length i) where
+  pub operand_is : r ≡ number_of (get_or i 2 0 ∷ get_or i 3 0 ∷ []) → r ≡ number_at 2 i 2
+  operand_is made = number-read 2 i 2 _ r (omega arith) (omega arith) made refl
+
+  pub number_is : r ≡ number_of (get_or i 4 0 ∷ get_or i 5 0 ∷ get_or i 6 0 ∷ get_or i 7 0 ∷ []) → r ≡ number_at 4 i 4
+  number_is made = number-read 4 i 4 _ r (omega arith) (omega arith) made refl

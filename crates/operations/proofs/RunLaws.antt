@@ -1,7 +1,7 @@
 -- The run: a law for each way out of its functions. Before each turn as many steps as units lead
 -- from the start to the state that the machine stands for (`Running`), and steps determine the run:
 -- so the turn that stops is the whole run's last.
-use Prim.Native.Nat.{ℕ, ◌+◌, ◌-◌, ◌%◌, ◌^◌, ◌≤◌, ◌<◌}
+use Prim.Native.Nat.{ℕ, ◌+◌, ◌-◌, ◌^◌, ◌≤◌, ◌<◌}
 use mathlib.Core.Bool.{false}
 use mathlib.Core.List.{List, [], ◌∷◌, ◌++◌}
 use mathlib.Core.Logic.{◌≢◌}
@@ -20,7 +20,7 @@ use Rattle.refusal.specs.declared.Refusal.TheVariants.{FuelUsedUp}
 use Rattle.refusal.specs.declared.Verdict.TheVariants.{Refused}
 use Rattle.meaning.specs.Performing.{Setting, State, start, goes, ends, refuses, step, number_kept}
 use Rattle.meaning.specs.Running.{Run, Stop, refused, Ran, ran_to, none_done, too_short, of_code, outcome_of, number_reported, value_words, return_words, stream_run}
-use Rattle.meaning.specs.StreamRun.{StepRefusal, ended_there, not_a_tag, full, too_many, cannot, out-of-range, Stops, used_up, returned, stuck, here, on}
+use Rattle.meaning.specs.StreamRun.{StepRefusal, ended_there, not-a-tag, full, too_many, cannot, out-of-range, Stops, used_up, returned, stuck, here, on}
 use Rattle.meaning.specs.StreamRun.{Steps as Led}
 use Rattle.meaning.proofs.Steps.{one_step}
 use Rattle.meaning.proofs.Runs.{runs}
@@ -51,17 +51,26 @@ module _ (values returns output : List ℕ) (r : Machine) where
 names_itself : (n : ℕ) → StepRefusal n → refusal_number n ≡ n
 unfolding refusal_number
 names_itself n ended_there = refl
-names_itself n not_a_tag = refl
+names_itself n not-a-tag = refl
 names_itself n full = refl
 names_itself n too_many = refl
 names_itself n cannot = refl
 names_itself n out-of-range = refl
 
+-- it is not 14, which is that of a run whose fuel is used up
+not_14 : (n : ℕ) → StepRefusal n → n ≢ fuel_used_up
+not_14 n ended_there e = absurd (omega arith)
+not_14 n not-a-tag e = absurd (omega arith)
+not_14 n full e = absurd (omega arith)
+not_14 n too_many e = absurd (omega arith)
+not_14 n cannot e = absurd (omega arith)
+not_14 n out-of-range e = absurd (omega arith)
+
 -- and comes after 13
 not_before : (n : ℕ) → StepRefusal n → before_stream n ≡ false
 unfolding before_stream
 not_before n ended_there = refl
-not_before n not_a_tag = refl
+not_before n not-a-tag = refl
 not_before n full = refl
 not_before n too_many = refl
 not_before n cannot = refl
@@ -259,24 +268,30 @@ module _ (code input : List ℕ) (fuel : ℕ) (output₀ values₀ returns₀ : 
                 untouched = did.untouched ∙ drop_more s.written r.written output output₀ more_written h.untouched;
               }
 
+          -- a step never stops with 14
+          pub turned_not_14 : r.stop ≢ fuel_used_up
+          turned_not_14 is_14 =
+              let e : step m state ≡ refuses r.stop = sym did.reported ∙ step_refuses values' returns' output' r (λ z. absurd (omega arith)) (λ z. absurd (omega arith)) in
+              not_14 r.stop ((one_step m state).refusals r.stop e) is_14
+
           -- it stops
           pub turned_stops :
               (a : Answer)
               → Fits w64 fuel
               → r.stop ≢ goes_on
-              → Reports values' units r a
+              → (units + 1 < 2 ^ 64 → Reports values' units r a)
               → Performed due output' values₀ values' returns₀ returns' a
           unfolding outcome_of number_reported due_at
-          turned_stops a wide stops t =
+          turned_stops a wide stops reported =
+              let t : Reports values' units r a = reported (omega arith) in
               let still = did.still stops in
-              let fits : (units + 1) % 2 ^ 64 ≡ units + 1 = omega arith in
               let fuel_left : length h.past < fuel = omega (arith, h.counted) in
               elim (dec_le r.stop has_ended) [
                 | yes low ↦
                     let is_end : r.stop ≡ has_ended = omega arith in
                     let e : step m state ≡ ends (number_kept (frame_of values' r)) = sym did.reported ∙ step_ends values' returns' output' r is_end in
                     stops_here _ _ output' values' returns' a (returned h.led fuel_left e)
-                    (t.reports ∙ rw (due_at, eq-eqb _ _ is_end, still.read, still.written, fits, counted_more) refl)
+                    (t.reports ∙ rw (due_at, eq-eqb _ _ is_end, still.read, still.written, counted_more) refl)
                     still.same
                     (words_ended before_stream _ _ _ _ _ turned_values turned_returns refl)
                 | no high ↦

@@ -12,7 +12,7 @@ use lib.Dec.{lit<}
 use lib.ListN.{length, get_or, set, take, length-set}
 use lib.Seq.{length-take-le}
 use Rattle.formats.specs.Numbers.{bytes_of, number_of, number_at}
-use Rattle.formats.specs.Refusals.{input_ended, not_aTag, output_full, cannot_perform}
+use Rattle.formats.specs.Refusals.{input_ended, not_a_tag, output_full, cannot_perform}
 use Rattle.formats.specs.Tokens.{leaf_tag, node_tag, label_bytes, Tag, no_byte, a_leaf, a_node, other, tag_at}
 use Rattle.formats.specs.Written.{written}
 use Rattle.formats.proofs.Numbers.{number-read}
@@ -193,10 +193,10 @@ module _ (address : ℕ) (input : List ℕ) (s r : Machine) where
     pub tag_other :
         get_or input s.read 0 ≢ leaf_tag
         → get_or input s.read 0 ≢ node_tag
-        → r ≡ stopped_by not_aTag s
+        → r ≡ stopped_by not_a_tag s
         → OnInput (ReadTag address) input s r
     unfolding on_tag
-    tag_other no_leaf no_node is = tag_refused other not_aTag (tag_is (at_other there no_leaf no_node)) (λ t. refl) (lit< tt) is
+    tag_other no_leaf no_node is = tag_refused other not_a_tag (tag_is (at_other there no_leaf no_node)) (λ t. refl) (lit< tt) is
 
     -- .. it goes on, to an address
     tag_goes :

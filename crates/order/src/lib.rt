@@ -1,4 +1,6 @@
 // The order checker: the one door to both passes, for flat records and for program files.
+#![tactic(auto)]
+
 ghost use Rattle.std.specs.Prelude.{◌≡◌};
 ghost use Rattle.refusal.specs.Inner.Verdicts.{verdict_result};
 ghost use Rattle.rules.specs.PassTwo.{check_records, check_file};

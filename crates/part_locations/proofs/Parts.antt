@@ -2,22 +2,18 @@
 -- cut.
 use Prim.Native.Nat.{ℕ, suc, ◌+◌, ◌-◌, ◌%◌, ◌≤◌, ◌<◌}
 use mathlib.Core.Bool.{Bool, true, false}
-use mathlib.Core.List.{List, [], ◌∷◌}
+use mathlib.Core.List.{List}
 use mathlib.Core.Logic.{◌≢◌}
 use mathlib.Core.Path.{◌≡◌, refl, sym, ap, ap₂, ◌∙◌}
 use native.Mathlib.Decide.{dec_le}
 use native.Mathlib.Omega.{arith}
 use borrow.Author.Rules.{rules}
 use borrow.Author.Tests.{eq-eqb, ne_eqb, eqb-true, eqb-false, le-leb, lt-leb}
-use denote.Enum.Declared.{tag_of}
-use types.Run.{OneOf, miss}
 use lib.Dec.{eqb}
 use lib.ListN.{length, set}
 use lib.Seq.{set_out}
 use Rattle.formats.specs.Records.{Kind}
 use Rattle.formats.specs.Records.{Add as an_add, IfZero as an_if_zero, Let as a_let, Leaf as a_leaf, Node as a_node, Call as a_call}
-use Rattle.records.specs.contracts.Part as ThePart
-use Rattle.records.specs.contracts.Record as TheRecord
 use Rattle.records.specs.Inner.Read.{meant, part_of}
 use Rattle.records.specs.declared.Part.{Part}
 use Rattle.records.specs.declared.Part.TheVariants.{Number, Tree, Whole, UnderNumber, UnderTrees}
@@ -79,28 +75,22 @@ module _ (part : Part) (n : ℕ) where
   depth_more m case e = rw case e
 
 -- parts in which no number is named ..
-abbrev unnamed_tags : List ℕ
-unnamed_tags = 0 ∷ 1 ∷ 2 ∷ 4 ∷ []
-
-pub names_same : (part : Part) (n : ℕ) → OneOf unnamed_tags (tag_of ThePart.the_type part) → n ≡ names_inside (part_of part) n
+pub names_same : (part : Part) (n : ℕ) → (part ≡ UnderNumber → ⊥) → n ≡ names_inside (part_of part) n
 unfolding names_inside
 names_same Number n h = refl
 names_same Tree n h = refl
 names_same Whole n h = refl
-names_same UnderNumber n h = absurd (miss unnamed_tags 3 tt h)
+names_same UnderNumber n h = absurd (h refl)
 names_same UnderTrees n h = refl
 
 -- .. and parts in which no tree is named
-abbrev shallow_tags : List ℕ
-shallow_tags = 0 ∷ 1 ∷ 2 ∷ 3 ∷ []
-
-pub depth_same : (part : Part) (n : ℕ) → OneOf shallow_tags (tag_of ThePart.the_type part) → n ≡ depth_inside (part_of part) n
+pub depth_same : (part : Part) (n : ℕ) → (part ≡ UnderTrees → ⊥) → n ≡ depth_inside (part_of part) n
 unfolding depth_inside
 depth_same Number n h = refl
 depth_same Tree n h = refl
 depth_same Whole n h = refl
 depth_same UnderNumber n h = refl
-depth_same UnderTrees n h = absurd (miss shallow_tags 4 tt h)
+depth_same UnderTrees n h = absurd (h refl)
 
 pub ruleset namings = (names_more, depth_more, names_same, depth_same)
 
@@ -124,21 +114,18 @@ pub ruleset arguments = (argument_last, argument_other)
 -- ---- `inside`
 
 -- kinds of record whose parts have the record's value, or that have no parts
-abbrev passed_tags : List ℕ
-passed_tags = 0 ∷ 1 ∷ 7 ∷ []
-
-passed_part : (part : Part) (node : Record) (r i count : ℕ) (p : Location) → OneOf passed_tags (tag_of TheRecord.the_type node)
+passed_part : (part : Part) (node : Record) (r i count : ℕ) (p : Location) → (node ≡ Add → ⊥) → (node ≡ IfZero → ⊥) → (node ≡ Let → ⊥) → (node ≡ Leaf → ⊥) → (node ≡ Node → ⊥) → ((x : Called) → node ≡ Call x → ⊥)
     → placed 4 r 0 (names_inside (part_of part) p.names) p.keeps (depth_inside (part_of part) p.depth) ≡ part_in (part_of part) (meant node) r i count p
 unfolding part_in role_of slot_of keeps_inside
-passed_part part (Const k) r i count p h = refl
-passed_part part (Var v) r i count p h = refl
-passed_part part Add r i count p h = absurd (miss passed_tags 2 tt h)
-passed_part part IfZero r i count p h = absurd (miss passed_tags 3 tt h)
-passed_part part Let r i count p h = absurd (miss passed_tags 4 tt h)
-passed_part part Leaf r i count p h = absurd (miss passed_tags 5 tt h)
-passed_part part Node r i count p h = absurd (miss passed_tags 6 tt h)
-passed_part part (Case t) r i count p h = refl
-passed_part part (Call k) r i count p h = absurd (miss passed_tags 8 tt h)
+passed_part part (Const x) r i count p _ _ _ _ _ _ = refl
+passed_part part (Var x) r i count p _ _ _ _ _ _ = refl
+passed_part part Add r i count p no_add _ _ _ _ _ = absurd (no_add refl)
+passed_part part IfZero r i count p _ no_if_zero _ _ _ _ = absurd (no_if_zero refl)
+passed_part part Let r i count p _ _ no_let _ _ _ = absurd (no_let refl)
+passed_part part Leaf r i count p _ _ _ no_leaf _ _ = absurd (no_leaf refl)
+passed_part part Node r i count p _ _ _ _ no_node _ = absurd (no_node refl)
+passed_part part (Case x) r i count p _ _ _ _ _ _ = refl
+passed_part part (Call x) r i count p _ _ _ _ _ no_call = absurd (no_call x refl)
 
 module _ (part : Part) (node : Record) (r i count : ℕ) (p q : Location) (names depth : ℕ) (en : names ≡ names_inside (part_of part) p.names)
     (ed : depth ≡ depth_inside (part_of part) p.depth) where
@@ -210,9 +197,9 @@ module _ (part : Part) (node : Record) (r i count : ℕ) (p q : Location) (names
       (e ∙ ap₂ (λ n b. argument_in r n b names depth) em el) (ap (λ n. named role n (capped (p.keeps + i))) (below_last (p.keeps + i)))
 
   -- the value of a Case's part is the Case's; a Const and a Var have no parts
-  pub inside_passed : OneOf passed_tags (tag_of TheRecord.the_type node) → q ≡ placed 4 r 0 names p.keeps depth
+  pub inside_passed : (node ≡ Add → ⊥) → (node ≡ IfZero → ⊥) → (node ≡ Let → ⊥) → (node ≡ Leaf → ⊥) → (node ≡ Node → ⊥) → ((x : Called) → node ≡ Call x → ⊥) → q ≡ placed 4 r 0 names p.keeps depth
       → q ≡ part_in (part_of part) (meant node) r i count p
-  inside_passed h e = at_part (meant node) i 4 0 p.keeps refl refl e (passed_part part node r i count p h)
+  inside_passed no_add no_if_zero no_let no_leaf no_node no_call e = at_part (meant node) i 4 0 p.keeps refl refl e (passed_part part node r i count p no_add no_if_zero no_let no_leaf no_node no_call)
 
 pub ruleset insides = (inside_add_first, inside_add_second, inside_if_test, inside_if_part, inside_let_first, inside_let_body, inside_leaf, inside_node_left, inside_node_right, inside_call, inside_passed)
 
@@ -227,12 +214,12 @@ module _ (part : Part) (r depth : ℕ) (cases : List ℕ) where
   unfolding noted
   note_node case = rw case
 
-pub note_other : (part : Part) (r depth : ℕ) (cases : List ℕ) → OneOf shallow_tags (tag_of ThePart.the_type part) → cases ≡ noted (part_of part) r depth cases
+pub note_other : (part : Part) (r depth : ℕ) (cases : List ℕ) → (part ≡ UnderTrees → ⊥) → cases ≡ noted (part_of part) r depth cases
 unfolding noted
 note_other Number r depth cases h = refl
 note_other Tree r depth cases h = refl
 note_other Whole r depth cases h = refl
 note_other UnderNumber r depth cases h = refl
-note_other UnderTrees r depth cases h = absurd (miss shallow_tags 4 tt h)
+note_other UnderTrees r depth cases h = absurd (h refl)
 
 pub ruleset notes = (note_full, note_node, note_other, rules)

@@ -1,4 +1,6 @@
 // Where the parts of a program's record stand, for the rows of the source run.
+#![tactic(auto)]
+
 ghost use Rattle.std.specs.Prelude.{suc, ◌+◌, ◌-◌, ◌≡◌, eqb};
 ghost use Rattle.records.specs.Inner.Read.{meant, part_of};
 ghost use Rattle.stepwise.specs.Inner.Rows.{last_word};
@@ -27,7 +29,7 @@ const LAST_ARGUMENT: usize = 7;
 // Where a record stands: its role, its parent's record, the word of its number, how many numbers
 // are named, how many are kept, and in how many node parts of Cases it stands. The records of these
 // Cases are lent separately, the outermost first.
-#[derive(Drop)]
+#[derive(Clone, Copy)]
 pub struct Location {
     pub role: usize,
     pub parent: usize,

@@ -1,4 +1,6 @@
 // Part i of a record's parts: what is expected of it, and what more is named in it.
+#![tactic(auto)]
+
 ghost use Rattle.std.specs.Prelude.{[], ◌∷◌, ◌≡◌};
 ghost use Rattle.formats.specs.Records.{nth_part, these};
 ghost use Rattle.records.specs.Inner.Read.{part_of, listed};

@@ -1,13 +1,11 @@
 -- A record's own tests: a law for each way out of their functions.
 use Prim.Native.Nat.{ℕ, zero, suc}
 use mathlib.Core.Bool.{Bool, true, false, not}
-use mathlib.Core.List.{List, [], ◌∷◌}
+use mathlib.Core.List.{List}
 use mathlib.Core.Path.{◌≡◌, refl, sym, ap, ◌∙◌}
 use native.Mathlib.Omega.{arith}
 use borrow.Author.Tests.{ltb-true, ne_eqb, not-true, not-false}
 use lib.Dec.{ltb, eqb}
-use types.Run.{OneOf, miss}
-use denote.Enum.Declared.{tag_of}
 use Rattle.formats.specs.Refusals.{wrong_type, not_bound, too_many_words}
 use Rattle.formats.specs.Results.{Result, and_then}
 use Rattle.formats.specs.Records.{function_below}
@@ -16,7 +14,6 @@ use Rattle.formats.specs.Inner.Fields.{header_in, sort_in, arity_in}
 use Rattle.formats.proofs.Rows.{function_read}
 use Rattle.refusal.specs.declared.Refusal.TheVariants.{WrongType, NotBound, TooManyWords}
 use Rattle.refusal.specs.declared.Verdict.TheVariants.{Passed, Refused}
-use Rattle.records.specs.contracts.Record.{the_type}
 use Rattle.records.specs.Inner.Read.{meant}
 use Rattle.records.specs.declared.Record.{Record}
 use Rattle.records.specs.declared.Record.TheVariants.{Const, Var, Add, IfZero, Let, Leaf, Node, Case, Call}
@@ -48,20 +45,17 @@ module _ (c : Scope) (node : Record) where
   unfolding name_bound
   named_call v case = sym (ap (λ n. name_bound (scope_of c) (meant n)) case)
 
-abbrev nameless : List ℕ
-nameless = 0 ∷ 2 ∷ 3 ∷ 4 ∷ 5 ∷ 6 ∷ []
-
-pub named_other : (c : Scope) (node : Record) → OneOf nameless (tag_of the_type node) → true ≡ name_bound (scope_of c) (meant node)
+pub named_other : (c : Scope) (node : Record) → ((x : NumberName) → node ≡ Var x → ⊥) → ((x : TreeName) → node ≡ Case x → ⊥) → ((x : Called) → node ≡ Call x → ⊥) → true ≡ name_bound (scope_of c) (meant node)
 unfolding name_bound
-named_other c (Const i) h = refl
-named_other c (Var v) h = absurd (miss nameless 1 tt h)
-named_other c Add h = refl
-named_other c IfZero h = refl
-named_other c Let h = refl
-named_other c Leaf h = refl
-named_other c Node h = refl
-named_other c (Case v) h = absurd (miss nameless 7 tt h)
-named_other c (Call v) h = absurd (miss nameless 8 tt h)
+named_other c (Const x) _ _ _ = refl
+named_other c (Var x) no_var _ _ = absurd (no_var x refl)
+named_other c Add _ _ _ = refl
+named_other c IfZero _ _ _ = refl
+named_other c Let _ _ _ = refl
+named_other c Leaf _ _ _ = refl
+named_other c Node _ _ _ = refl
+named_other c (Case x) _ no_case _ = absurd (no_case x refl)
+named_other c (Call x) _ _ no_call = absurd (no_call x refl)
 
 pub ruleset names = (named_var, named_case, named_call, named_other)
 
@@ -137,20 +131,17 @@ module _ (s : List ℕ) (c : Scope) (node : Record) where
     pub typed_number_call : (n ≡ 1 → ⊥) → Typed s c node (not c.tree)
     typed_number_call other = call_fits (not c.tree) (λ sort e. number_fits sort n c.tree e other)
 
-abbrev as_parts : List ℕ
-as_parts = 3 ∷ 4 ∷ 7 ∷ []
-
-pub typed_other : (s : List ℕ) (c : Scope) (node : Record) → OneOf as_parts (tag_of the_type node) → Typed s c node true
+pub typed_other : (s : List ℕ) (c : Scope) (node : Record) → ((x : Constant) → node ≡ Const x → ⊥) → ((x : NumberName) → node ≡ Var x → ⊥) → (node ≡ Add → ⊥) → (node ≡ Leaf → ⊥) → (node ≡ Node → ⊥) → ((x : Called) → node ≡ Call x → ⊥) → Typed s c node true
 unfolding type_fits
-typed_other s c (Const i) h = absurd (miss as_parts 0 tt h)
-typed_other s c (Var v) h = absurd (miss as_parts 1 tt h)
-typed_other s c Add h = absurd (miss as_parts 2 tt h)
-typed_other s c IfZero h = record { is = λ gs known low. refl }
-typed_other s c Let h = record { is = λ gs known low. refl }
-typed_other s c Leaf h = absurd (miss as_parts 5 tt h)
-typed_other s c Node h = absurd (miss as_parts 6 tt h)
-typed_other s c (Case v) h = record { is = λ gs known low. refl }
-typed_other s c (Call v) h = absurd (miss as_parts 8 tt h)
+typed_other s c (Const x) no_const _ _ _ _ _ = absurd (no_const x refl)
+typed_other s c (Var x) _ no_var _ _ _ _ = absurd (no_var x refl)
+typed_other s c Add _ _ no_add _ _ _ = absurd (no_add refl)
+typed_other s c IfZero _ _ _ _ _ _ = record { is = λ gs known low. refl }
+typed_other s c Let _ _ _ _ _ _ = record { is = λ gs known low. refl }
+typed_other s c Leaf _ _ _ no_leaf _ _ = absurd (no_leaf refl)
+typed_other s c Node _ _ _ _ no_node _ = absurd (no_node refl)
+typed_other s c (Case x) _ _ _ _ _ _ = record { is = λ gs known low. refl }
+typed_other s c (Call x) _ _ _ _ _ no_call = absurd (no_call x refl)
 
 pub ruleset typings = (typed_const, typed_var, typed_add, typed_leaf, typed_node, typed_tree_call, typed_number_call, typed_other)
 
@@ -220,20 +211,17 @@ module _ (s : List ℕ) (c : Scope) (node : Record) where
     pub roomy_call : r ≡ false → Roomy s c node true
     roomy_call e = untested (λ gs known low. call_tested gs known low ∙ e)
 
-abbrev wordless : List ℕ
-wordless = 2 ∷ 3 ∷ 4 ∷ 5 ∷ 6 ∷ []
-
-pub roomy_other : (s : List ℕ) (c : Scope) (node : Record) → OneOf wordless (tag_of the_type node) → Roomy s c node true
+pub roomy_other : (s : List ℕ) (c : Scope) (node : Record) → ((x : Constant) → node ≡ Const x → ⊥) → ((x : NumberName) → node ≡ Var x → ⊥) → ((x : TreeName) → node ≡ Case x → ⊥) → ((x : Called) → node ≡ Call x → ⊥) → Roomy s c node true
 unfolding words_tested
-roomy_other s c (Const i) h = absurd (miss wordless 0 tt h)
-roomy_other s c (Var v) h = absurd (miss wordless 1 tt h)
-roomy_other s c Add h = untested s c Add (λ gs known low. refl)
-roomy_other s c IfZero h = untested s c IfZero (λ gs known low. refl)
-roomy_other s c Let h = untested s c Let (λ gs known low. refl)
-roomy_other s c Leaf h = untested s c Leaf (λ gs known low. refl)
-roomy_other s c Node h = untested s c Node (λ gs known low. refl)
-roomy_other s c (Case v) h = absurd (miss wordless 7 tt h)
-roomy_other s c (Call v) h = absurd (miss wordless 8 tt h)
+roomy_other s c (Const x) no_const _ _ _ = absurd (no_const x refl)
+roomy_other s c (Var x) _ no_var _ _ = absurd (no_var x refl)
+roomy_other s c Add _ _ _ _ = untested s c Add (λ gs known low. refl)
+roomy_other s c IfZero _ _ _ _ = untested s c IfZero (λ gs known low. refl)
+roomy_other s c Let _ _ _ _ = untested s c Let (λ gs known low. refl)
+roomy_other s c Leaf _ _ _ _ = untested s c Leaf (λ gs known low. refl)
+roomy_other s c Node _ _ _ _ = untested s c Node (λ gs known low. refl)
+roomy_other s c (Case x) _ _ no_case _ = absurd (no_case x refl)
+roomy_other s c (Call x) _ _ _ no_call = absurd (no_call x refl)
 
 pub ruleset words = (roomy_const, roomy_var, roomy_case, roomy_bare_call, roomy_call, roomy_other)
 

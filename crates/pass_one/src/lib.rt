@@ -1,5 +1,7 @@
 // 01, Pass one, over flat records, 8 bytes each. At each record, in prefix order, it tests that the
 // name is bound, then the type, then the words.
+#![tactic(auto)]
+
 ghost use Rattle.std.specs.Prelude.{◌≡◌};
 ghost use Rattle.formats.specs.Results.{done, verdict};
 ghost use Rattle.formats.specs.Rows.{read_program};
@@ -21,7 +23,7 @@ const TREE_VALUED: u8 = 1;
 
 // What is known on entering a record: number names and tree names bound, words above the frame's
 // base, and whether a tree is expected.
-#[derive(Drop)]
+#[derive(Clone, Copy)]
 struct Scope {
     numbers: usize,
     trees: usize,
@@ -30,7 +32,7 @@ struct Scope {
 }
 
 // How far the walk came: to this record, or to a refusal.
-#[derive(Drop)]
+#[derive(Clone, Copy)]
 enum Walked {
     To(usize),
     Refused(Refusal, usize),
@@ -150,7 +152,7 @@ fn inside(part: Part, i: usize, scope: Scope) -> Scope
 // Pass one over the expression at record k, entered with this scope: its own tests, then its parts
 // in order. The measure: twice the records left up to the end, and one more for the parts, falls at
 // each call.
-#[cycle(enter_enter_parts)]
+#[cycle(entering)]
 fn enter(flat: &[u8], k: usize, end: usize, scope: Scope) -> Walked
     requires { Fits k end (scope_of scope) }
     ensures { Entered flat.now k end scope result }
@@ -173,7 +175,7 @@ fn enter(flat: &[u8], k: usize, end: usize, scope: Scope) -> Walked
 }
 
 // Pass one over the parts of a record from part i on, the next of them at record k.
-#[cycle(enter_enter_parts)]
+#[cycle(entering)]
 fn enter_parts(
     flat: &[u8],
     parts: Parts,

@@ -9,8 +9,6 @@ use native.Mathlib.Nat.{le_refl}
 use native.Mathlib.Numerals.{add-one}
 use native.Mathlib.Omega.{arith}
 use borrow.Author.Rules.{rules}
-use denote.Enum.Declared.{tag_of}
-use types.Run.{OneOf, miss}
 use lib.ListN.{length}
 use Rattle.formats.specs.Inner.Buffers.{from_last}
 use Rattle.formats.specs.Results.{done, on_value}
@@ -31,7 +29,6 @@ use Rattle.records.specs.declared.RecordRead.{RecordRead}
 use Rattle.records.specs.declared.RecordRead.TheVariants.{Read, Refused as NotRead}
 use Rattle.records.specs.declared.TreeName.{TreeName}
 use Rattle.records.specs.declared.Called.{Called}
-use Rattle.records.specs.contracts.Record as TheRecord
 use Rattle.rules.specs.PassTwo.{walk, none_left}
 use Rattle.walks.specs.Inner.Standing.{Known, head_of, Row, walk_parts, end as no_part, next as a_part}
 use Rattle.walks.specs.Inner.Walks.{Inside, Here, HereRow}
@@ -130,19 +127,16 @@ pub at-end : (s : List ℕ) (k last n : ℕ) (p : Pending) → last ≤ k → Or
 at-end s k last n p over = record { went_on = stopped (suc k) last refl; reports = λ e h. absurd (omega (arith, some_record e, h.fits)) }
 
 -- six kinds are walked part after part, with no test of their own
-abbrev plain_tags : List ℕ
-plain_tags = 0 ∷ 1 ∷ 2 ∷ 4 ∷ 5 ∷ 6 ∷ []
-
-plain_read : (node : Record) → OneOf plain_tags (tag_of TheRecord.the_type node) → Plain (meant node)
-plain_read (Const c) h = tt
-plain_read (Var v) h = tt
-plain_read Add h = tt
-plain_read IfZero h = miss plain_tags 3 tt h
-plain_read Let h = tt
-plain_read Leaf h = tt
-plain_read Node h = tt
-plain_read (Case t) h = miss plain_tags 7 tt h
-plain_read (Call c) h = miss plain_tags 8 tt h
+plain_read : (node : Record) → (node ≡ IfZero → ⊥) → ((x : TreeName) → node ≡ Case x → ⊥) → ((x : Called) → node ≡ Call x → ⊥) → Plain (meant node)
+plain_read (Const x) _ _ _ = tt
+plain_read (Var x) _ _ _ = tt
+plain_read Add _ _ _ = tt
+plain_read IfZero no_if_zero _ _ = absurd (no_if_zero refl)
+plain_read Let _ _ _ = tt
+plain_read Leaf _ _ _ = tt
+plain_read Node _ _ _ = tt
+plain_read (Case x) _ no_case _ = absurd (no_case x refl)
+plain_read (Call x) _ _ no_call = absurd (no_call x refl)
 
 module _ (s : List ℕ) (k last n : ℕ) (p : Pending) (read : RecordRead) (reported : described read ≡ on_value shape_of (node_in s k)) where
   -- what is read is the expression's own record
@@ -190,13 +184,13 @@ module _ (s : List ℕ) (k last n : ℕ) (p : Pending) (read : RecordRead) (repo
           by (plain never) h = absurd never
           by (a-call {xs = xs}) h = rw (walk_call n k (list_of p) c.a c.b xs) (o.reports _ _ (here_parts h) (count_parts _ h))
 
-      pub at_parts : (r : Checked) → OneOf plain_tags (tag_of TheRecord.the_type node) → OrderedList s 0 count (k + 1) last n p r → Ordered s k last n p r
-      at_parts r tag o = record {
+      pub at_parts : (r : Checked) → (node ≡ IfZero → ⊥) → ((x : TreeName) → node ≡ Case x → ⊥) → ((x : Called) → node ≡ Call x → ⊥) → OrderedList s 0 count (k + 1) last n p r → Ordered s k last n p r
+      at_parts r no_if_zero no_case no_call o = record {
         went_on = record { went = λ u. let parts = o.went_on.went u in record { on = omega (arith, parts.on); inside = parts.inside } };
         reports = λ e h.
             let kind : head_of e ≡ meant node = ap (λ (x : Shape). x.kind) (own_shape h) in
             let counts = count_parts e h in
-            rw (walk-parts n k (list_of p) e (rw kind (plain_read node tag))) (o.reports _ _ (here_parts h) (omega arith));
+            rw (walk-parts n k (list_of p) e (rw kind (plain_read node no_if_zero no_case no_call))) (o.reports _ _ (here_parts h) (omega arith));
       }
 
 pub ruleset ats = (at-end, at_refused, at_if, at_case, at_call, at_parts)

@@ -1,4 +1,6 @@
 // 01, Pass two, over flat records, 8 bytes each: the order in which a program visits its trees.
+#![tactic(auto)]
+
 ghost use Rattle.std.specs.Prelude.{◌+◌, ◌≡◌};
 ghost use Rattle.formats.specs.Results.{done, verdict};
 ghost use Rattle.formats.specs.Rows.{read_program};
@@ -11,7 +13,7 @@ use records::{Record, RecordRead};
 use refusal::{Refusal, Verdict};
 
 // What a check answers: its verdict, the trees then pending, and the record after what was checked.
-#[derive(Drop)]
+#[derive(Clone, Copy)]
 struct Checked {
     verdict: Verdict,
     pending: Pending,
@@ -36,7 +38,7 @@ fn joined(one: Pending, other: Checked, k: usize) -> Checked
 // Pass two over the expression at record k, where so many tree names are bound. The measure: three
 // times the records left up to the end, with one more for an expression and two more for a list,
 // falls at each call.
-#[cycle(order_at_order_call_order_case_order_if_order_list)]
+#[cycle(ordering)]
 fn order_at(flat: &[u8], k: usize, end: usize, trees: u16, pending: Pending) -> Checked
     requires { Small k end trees }
     ensures { Ordered flat.now k end trees pending result }
@@ -68,7 +70,7 @@ fn order_at(flat: &[u8], k: usize, end: usize, trees: u16, pending: Pending) -> 
 }
 
 // Pass two over the Call at record k, which takes the head after its arguments.
-#[cycle(order_at_order_call_order_case_order_if_order_list)]
+#[cycle(ordering)]
 fn order_call(
     flat: &[u8],
     a: u8,
@@ -104,7 +106,7 @@ fn order_call(
 
 // Pass two over a list of arguments, or of parts, from number i on, the next of them at record k:
 // one after the other.
-#[cycle(order_at_order_call_order_case_order_if_order_list)]
+#[cycle(ordering)]
 fn order_list(
     flat: &[u8],
     i: usize,
@@ -133,8 +135,10 @@ fn order_list(
 }
 
 // Pass two over the Case at record k, which takes the head. Its leaf part begins with the other
-// trees; its node part with its two names in front of them.
-#[cycle(order_at_order_call_order_case_order_if_order_list)]
+// trees; its node part with its two names in front of them. It is not put into its caller, whose
+// frame each of many nested Calls needs.
+#[cycle(ordering)]
+#[inline(never)]
 fn order_case(flat: &[u8], a: u8, k: usize, end: usize, trees: u16, pending: Pending) -> Checked
     requires { Small (k + 1) end trees }
     ensures { OrderedCase flat.now a k end trees pending result }
@@ -168,8 +172,10 @@ fn order_case(flat: &[u8], a: u8, k: usize, end: usize, trees: u16, pending: Pen
     joined(leaf.pending, node, k)
 }
 
-// Pass two over the IfZero at record k. Both its parts begin with the trees that its test left.
-#[cycle(order_at_order_call_order_case_order_if_order_list)]
+// Pass two over the IfZero at record k. Both its parts begin with the trees that its test left. It
+// is not put into its caller, as above.
+#[cycle(ordering)]
+#[inline(never)]
 fn order_if(flat: &[u8], k: usize, end: usize, trees: u16, pending: Pending) -> Checked
     requires { Small (k + 1) end trees }
     ensures { OrderedIf flat.now k end trees pending result }

@@ -1,5 +1,7 @@
 // The pending trees of 01, Pass two, by value: their head is taken, two names are put in front, and
 // two lists are compared.
+#![tactic(auto)]
+
 ghost use Rattle.std.specs.Prelude.{◌≡◌, leb, length};
 ghost use Rattle.rules.specs.Limits.{most_pending};
 ghost use Rattle.rules.specs.PassTwo.{same_names};
@@ -10,14 +12,14 @@ const MOST_PENDING: usize = 16;
 
 // The pending trees: the first `len` of these names, the head last. A length above the most counts
 // as the most.
-#[derive(Drop)]
+#[derive(Clone, Copy)]
 pub struct Pending {
     pub names: [u16; MOST_PENDING],
     pub len: usize,
 }
 
 // Whether a tree is the head, and the trees then pending.
-#[derive(Drop)]
+#[derive(Clone, Copy)]
 pub struct Taken {
     pub head: bool,
     pub pending: Pending,

@@ -1,4 +1,6 @@
 // The stream run's call from C and Rust.
+#![tactic(auto)]
+
 ghost use Rattle.std.specs.Prelude.{length};
 ghost use Rattle.meaning.specs.Running.{stream_run};
 ghost use Rattle.run_answers.specs.RunCall.{StreamCall};

@@ -1,5 +1,7 @@
 // What comes before a run of a program file: the checks of the file, both passes, every 13, the
 // program's code; and the answer of a call that is refused there.
+#![tactic(auto)]
+
 ghost use Rattle.std.specs.Prelude.{◌≡◌, length};
 ghost use Rattle.refusal.specs.Inner.Numbers.{number};
 ghost use Rattle.refusal.specs.Inner.FilledBuffer.{FilledBuffer};

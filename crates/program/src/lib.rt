@@ -1,4 +1,6 @@
 // The rows header to prefix form of 01, The order of the tests, over flat records of 8 bytes each.
+#![tactic(auto)]
+
 ghost use Rattle.std.specs.Prelude.{◌≤◌, ◌≡◌};
 ghost use Rattle.formats.specs.Results.{verdict};
 ghost use Rattle.formats.specs.Rows.{read_program};

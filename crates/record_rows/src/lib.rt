@@ -1,5 +1,7 @@
 // The first half of a row of a program's record, for the source run: what the record's kind and its
 // operands say.
+#![tactic(auto)]
+
 ghost use Rattle.std.specs.Prelude.{◌%◌, ◌≡◌, get_or, take};
 ghost use Rattle.records.specs.Inner.Read.{meant};
 ghost use Rattle.stepwise.specs.Inner.Rows.{naming_code};
@@ -21,7 +23,7 @@ const LOOKS_AT_TREE: u16 = 4;
 const CALLS_FUNCTION: u16 = 5;
 
 // The first half of a row: what the record's kind and its operands say.
-#[derive(Drop)]
+#[derive(Clone, Copy)]
 pub struct Own {
     pub action: u16,
     pub operand: u16,

@@ -1,5 +1,7 @@
 // Node records: the nine kinds with their operands, parts and templates, read from flat records of
 // 8 bytes each.
+#![tactic(auto)]
+
 ghost use Rattle.std.specs.Prelude.{◌+◌, ◌≡◌, ◌&&◌, eqb, ltb};
 ghost use Rattle.formats.specs.Refusals.{node_field};
 ghost use Rattle.formats.specs.Results.{value_if, on_value};
@@ -12,32 +14,32 @@ use refusal::Refusal;
 const RECORD_BYTES: usize = 8;
 
 // Const's operand.
-#[derive(Drop)]
+#[derive(Clone, Copy)]
 pub struct Constant {
     pub i: u32,
 }
 
 // Var's operand: a number name.
-#[derive(Drop)]
+#[derive(Clone, Copy)]
 pub struct NumberName {
     pub a: u8,
 }
 
 // Case's operand: a tree name.
-#[derive(Drop)]
+#[derive(Clone, Copy)]
 pub struct TreeName {
     pub a: u8,
 }
 
 // Call's operands: a tree name and a function.
-#[derive(Drop)]
+#[derive(Clone, Copy)]
 pub struct Called {
     pub a: u8,
     pub b: u16,
 }
 
 // A node record: its kind with its operands.
-#[derive(Drop)]
+#[derive(Clone, Copy)]
 pub enum Record {
     Const(Constant),
     Var(NumberName),
@@ -52,7 +54,7 @@ pub enum Record {
 
 // A part: a number or a tree is expected; or what is expected of the whole, as it is, with one
 // number name more, or with two tree names more.
-#[derive(Drop)]
+#[derive(Clone, Copy)]
 pub enum Part {
     Number,
     Tree,
@@ -62,7 +64,7 @@ pub enum Part {
 }
 
 // A record's parts in order: none to three, or the number arguments of a function.
-#[derive(Drop)]
+#[derive(Clone, Copy)]
 pub enum Parts {
     None,
     One(Part),
@@ -74,7 +76,7 @@ pub enum Parts {
 // An item of a template: an instruction whose address or word is found when it is emitted. `Ifnot`
 // and `ReadTag` go to the last part, `Jump` goes after the whole; `Get` is of a number name, `Call`
 // of a function.
-#[derive(Drop)]
+#[derive(Clone, Copy)]
 pub enum Item {
     Push(u32),
     Get(u8),
@@ -91,7 +93,7 @@ pub enum Item {
 }
 
 // Items in a row.
-#[derive(Drop)]
+#[derive(Clone, Copy)]
 pub enum Items {
     None,
     One(Item),
@@ -99,7 +101,7 @@ pub enum Items {
 }
 
 // A kind's template: what stands before its first, second and third part, and after them all.
-#[derive(Drop)]
+#[derive(Clone, Copy)]
 pub struct Template {
     pub first: Items,
     pub second: Items,
@@ -109,7 +111,7 @@ pub struct Template {
 
 // A record read: its kind with its operands, its parts and its template; or why it is refused, and
 // the position, which is the record's number.
-#[derive(Drop)]
+#[derive(Clone, Copy)]
 pub enum RecordRead {
     Read(Record, Parts, Template),
     Refused(Refusal, usize),

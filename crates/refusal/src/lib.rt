@@ -1,10 +1,12 @@
 // The refusals of 01, The table of refusals, with their numbers; the answer of a check, and that of
 // a call that fills a lent buffer.
+#![tactic(auto)]
+
 ghost use Rattle.std.specs.Prelude.{◌≡◌};
 ghost use Rattle.refusal.specs.Inner.Numbers.{number};
 
 // Why an input is refused.
-#[derive(Drop)]
+#[derive(Clone, Copy)]
 pub enum Refusal {
     // 1: the file's length is not 1 to 17 whole blocks
     FileLength,
@@ -52,7 +54,7 @@ pub enum Refusal {
 
 // What a check answers: passed, or the first refusal and its position. What a run answers: passed
 // where it ended, or its refusal and its position.
-#[derive(Drop)]
+#[derive(Clone, Copy)]
 pub enum Verdict {
     Passed,
     Refused(Refusal, usize),
@@ -60,7 +62,7 @@ pub enum Verdict {
 
 // What a call that fills a lent buffer answers: the bytes written from its start on; or the refusal
 // and its position, and then the buffer is untouched.
-#[derive(Drop)]
+#[derive(Clone, Copy)]
 pub enum Filled {
     Written(usize),
     Refused(Refusal, usize),

@@ -1,4 +1,6 @@
 // The bytes of a result. The source run writes them as its records begin and are finished.
+#![tactic(auto)]
+
 ghost use Rattle.std.specs.Prelude.{[], ◌∷◌, ◌≡◌};
 ghost use Rattle.formats.specs.Tokens.{leaf, tokens};
 ghost use Rattle.formats.specs.Written.{written};

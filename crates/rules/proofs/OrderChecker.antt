@@ -1,6 +1,6 @@
 -- The order checker passes precisely what the typing rules of 000, Figure 6 admit, within the
 -- limits: the proof of specs/OrderChecker.antt.
-use Prim.Native.Nat.{ℕ, suc, ◌+◌, ◌<◌}
+use Prim.Native.Nat.{ℕ, suc, ◌+◌}
 use mathlib.Core.List.{List, [], ◌∷◌, append-nil}
 use mathlib.Core.Path.{◌≡◌, refl, ap, ◌∙◌}
 use lib.Dec.{lit<}

@@ -42,8 +42,8 @@ mutual
         → Checks gs g n (suc r) Δ p Tree⁺ Δ'
         → Checks gs g n (suc r + size p) Δ' q Tree⁺ Δ''
         → Checks gs g n r Δ (node_of p q) Tree⁺ Δ''
-    -- Γ | Δ ⊢ M : Tree⁻ ↗ Δ', Γ, x : Int | Δ' ⊢ M₁ : τ ↗ Δ'' and Γ | x₁ : Tree⁻, x₂ : Tree⁻, Δ' ⊢ M₂
-    -- : τ ↗ Δ'' give Γ | Δ ⊢ case M of leaf x ⇒ M₁ | node x₁ x₂ ⇒ M₂ : τ ↗ Δ''
+    -- Γ | Δ ⊢ M : Tree⁻ ↗ Δ', Γ, x : Int | Δ' ⊢ M₁ : τ ↗ Δ'' and Γ | x₁ : Tree⁻, x₂ : Tree⁻, Δ' ⊢
+    -- M₂ : τ ↗ Δ'' give Γ | Δ ⊢ case M of leaf x ⇒ M₁ | node x₁ x₂ ⇒ M₂ : τ ↗ Δ''
     T-Case :
         {g n r a : ℕ} {Δ Δ' Δ'' : List ℕ} {p q : Expr} {τ : Ty}
         → ChecksName Δ a Tree⁻ Δ'

@@ -1,5 +1,7 @@
 // The answer of a stream run from C or Rust: a number, and the first slots of an array that the
 // caller lends.
+#![tactic(auto)]
+
 ghost use Rattle.std.specs.Prelude.{◌≡◌, leb, length};
 ghost use Rattle.machine_state.specs.Inner.Answers.{run_answer};
 ghost use Rattle.run_answers.specs.RunSlots.{run_slots, sign_extended};

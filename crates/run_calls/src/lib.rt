@@ -1,4 +1,6 @@
 // The runner's call from C and Rust.
+#![tactic(auto)]
+
 ghost use Rattle.run_calls.specs.ProgramCall.{ProgramCall};
 
 use refusal::Refusal;

@@ -2,6 +2,8 @@
 // stream run in one call. The code of a checked program is never refused with 19, so its own run
 // makes no test for it: not whether an address holds an instruction, whether an opcode is above 13
 // or a return byte above 1, whether words are missing or surplus.
+#![tactic(auto)]
+
 ghost use Rattle.std.specs.Prelude.{◌+◌, ◌*◌, ◌≤◌, [], ◌≡◌, length};
 ghost use Rattle.formats.specs.Records.{record_at};
 ghost use Rattle.meaning.specs.Instructions.{instruction_bytes, Push, Get, Add, Ifnot, Slide, Drop, WriteNumber, ReadTag, ReadNumber, Call, Return};
@@ -389,7 +391,7 @@ fn run_checked(
         let i = fetch(code, s.address);
         s = step(s, fuel - units, i, input, output, values, returns);
         if s.stop != GOES_ON {
-            return machine_state::report(s, units, values);
+            return machine_state::report_checked(s, units, values);
         }
         units = units + 1;
     }

@@ -1,5 +1,7 @@
 // The fields of the header and of function records, right or not, read from flat records of 8 bytes
 // each. What is not there reads as 0.
+#![tactic(auto)]
+
 ghost use Rattle.std.specs.Prelude.{◌≡◌};
 ghost use Rattle.formats.specs.Inner.Fields.{header_in, sort_in, arity_in, count_in};
 

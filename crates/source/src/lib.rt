@@ -1,5 +1,7 @@
 // 01, The source run: the source evaluation of a program on a tree, within limits. First come the
 // checks in order, then a walk that counts the result's bytes, and one that writes them.
+#![tactic(auto)]
+
 ghost use Rattle.std.specs.Prelude.{◌+◌, ◌≡◌, length};
 ghost use Rattle.formats.specs.Inner.Fields.{header_in};
 ghost use Rattle.refusal.specs.Inner.Numbers.{number};
@@ -29,7 +31,7 @@ const RETURN_WORDS: usize = 2048;
 
 // What a source run answers: ended or refused, expressions begun, bytes written, the number, and
 // the tree's measures, all 0 where the run is refused.
-#[derive(Drop)]
+#[derive(Clone, Copy)]
 pub struct SourceAnswer {
     pub verdict: Verdict,
     pub begun: u64,

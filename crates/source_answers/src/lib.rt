@@ -1,5 +1,7 @@
 // The answer of a source run from C or Rust: a number, and the first slots of an array that the
 // caller lends.
+#![tactic(auto)]
+
 ghost use Rattle.std.specs.Prelude.{◌≡◌, leb, length};
 ghost use Rattle.source.specs.Inner.SourceAnswers.{source_answer};
 ghost use Rattle.tree.specs.Inner.TreeResults.{measured};

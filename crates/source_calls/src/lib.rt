@@ -1,4 +1,6 @@
 // The source run's call from C and Rust.
+#![tactic(auto)]
+
 ghost use Rattle.std.specs.Prelude.{length};
 ghost use Rattle.meaning.specs.SourceRun.{source_run};
 ghost use Rattle.source_answers.specs.SourceCall.{SourceCall};

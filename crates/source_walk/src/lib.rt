@@ -1,5 +1,7 @@
 // The walk of the source run: a loop over the rows of a program, in which expressions begin one
 // after the other. Its state is in the lent words, so no function recurs over expressions or calls.
+#![tactic(auto)]
+
 ghost use Rattle.std.specs.Prelude.{◌≡◌};
 ghost use Rattle.source_walk.specs.Inner.Loop.{weight_of, refused_with, answer_with, BeginsOne, Climbs, OpensOne, Turns, Walks};
 
@@ -84,7 +86,7 @@ fn turn(
 
 // What a walk answers: 0 where it ended, else the number of a refusal; the refusal's position; the
 // expressions begun, the bytes written, the number.
-#[derive(Drop)]
+#[derive(Clone, Copy)]
 pub struct Walked {
     pub stop: u32,
     pub position: usize,

@@ -1,4 +1,6 @@
 // How far a source run has come: the stage of its loop.
+#![tactic(auto)]
+
 ghost use Rattle.std.specs.Prelude.{◌≡◌};
 ghost use Rattle.stages.specs.Inner.Stages.{staged};
 
@@ -22,7 +24,7 @@ pub const BROKEN: u32 = 6;
 // where the record is finished; how many calls wait, and the offset of the frame's tree; a tree
 // that was passed, by its offset and its end (0 as long as there is none); how many bytes are
 // written.
-#[derive(Drop)]
+#[derive(Clone, Copy)]
 pub struct Stage {
     pub mode: u32,
     pub node: u16,

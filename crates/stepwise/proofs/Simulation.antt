@@ -29,7 +29,7 @@ use Rattle.walks.specs.Inner.Standing.{head_of}
 use Rattle.rules.proofs.Words.{words_call, words_least, words_least_args}
 use Rattle.meaning.specs.Levels.{at_level}
 use Rattle.meaning.specs.Running.{value_words, return_words}
-use Rattle.meaning.specs.Evaluation.{Value, number, tree, Environment, tree_named, with_number, with_trees, result_bytes, result_number}
+use Rattle.meaning.specs.Evaluation.{Value, number, Environment, tree_named, with_number, with_trees, result_bytes, result_number}
 use Rattle.meaning.specs.OpenCalls.{no_result, Outcome, gives, stops, begins, followed_by, number_or, tree_or, result_tree, computed, evaluate, evaluate_args, first_record, called}
 use Rattle.meaning.proofs.Levels.{level_newest, level_older, level_found, level_below}
 use Rattle.meaning.proofs.Proper.{Proper, proper_const, proper_var, proper_compute, proper_if_zero, proper_let, proper_leaf}

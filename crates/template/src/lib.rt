@@ -1,5 +1,7 @@
 // A template's items, counted and found by the part that they stand before; and the entry of a
 // function.
+#![tactic(auto)]
+
 ghost use Rattle.std.specs.Prelude.{◌≡◌, length};
 ghost use Rattle.records.specs.Inner.Read.{row};
 ghost use Rattle.template.specs.Inner.Items.{ItemsBefore, entries_in};

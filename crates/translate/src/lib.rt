@@ -1,4 +1,6 @@
 // The translator: from a program's records to its code, by 01, Templates.
+#![tactic(auto)]
+
 ghost use Rattle.std.specs.Prelude.{◌≡◌, length};
 ghost use Rattle.formats.specs.Results.{done, verdict};
 ghost use Rattle.refusal.specs.Inner.FilledBuffer.{FilledBuffer};
@@ -25,7 +27,7 @@ const TREE_VALUED: u8 = 1;
 
 // How far the code is emitted: the next record, the next address, and the address at which the last
 // part begins. Addresses count from the start of the part of the code buffer that is lent.
-#[derive(Drop)]
+#[derive(Clone, Copy)]
 struct Emitted {
     next: usize,
     at: usize,
@@ -33,7 +35,7 @@ struct Emitted {
 }
 
 // What a record is made of: its parts, its template, and how many parts it has.
-#[derive(Drop)]
+#[derive(Clone, Copy)]
 struct Shape {
     parts: Parts,
     template: Template,
@@ -41,7 +43,7 @@ struct Shape {
 }
 
 // Where the functions begin, and how many instructions they have together.
-#[derive(Drop)]
+#[derive(Clone, Copy)]
 struct Table {
     entries: [u16; MOST_FUNCTIONS],
     count: usize,
@@ -50,7 +52,7 @@ struct Table {
 // Emits the expression at record k from address `at` of `code` on, which is address base + at of
 // the program. Instructions that do not fit are not written; the addresses are reported all the
 // same.
-#[cycle(emit_emit_parts)]
+#[cycle(emitting)]
 fn emit(
     flat: &[u8],
     entries: &[u16],
@@ -105,7 +107,7 @@ fn emit(
 // Emits the parts of a record from part i on, the next of them at record k, each after the
 // template's items before it, and after them all the template's last items. The items before a part
 // are emitted after all parts, because only then their addresses are known.
-#[cycle(emit_emit_parts)]
+#[cycle(emitting)]
 fn emit_parts(
     flat: &[u8],
     entries: &[u16],

@@ -1,4 +1,6 @@
 // The translator's call from C and Rust.
+#![tactic(auto)]
+
 ghost use Rattle.std.specs.Prelude.{length};
 ghost use Rattle.translation.specs.TranslateAndRun.{translate_file};
 ghost use Rattle.answers.specs.Fills.{Fills};

@@ -4,7 +4,7 @@
 -- Any input begins with a tree's tokens or has a fault (AnyInput), and in both cases the course of
 -- the run is known. It is never 19; and with a fault the run never ends: the pending trees are then
 -- carried up to an offset that no run can come to.
-use Prim.Native.Nat.{ℕ, suc, ◌+◌, ◌≤◌, ◌<◌}
+use Prim.Native.Nat.{ℕ, suc, ◌≤◌, ◌<◌}
 use mathlib.Core.List.{List, [], ◌∷◌, ◌++◌}
 use mathlib.Core.Logic.{◌≢◌, inl, inr}
 use mathlib.Core.Option.{some}
@@ -17,7 +17,7 @@ use Rattle.formats.specs.Buffers.{Opens}
 use Rattle.formats.specs.Numbers.{Bytes}
 use Rattle.formats.specs.Records.{nth}
 use Rattle.formats.specs.Arithmetic.{Op}
-use Rattle.formats.specs.Refusals.{fuel_used_up, output_full, input_ended, not_aTag, too_many_calls, cannot_perform, out_of_range}
+use Rattle.formats.specs.Refusals.{fuel_used_up, output_full, input_ended, not_a_tag, too_many_calls, cannot_perform, out_of_range}
 use Rattle.formats.specs.Results.{done, refusal}
 use Rattle.formats.specs.Tokens.{Tree, Labelled, tokens}
 use Rattle.formats.specs.Programs.{tree_valued, Function}
@@ -42,7 +42,7 @@ use Rattle.translation.proofs.Carried.{Carries}
 use Rattle.translation.proofs.CodeCalls.{StopsFor, it_ended, no_fuel, no_space, at_stop, at_fault, run_of, call_runs, call_reads, call_units, call_outcome, call_writes}
 use Rattle.translation.proofs.CodeCalls.{calls, runnable, goes_along, done_whole_way, refused_call, course_on, stops_for}
 use Rattle.translation.proofs.Demand3.{course, opens_along, ending, whole_answer, whole_run}
-use Rattle.translation.proofs.Goes.{input-ended, not_a_tag}
+use Rattle.translation.proofs.Goes.{input-ended, not-a-tag}
 use Rattle.translation.proofs.WholeRuns.{ends_so, stops_so, faults_so, stopped_not_ended}
 
 -- such code stops for no instruction that can't be performed
@@ -55,7 +55,7 @@ not_19 read position (at_stop for_fuel) e = let z : fuel_used_up ≡ cannot_perf
 not_19 read position (at_stop no_call) e = let z : too_many_calls ≡ cannot_perform = cc in absurd (omega arith)
 not_19 read position (at_stop (no_result op i j)) e = let z : out_of_range ≡ cannot_perform = cc in absurd (omega arith)
 not_19 read position (at_fault f input-ended) e = let z : input_ended ≡ cannot_perform = cc in absurd (omega arith)
-not_19 read position (at_fault f not_a_tag) e = let z : not_aTag ≡ cannot_perform = cc in absurd (omega arith)
+not_19 read position (at_fault f not-a-tag) e = let z : not_a_tag ≡ cannot_perform = cc in absurd (omega arith)
 
 -- a run that is refused with 21 has gone the whole way
 came_broken :

@@ -4,7 +4,7 @@
 -- it.
 use Prim.Native.Nat.{ℕ, suc, ◌+◌}
 use mathlib.Core.List.{List}
-use Rattle.formats.specs.Refusals.{input_ended, not_aTag}
+use Rattle.formats.specs.Refusals.{input_ended, not_a_tag}
 use Rattle.meaning.specs.Performing.{Setting, State}
 use Rattle.meaning.specs.Running.{refused}
 use Rattle.meaning.specs.OpenCalls.{Reason, refusal_of, Outcome, gives, stops, begins, after_begun, followed_by}
@@ -15,7 +15,7 @@ use Rattle.translation.proofs.Courses.{Course, course_after}
 -- What is refused of an input with a fault: 15, or 16.
 pub data InputFault : ℕ → Type 0 where
   input-ended : InputFault input_ended
-  not_a_tag : InputFault not_aTag
+  not-a-tag : InputFault not_a_tag
 
 -- What may hold of a value: given the expressions begun, the units spent and the bytes read.
 abbrev pub OfValue : Type 0 → Type 1

@@ -11,7 +11,7 @@ use lib.ListN.{length, length-append}
 use lib.Seq.{take-append_seam, drop-append_seam}
 use Rattle.formats.specs.Numbers.{bytes_of, number_at}
 use Rattle.formats.specs.Arithmetic.{Op, result_of}
-use Rattle.formats.specs.Refusals.{input_ended, not_aTag, too_many_calls, out_of_range}
+use Rattle.formats.specs.Refusals.{input_ended, not_a_tag, too_many_calls, out_of_range}
 use Rattle.formats.specs.Tokens.{leaf_tag, node_tag, label_bytes, no_byte, a_leaf, a_node, other, tag_at}
 use Rattle.meaning.specs.Levels.{at_level}
 use Rattle.meaning.specs.Instructions.{Operation, Push, Get, Compute, Ifnot, Jump, Slide, Drop, LeafTag, NodeTag, WriteNumber, ReadTag, ReadNumber, Call}
@@ -155,7 +155,7 @@ module _ (m : Setting) (s : State) where
   unfolding operate on_tag
   no_tag_there a space h e = step_is (with_space space m) s _ h ∙ simp (operate, on_tag, e)
 
-  pub other_tag_there : (a space : ℕ) → Next m s (ReadTag a) → tag_at m.input s.read ≡ other → step (with_space space m) s ≡ refuses not_aTag
+  pub other_tag_there : (a space : ℕ) → Next m s (ReadTag a) → tag_at m.input s.read ≡ other → step (with_space space m) s ≡ refuses not_a_tag
   unfolding operate on_tag
   other_tag_there a space h e = step_is (with_space space m) s _ h ∙ simp (operate, on_tag, e)
 

@@ -18,7 +18,7 @@ use native.Mathlib.Omega.{arith}
 use lib.ListN.{length}
 use Rattle.formats.specs.Numbers.{bytes_of}
 use Rattle.formats.specs.Arithmetic.{Op, result_of}
-use Rattle.formats.specs.Refusals.{input_ended, not_aTag}
+use Rattle.formats.specs.Refusals.{input_ended, not_a_tag}
 use Rattle.formats.specs.Results.{done}
 use Rattle.formats.specs.Tokens.{Tree, leaf, node, leaf_tag, node_tag, tokens, label_bytes}
 use Rattle.formats.specs.Records.{nth}
@@ -55,7 +55,7 @@ use Rattle.translation.proofs.Performed.{does_push, does_get, does_jump, does_co
 use Rattle.translation.proofs.Performed.{does_leaf_tag, does_node_tag, does_write_number, does_read_leaf, does_read_node, does_read_number}
 use Rattle.translation.proofs.Performed.{Next, no_result_there, no_tag_there, other_tag_there, label_cut_there}
 use Rattle.translation.proofs.Courses.{refused_at_once, course_after}
-use Rattle.translation.proofs.Goes.{input-ended, not_a_tag, OfValue, OfStop, Goes, faults, goes_there, goes_stuck, goes_begins, goes_first, goes_then, goes_map, goes_next}
+use Rattle.translation.proofs.Goes.{input-ended, not-a-tag, OfValue, OfStop, Goes, faults, goes_there, goes_stuck, goes_begins, goes_first, goes_then, goes_map, goes_next}
 
 -- ---- where values go
 
@@ -609,7 +609,7 @@ module _ (Faulty : Type 0) (m : Setting) (program : Program) (end : ℕ) (wide :
       on_head rest in_leaf in_node pending (on_top found named) (no_tag faulty tag) =
           faults input_ended faulty input-ended (refused_at_once s (λ space. no_tag_there m s L space emitted.0 tag))
       on_head rest in_leaf in_node pending (on_top found named) (other_tag faulty tag) =
-          faults not_aTag faulty not_a_tag (refused_at_once s (λ space. other_tag_there m s L space emitted.0 tag))
+          faults not_a_tag faulty not-a-tag (refused_at_once s (λ space. other_tag_there m s L space emitted.0 tag))
       on_head rest in_leaf in_node pending (on_top found named) (label_cut faulty tag short) =
           faults input_ended faulty input-ended
           (course_after (does_read_leaf m s L emitted.0 tag)

@@ -8,14 +8,15 @@
 -- the premise of `suffices` says it; one that breaks at a sum is an "other evaluation" here, and
 -- OutOfRange.antt says with which refusal.
 --
--- Its words. A program's code: `code_of` (Templates), by 01, Templates. The stream run: `stream_run`
--- (meaning, Running), its answer and every byte of the output. The source evaluation: `Ends program
--- t o n v` (meaning, Evaluation) says that it ends with the value v after n expressions, with at
--- most o calls open at once, the first included; it is endless where there are no such o, n and v,
--- and it breaks under no bound (meaning, Meaning: `Endless`). `most_calls` is 1,024. The source's
--- result: `result_bytes v`, a tree's tokens, none for a number; `result_number v`, the number, 0 for
--- a tree. `Opens vs s`: vs are opening bytes of s, none or all included. `written_by`: the output's
--- first bytes, as many as the answer says are written; `untouched_by`: the bytes after those.
+-- Its words. A program's code: `code_of` (Templates), by 01, Templates. The stream run:
+-- `stream_run` (meaning, Running), its answer and every byte of the output. The source evaluation:
+-- `Ends program t o n v` (meaning, Evaluation) says that it ends with the value v after n
+-- expressions, with at most o calls open at once, the first included; it is endless where there are
+-- no such o, n and v, and it breaks under no bound (meaning, Meaning: `Endless`). `most_calls` is
+-- 1,024. The source's result: `result_bytes v`, a tree's tokens, none for a number; `result_number
+-- v`, the number, 0 for a tree. `Opens vs s`: vs are opening bytes of s, none or all included.
+-- `written_by`: the output's first bytes, as many as the answer says are written; `untouched_by`:
+-- the bytes after those.
 use Rattle.std.specs.Prelude.{ℕ, ◌+◌, ◌*◌, ◌≤◌, List, ◌++◌, ◌≢◌, ◌≡◌, length}
 use Rattle.formats.specs.Buffers.{Opens}
 use Rattle.formats.specs.Results.{done}

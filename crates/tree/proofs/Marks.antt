@@ -9,7 +9,7 @@ use native.Mathlib.Numerals.{add-one}
 use native.Mathlib.Omega.{arith}
 use lib.ListN.{length, get_or, set, length-set}
 use lib.Seq.{get_or-set_same, get_or-set_other}
-use Rattle.formats.specs.Refusals.{input_ended, not_aTag, too_deep}
+use Rattle.formats.specs.Refusals.{input_ended, not_a_tag, too_deep}
 use Rattle.formats.specs.Tokens.{leaf_tag, node_tag, most_depth}
 use Rattle.formats.specs.Inner.Trees.{Ending, end_at, measures_at, measures_by}
 use Rattle.formats.specs.Results.{Result, done, refusal, and_then, on_value}
@@ -141,7 +141,7 @@ module _ (width : ℕ) (s marks : List ℕ) (above above_next deepest at : ℕ) 
       let no_room : most_depth - above ≡ 0 = omega arith in
       walk_stops _ _ (ap (λ (n : ℕ). end_at width n above s at deepest) no_room ∙ end_deep width above deepest (at_node there is))
 
-  pub walk_other : at < length s → get_or s at 0 ≢ node_tag → get_or s at 0 ≢ leaf_tag → refusal not_aTag at ≡ measures_by width s
+  pub walk_other : at < length s → get_or s at 0 ≢ node_tag → get_or s at 0 ≢ leaf_tag → refusal not_a_tag at ≡ measures_by width s
   walk_other there nn nl = walk_stops _ _ (end_other width _ above deepest (at_other there nl nn))
 
   pub walk_cut : (whole : ℕ) → at < length s → get_or s at 0 ≡ leaf_tag → whole ≡ length s - width → whole ≤ at

@@ -1,5 +1,7 @@
 // 01, The tree reader: the first tree of a buffer as a part of it; or where that tree ends, with
 // its tips and its depth, or the refusal with its position.
+#![tactic(auto)]
+
 ghost use Rattle.std.specs.Prelude.{◌-◌, max, ◌≡◌};
 ghost use Rattle.formats.specs.Tokens.{first_tree, own_bytes};
 ghost use Rattle.formats.specs.Measures.{no_measures, first_measures};
@@ -22,7 +24,7 @@ const MOST_DEPTH: usize = 1024;
 
 // What the tree reader measures of a tree: where it ends, how many tips it has, and the nodes above
 // its deepest leaf.
-#[derive(Drop)]
+#[derive(Clone, Copy)]
 pub struct Measures {
     pub bytes: usize,
     pub tips: usize,
@@ -30,7 +32,7 @@ pub struct Measures {
 }
 
 // What the tree reader finds. `tree_result` gives each case its number and values.
-#[derive(Drop)]
+#[derive(Clone, Copy)]
 pub enum TreeAnswer {
     // A tree, and what was measured of it.
     Tree(Measures),

@@ -1,4 +1,6 @@
 // The tree reader's calls from C and Rust.
+#![tactic(auto)]
+
 ghost use Rattle.std.specs.Prelude.{◌≡◌, length};
 ghost use Rattle.formats.specs.Tokens.{first_tree, own_bytes};
 ghost use Rattle.formats.specs.Measures.{first_measures};

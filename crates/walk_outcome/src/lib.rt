@@ -1,1 +1,2 @@
 // No code: theorems that the walk of the source run gives the outcome of the evaluation.
+#![tactic(auto)]

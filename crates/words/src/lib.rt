@@ -1,5 +1,7 @@
 // Bytes and 16-bit words read from byte slices, low byte first. Nothing here asks anything of its
 // caller: an offset may be anywhere, and a number is read there whole or not at all.
+#![tactic(auto)]
+
 ghost use Rattle.std.specs.Prelude.{◌≡◌, [], ◌∷◌, get_or};
 ghost use Rattle.formats.specs.Numbers.{number_of, number_at};
 

@@ -1,6 +1,8 @@
 // 32-bit words in byte slices, low byte first, read and written. Nothing here asks anything of its
 // caller: an offset may be anywhere, and what is read or written there is read or written whole or
 // not at all.
+#![tactic(auto)]
+
 ghost use Rattle.std.specs.Prelude.{◌≡◌, [], ◌∷◌};
 ghost use Rattle.formats.specs.Numbers.{bytes_of, number_of, number_at};
 ghost use Rattle.formats.specs.Written.{written};

@@ -1,6 +1,8 @@
 // 16-bit words written into byte slices, low byte first, and bytes copied into them. Nothing here
 // asks anything of its caller: an offset may be anywhere, and what is written there is written
 // whole or not at all.
+#![tactic(auto)]
+
 ghost use Rattle.std.specs.Prelude.{◌≡◌};
 ghost use Rattle.formats.specs.Numbers.{bytes_of};
 ghost use Rattle.formats.specs.Written.{written};

@@ -16,8 +16,8 @@ pub record Around : Type 0 where
 abbrev pub around : Sort → WordNumbers → ℕ → Around
 around sort words standing = record { sort = sort; words = words; standing = standing }
 
--- What is known on entering part i of a record, by what the part is (rules, Scopes: `part_scope` has
--- the same for pass one). A number that is named stands on the next word.
+-- What is known on entering part i of a record, by what the part is (rules, Scopes: `part_scope`
+-- has the same for pass one). A number that is named stands on the next word.
 unfoldable pub part_around : Part → ℕ → Around → Around
 part_around a_number i x = around number_valued x.words (x.standing + i)
 part_around a_tree i x = around tree_valued x.words x.standing

@@ -1,7 +1,7 @@
 -- The end and the greatest depth of a tree that begins at an offset, by the width of its labels.
 use Rattle.std.specs.Prelude.{ℕ, zero, suc, ◌+◌, ◌/◌, max, true, false, List, leb, length}
 use Rattle.formats.specs.Measures.{Measures}
-use Rattle.formats.specs.Refusals.{input_ended, not_aTag, too_deep}
+use Rattle.formats.specs.Refusals.{input_ended, not_a_tag, too_deep}
 use Rattle.formats.specs.Results.{Result, done, refusal, and_then, on_value}
 use Rattle.formats.specs.Tokens.{label_bytes, most_depth, no_byte, a_leaf, a_node, other, tag_at}
 
@@ -28,7 +28,7 @@ end_by_tag width above s p deepest below =
       | no_byte ↦ refusal input_ended p
       | a_leaf ↦ label_end width above s (suc p) deepest
       | a_node ↦ below p
-      | other ↦ refusal not_aTag p
+      | other ↦ refusal not_a_tag p
     ]
 
 -- The end of the tree that begins at offset p, under `above` nodes, with labels of `width` bytes,

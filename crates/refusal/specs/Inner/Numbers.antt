@@ -4,7 +4,7 @@ use Rattle.refusal.specs.declared.Refusal.{Refusal}
 use Rattle.refusal.specs.declared.Refusal.TheVariants.{FileLength, BlockCheck, BlockField, HeaderField, FunctionField, NodeField, PrefixForm, WrongType, NotBound, TooManyWords}
 use Rattle.refusal.specs.declared.Refusal.TheVariants.{OutOfOrder, TooManyPending, SpaceTooShort, FuelUsedUp, InputEnded, NotATag, OutputFull, TooManyCalls, CannotPerform, TooDeep, OutOfRange}
 use Rattle.formats.specs.Refusals.{file_length, block_check, block_field, header_field, function_field, node_field, prefix_form, wrong_type, not_bound, too_many_words}
-use Rattle.formats.specs.Refusals.{out_of_order, too_many_pending, space_too_short, fuel_used_up, input_ended, not_aTag, output_full, too_many_calls, cannot_perform, too_deep, out_of_range}
+use Rattle.formats.specs.Refusals.{out_of_order, too_many_pending, space_too_short, fuel_used_up, input_ended, not_a_tag, output_full, too_many_calls, cannot_perform, too_deep, out_of_range}
 
 abbrev pub number : Refusal → ℕ
 number FileLength = file_length
@@ -22,7 +22,7 @@ number TooManyPending = too_many_pending
 number SpaceTooShort = space_too_short
 number FuelUsedUp = fuel_used_up
 number InputEnded = input_ended
-number NotATag = not_aTag
+number NotATag = not_a_tag
 number OutputFull = output_full
 number TooManyCalls = too_many_calls
 number CannotPerform = cannot_perform

@@ -1,0 +1,22 @@
+-- `block_writer::write_blocks` meets its contract. Before each turn of the loop the blocks passed
+-- stand one after the other. The measure is the number of blocks left.
+use Rattle.block_writer.proofs.Stored.{stored}
+use Rattle.block_writer.proofs.write_blocks.Goals as goal
+
+pub loop-j-init : goal.loop-j-init
+loop-j-init c = search stored
+
+pub part_of-requires : goal.part_of-requires
+part_of-requires c = search stored
+
+pub write_block-requires : goal.write_block-requires
+write_block-requires c = search stored
+
+pub loop-j-preserved : goal.loop-j-preserved
+loop-j-preserved c = search stored
+
+pub shape_of-file : goal.shape_of-file
+shape_of-file c = search stored
+
+pub returns : goal.returns
+returns c = search stored

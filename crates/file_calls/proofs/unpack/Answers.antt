@@ -1,0 +1,11 @@
+-- `file_calls::unpack` meets its contract: too few slots, or what was written is answered.
+use Rattle.answers.proofs.Calls.{call_ways}
+use Rattle.file_calls.proofs.unpack.Goals as goal
+
+-- too few slots
+pub returns-then-not-has_room : goal.returns-then-not-has_room
+returns-then-not-has_room c = search call_ways
+
+-- the call, and its answer stored
+pub returns : goal.returns
+returns c = search call_ways

@@ -1,0 +1,21 @@
+-- `listing::put_listing` meets its contract: what the translator answers is what the definition
+-- asks for, and its code stands at the start of its buffer.
+use borrow.Author.Rules.{rules}
+use lib.Seq.{length-take-le}
+use Rattle.listing.proofs.Texts.{listing_ways}
+use Rattle.listing.proofs.put_listing.Goals as goal
+
+pub slice_bounds-code-end : goal.slice_bounds-code-end
+slice_bounds-code-end c = search listing_ways
+
+pub slice_bounds-put_code-end : goal.slice_bounds-put_code-end
+slice_bounds-put_code-end c = search (rules, length-take-le, listing_ways)
+
+pub put_code-requires : goal.put_code-requires
+put_code-requires c = search (rules, listing_ways)
+
+pub returns-in-Refused : goal.returns-in-Refused
+returns-in-Refused c = search listing_ways
+
+pub returns-in-Written : goal.returns-in-Written
+returns-in-Written c = search listing_ways

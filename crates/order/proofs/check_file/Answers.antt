@@ -1,0 +1,18 @@
+-- `order::check_file` meets its contract: the flat records from the blocks stand at the start of
+-- the array `flat`, and the checks are made on these.
+use borrow.Author.Rules.{rules}
+use lib.Seq.{length-take-le}
+use Rattle.order.proofs.Laws.{check_ways}
+use Rattle.order.proofs.check_file.Goals as goal
+
+pub slice_bounds-flat-end : goal.slice_bounds-flat-end
+slice_bounds-flat-end c = search check_ways
+
+pub slice_bounds-check_records-end : goal.slice_bounds-check_records-end
+slice_bounds-check_records-end c = search (rules, length-take-le, check_ways)
+
+pub returns-in-Refused : goal.returns-in-Refused
+returns-in-Refused c = search check_ways
+
+pub returns-in-Written : goal.returns-in-Written
+returns-in-Written c = search check_ways

@@ -1,4 +1,4 @@
-//! Links the static library that `rt staticlib hogvax_c` writes.
+//! Links the static library that `tools/staticlib hogvax_c` builds.
 
 use std::env;
 use std::path::{Path, PathBuf};
@@ -32,7 +32,7 @@ fn main() {
     println!("cargo:rerun-if-changed={}", archive.display());
     let Ok(archive) = archive.canonicalize() else {
         eprintln!("there is no {}", archive.display());
-        eprintln!("help: run 'rt staticlib hogvax_c' at the root of the repository");
+        eprintln!("help: run 'tools/staticlib hogvax_c' at the root of the repository");
         exit(1);
     };
     // For tests that link it with C.

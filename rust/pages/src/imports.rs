@@ -64,20 +64,16 @@ fn listed(names: &str) -> Vec<Name> {
 }
 
 impl Module {
-    /// The module of a path: `Rattle·CRATE·specs.specs.X` from the crate itself,
-    /// `Rattle·CRATE.specs.X` from another, `.declared.` for what the Rattle source declares.
+    /// The module of a path: `Rattle.CRATE.specs.X`, `.declared.` for what the Rattle source
+    /// declares.
     fn new(path: &str, crates: &[String]) -> Module {
-        let kit = || Module::Kit(path.to_owned());
-        let Some((head, inside)) = path
-            .strip_prefix("Rattle·")
-            .and_then(|path| path.split_once('.'))
-        else {
-            return kit();
+        let inside = path.strip_prefix("Rattle.");
+        let inside = inside.and_then(|path| path.split_once('.'));
+        let inside = inside.filter(|(place, _)| crates.iter().any(|one| one == place));
+        let Some((place, inside)) = inside else {
+            return Module::Kit(path.to_owned());
         };
-        let place = head.split('·').next().unwrap().to_owned();
-        if !crates.contains(&place) {
-            return kit();
-        }
+        let place = place.to_owned();
         let parts: Vec<&str> = inside.split('.').collect();
         match parts[..] {
             [_, "declared", name, ..] => Module::Declared {

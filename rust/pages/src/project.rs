@@ -27,15 +27,19 @@ impl Project {
         let listed = read(&root.join("crates.txt"));
         let lines = listed.lines().filter(|line| !line.starts_with('#'));
         let names = lines.filter_map(|line| line.split_once(':'));
-        let crates: Vec<String> = names.map(|(name, _)| name.trim().to_owned()).collect();
+        // A word after the name says what the crate is built as.
+        let names = names.filter_map(|(name, _)| name.split_whitespace().next());
+        let crates: Vec<String> = names.map(str::to_owned).collect();
         let (mut files, mut sources) = (BTreeMap::new(), BTreeMap::new());
         for place in &crates {
-            for path in files_below(&root.join("crates").join(place)) {
+            let folder = root.join("crates").join(place);
+            let parts = ["specs", "src"].map(|part| folder.join(part));
+            let parts = parts.iter().filter(|part| part.is_dir());
+            for path in parts.flat_map(|part| files_below(part)) {
                 let inside = path.strip_prefix(root.join("crates")).unwrap();
                 let name = inside.with_extension("").to_str().unwrap().to_owned();
-                let is_proof = name.starts_with(&format!("{place}/proofs/"));
                 match inside.extension().and_then(|end| end.to_str()) {
-                    Some("antt") if !is_proof => {
+                    Some("antt") => {
                         files.insert(name, AnttFile::new(&read(&path), &crates));
                     }
                     Some("rt") => {

@@ -64,20 +64,36 @@ pub struct Source {
 impl Source {
     pub fn new(text: &str, crates: &[String]) -> Source {
         let mut source = Source::default();
+        // A `use` item, which may go on for some lines.
+        let mut item = String::new();
         for (number, line) in text.lines().enumerate() {
             let line = line.split("//").next().unwrap().trim_end();
-            if let Some(import) = line.strip_prefix("ghost ") {
-                let import = Import::new(import, crates);
-                source.imports.push(import.expect("a ghost use line"));
-            } else if let Some(path) = line.strip_prefix("use ") {
-                let path = path.trim_end_matches(';');
-                let (place, name) = path.split_once("::").expect("crate::name");
-                source.used.push((place.to_owned(), name.to_owned()));
-            } else if !line.is_empty() && !line.starts_with("#[") {
+            if !item.is_empty() || line.starts_with("use ") || line.starts_with("ghost use ") {
+                item += line.trim_start();
+                if line.ends_with(';') {
+                    source.read_use(item.trim_end_matches(';'), crates);
+                    item.clear();
+                }
+            } else if !line.is_empty() && !line.starts_with("#[") && !line.starts_with("#![") {
                 source.read_line(number, line);
             }
         }
         source
+    }
+
+    fn read_use(&mut self, item: &str, crates: &[String]) {
+        if let Some(import) = item.strip_prefix("ghost ") {
+            let import = Import::new(import, crates);
+            self.imports.push(import.expect("a ghost use item"));
+            return;
+        }
+        let path = item.trim_start_matches("use ");
+        let (place, names) = path.split_once("::").expect("crate::name");
+        let names = names.trim_start_matches('{').trim_end_matches('}');
+        let names = names.split(',').map(str::trim);
+        let names = names.filter(|name| !name.is_empty());
+        let names = names.map(|name| (place.to_owned(), name.to_owned()));
+        self.used.extend(names);
     }
 
     fn read_line(&mut self, number: usize, line: &str) {

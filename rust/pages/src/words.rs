@@ -26,24 +26,29 @@ fn without_texts(line: &str) -> String {
 }
 
 /// The words of a line without its comment: names, keywords, numbers and signs. `[]` is a word.
-/// A projection `.f` keeps its point; other points part words, so `λ x. y` and `a.b` have two.
+/// What stands right after a point keeps it: `a.b` has `a` and `.b`, as `(a).b` has, and `λ x. y`
+/// has `x` and `y`.
 pub fn words(line: &str) -> Vec<String> {
     let line = without_texts(without_comment(line)).replace("[]", " \u{1} ");
     let ends = |letter: char| letter.is_whitespace() || "(){}[];,⦃⦄".contains(letter);
     let mut found = Vec::new();
-    for word in line.split(ends).filter(|word| !word.is_empty()) {
-        let projection = word.starts_with('.');
-        for part in word.split('.').filter(|part| !part.is_empty()) {
+    for word in line.split(ends) {
+        for (number, part) in word.split('.').enumerate() {
             let part = part.replace('\u{1}', "[]");
-            found.push(if projection { format!(".{part}") } else { part });
+            match number {
+                _ if part.is_empty() => (),
+                0 => found.push(part),
+                _ => found.push(format!(".{part}")),
+            }
         }
     }
     found
 }
 
-/// Whether some words use a name. An operator is used where all its parts stand, or itself.
+/// Whether some words use a name. An operator, as `◌+◌`, is used where all its parts stand, or
+/// itself.
 pub fn uses(words: &std::collections::BTreeSet<String>, name: &str) -> bool {
-    let mut parts = name.split('_').filter(|part| !part.is_empty()).peekable();
-    let is_operator = name.contains('_') && parts.peek().is_some();
+    let mut parts = name.split('◌').filter(|part| !part.is_empty()).peekable();
+    let is_operator = name.contains('◌') && parts.peek().is_some();
     words.contains(name) || is_operator && parts.all(|part| words.contains(part))
 }

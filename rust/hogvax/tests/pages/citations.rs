@@ -247,11 +247,14 @@ fn opening(text: &str) -> String {
     text.chars().take(50).collect()
 }
 
-/// The definitions, proofs and code of all crates.
+/// The definitions, proofs and code of all crates; what is made of them stands in `out/`.
 fn sources(folder: &Path) -> Vec<PathBuf> {
     let mut found = Vec::new();
     for entry in fs::read_dir(folder).unwrap() {
         let path = entry.unwrap().path();
+        if path.ends_with("out") {
+            continue;
+        }
         if path.is_dir() {
             found.extend(sources(&path));
         } else if path

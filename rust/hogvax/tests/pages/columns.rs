@@ -68,6 +68,10 @@ fn may_be_long(path: &Path, line: &str) -> bool {
 fn no_comment_and_no_contract_is_too_long() {
     let (mut wrong, mut seen, mut open) = (Vec::new(), 0, vec![repository("crates")]);
     while let Some(path) = open.pop() {
+        // What is made of a crate stands there.
+        if path.ends_with("out") {
+            continue;
+        }
         if path.is_dir() {
             open.extend(fs::read_dir(&path).unwrap().map(|one| one.unwrap().path()));
         } else if path

@@ -84,7 +84,7 @@ fn goes_by_kind(text: &str) -> bool {
     });
     lines.any(|line| {
         let mut words = line.split(|letter| !is_name(letter));
-        words.any(|word| word == "IfZero" || word == "ifZero")
+        words.any(|word| word == "IfZero" || word == "if_zero")
     })
 }
 

@@ -149,7 +149,7 @@ fn a_name_that_is_not_declared_is_told() {
         ("formats/specs/Reader: NoReader.gives", false),
         ("formats/specs/Nothing: TreeReader", false),
         // Used there, and declared elsewhere.
-        ("formats/specs/Reader: firstTree", false),
+        ("formats/specs/Reader: first_tree", false),
     ] {
         let citation = Citation::new(text).unwrap();
         assert_eq!(citation.is_true(), there, "{text}");

@@ -21,10 +21,11 @@ const WORDS: [&str; 2] = ["requires", "unsafe"];
 /// The section that lists the records with their files.
 const RECORDS: &str = "The records";
 
-/// All files below a folder with one of these endings.
+/// All files below a folder with one of these endings, but those of a crate's `out/`.
 fn files_below(folder: &Path, endings: &[&str]) -> Vec<PathBuf> {
     let entries = fs::read_dir(folder).unwrap();
     let paths = entries.map(|entry| entry.unwrap().path());
+    let paths = paths.filter(|path| !path.ends_with("out"));
     let (folders, files): (Vec<_>, Vec<_>) = paths.partition(|path| path.is_dir());
     let ends = |path: &PathBuf| {
         let name = path.to_str().unwrap();
@@ -212,23 +213,23 @@ fn every_name_on_the_page_of_promises_is_there() {
 fn a_name_that_is_not_there_is_found() {
     let page = "# Page\n\n## The records\n\n| `TreeReader` | `formats/specs/Reader` |\n\n\
         ## Tokens\n\nOf `formats/specs/Tokens`, edits of `refusal`.\n\n\
-        `TreeReader.gives`, `TreeReader.no-such-field`, `firstTree`, `secondTree`, `treeResult`, \
+        `TreeReader.gives`, `TreeReader.no_such_field`, `first_tree`, `second_tree`, `tree_result`, \
         `tree: second_tree`, `tree/exchanged`, `refusal/exchanged`, `run/space`, `run/time`, \
         `formats/specs/Reader`, `tree.rs`, `three.rs`, `pending`, `&input[..end]`, `requires`, \
         `exchanged`, `depth_1025_read`\n\n\
-        | sentence | name |\n|---|---|\n| a | `tree/specs/Inner/TreeResults: treeResult` |\n\
-        | .. | `treeResult` |\n| b | `treeResult` |\n\n## Other\n\n`firstTree`\n";
+        | sentence | name |\n|---|---|\n| a | `tree/specs/Inner/TreeResults: tree_result` |\n\
+        | .. | `tree_result` |\n| b | `tree_result` |\n\n## Other\n\n`first_tree`\n";
     let (wrong, all) = missing(page);
     let expected = [
-        "TreeReader.no-such-field",
-        "secondTree",
-        "treeResult",
+        "TreeReader.no_such_field",
+        "second_tree",
+        "tree_result",
         "tree/exchanged",
         "run/time",
         "three.rs",
         "depth_1025_read",
-        "treeResult",
-        "firstTree",
+        "tree_result",
+        "first_tree",
     ];
     assert_eq!((&wrong[..], all), (&expected.map(str::to_owned)[..], 26));
 }

@@ -8,7 +8,7 @@ use crate::trial::text;
 type Section = (String, Vec<String>);
 
 /// The sections of `crates.txt`: a heading is a comment that begins with four
-/// hyphens, and a crate is what stands before a colon.
+/// hyphens, and a crate is the first word before a colon.
 fn listed(text: &str) -> Vec<Section> {
     let mut sections: Vec<Section> = Vec::new();
     for line in text.lines() {
@@ -16,7 +16,7 @@ fn listed(text: &str) -> Vec<Section> {
             sections.push((heading.to_owned(), Vec::new()));
         } else if let Some((name, _)) = line.split('#').next().unwrap().split_once(':') {
             let (_, crates) = sections.last_mut().expect("a crate under a heading");
-            crates.push(name.trim().to_owned());
+            crates.extend(name.split_whitespace().next().map(str::to_owned));
         }
     }
     sections
@@ -52,7 +52,8 @@ fn sections_are_found() {
         (heading.to_owned(), crates)
     };
     let expected = [one("first", &["a", "b"]), one("second", &["c"])];
-    let list = "# All: of them.\n\n# ---- first\n\na:\nb: a # c: d\n\n# ---- second\nc: a b\n";
+    let list =
+        "# All: of them.\n\n# ---- first\n\na:\nb: a # c: d\n\n# ---- second\nc staticlib: a b\n";
     assert_eq!(listed(list), expected);
     let page = "| `x` | y |\n\n## The crates\n\n| `x` | y |\n\n### First\n\n| crate | it |\n\
         |---|---|\n| `a` | see `c` |\n| `b` | |\n\n### Second\n\n| `c` | |\n\n## More\n\n| `d` | |\n";

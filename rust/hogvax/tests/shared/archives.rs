@@ -11,7 +11,7 @@ pub fn whole() -> PathBuf {
 pub fn view() -> PathBuf {
     let archive = Path::new(env!("HOGVAX_ARCHIVE")).with_file_name("libhogvax_view.a");
     let there = archive.is_file();
-    let help = "run 'rt staticlib hogvax_view' at the root of the repository";
+    let help = "run 'tools/staticlib hogvax_view' at the root of the repository";
     assert!(there, "there is no {}\nhelp: {help}", archive.display());
     archive
 }

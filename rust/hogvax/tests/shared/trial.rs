@@ -2,7 +2,6 @@
 //! folder of their own.
 
 use std::fs;
-use std::os::unix::fs::symlink;
 use std::path::{Path, PathBuf};
 use std::process::{Command, Stdio};
 
@@ -63,6 +62,26 @@ fn run(command: &str, folder: &Path) -> String {
     String::from_utf8_lossy(&bytes).into_owned()
 }
 
+/// Puts a file that is only read or run under another name, too. A link by name
+/// it may not be: `rt ci` refuses one anywhere below the root.
+fn named(from: &Path, to: &Path) {
+    let made = fs::hard_link(from, to);
+    made.or_else(|_| fs::copy(from, to).map(|_| ())).unwrap();
+}
+
+/// Copies a file, or a folder with all in it.
+fn copy(from: &Path, to: &Path) {
+    if !from.is_dir() {
+        fs::copy(from, to).unwrap();
+        return;
+    }
+    fs::create_dir(to).unwrap();
+    for entry in fs::read_dir(from).unwrap() {
+        let entry = entry.unwrap();
+        copy(&entry.path(), &to.join(entry.file_name()));
+    }
+}
+
 /// A new folder that looks like the repository's root: the command line is
 /// `./hogvax` there, and samples, header, examples and libraries are in place.
 pub fn folder(name: &str) -> PathBuf {
@@ -70,13 +89,16 @@ pub fn folder(name: &str) -> PathBuf {
     let path = path.join(name);
     let _ = fs::remove_dir_all(&path);
     fs::create_dir_all(path.join("target/staticlib")).unwrap();
-    symlink(env!("CARGO_BIN_EXE_hogvax"), path.join("hogvax")).unwrap();
+    named(
+        Path::new(env!("CARGO_BIN_EXE_hogvax")),
+        &path.join("hogvax"),
+    );
     for archive in [archives::whole(), archives::view()] {
         let name = archive.file_name().unwrap();
-        symlink(&archive, path.join("target/staticlib").join(name)).unwrap();
+        named(&archive, &path.join("target/staticlib").join(name));
     }
     for name in ["samples", "include", "examples"] {
-        symlink(repository(name), path.join(name)).unwrap();
+        copy(&repository(name), &path.join(name));
     }
     path
 }

@@ -27,10 +27,10 @@ fn alone(text: &str) -> Vec<String> {
 
 #[test]
 fn an_operator_is_used_where_its_parts_stand() {
-    let text = "_⊕_ : N\nx ⊕ y = x\n_⊗_ : N\nx ⊗ y = x\nat_of_ : N\nat x of y = x\n\
-        if_to_ : N\nif x to y = y\nfold : N\nfold = _⊖_\n_⊖_ : N\nx ⊖ y = y\n\
-        top : N\ntop = (at z of z) ⊕ fold\n";
-    assert_eq!(alone(text), ["_⊕_", "at_of_", "fold", "_⊖_", "top"]);
+    let text = "◌⊕◌ : N\nx ⊕ y = x\n◌⊗◌ : N\nx ⊗ y = x\nat◌of◌ : N\nat x of y = x\n\
+        if◌to◌ : N\nif x to y = y\nfold : N\nfold = ◌⊖◌\n◌⊖◌ : N\nx ⊖ y = y\n\
+        at_of : N\nat_of = 0\ntop : N\ntop = (at z of z) ⊕ fold\n";
+    assert_eq!(alone(text), ["◌⊕◌", "at◌of◌", "fold", "◌⊖◌", "top"]);
 }
 
 #[test]
@@ -45,13 +45,14 @@ fn a_constructor_in_a_pattern_counts_to_its_type() {
 fn a_field_counts_to_its_record_where_it_is_projected() {
     let text = "pub record Pair (A : Type 0) : Type 0 where\n  pub left : A\n  pub right : A\n\
         pub record Box : Type 0 where\n  pub inside : N\nlid : N\nlid = 0\n\
-        top : N\ntop = λ inside. p .right\n";
-    assert_eq!(alone(text), ["Pair", "top"]);
+        pub record Cup : Type 0 where\n  pub full : N\n\
+        top : N\ntop = λ inside. p.right + (f p).full\n";
+    assert_eq!(alone(text), ["Pair", "Cup", "top"]);
 }
 
 #[test]
 fn names_are_whole_words() {
-    let text = "x : N\nx′ : N\nx-y : N\nx₁ : N\nx⁺ : N\nTree⁻ : N\ny : N\nz : N\n\
+    let text = "x : N\nx' : N\nx-y : N\nx_y : N\nx₁ : N\nx⁺ : N\nTree⁻ : N\ny : N\nz : N\n\
         top : N\ntop = (x-y){x⁺}[ Tree⁻; λ u. z]\n";
     assert_eq!(alone(text), ["x-y", "x⁺", "Tree⁻", "z", "top"]);
 }
@@ -75,11 +76,10 @@ fn clauses_and_blocks_are_taken_apart() {
 
 #[test]
 fn imports_are_followed_with_their_new_names() {
-    let a =
-        "use Kit.Nat.{N, _+_ as _plus_, M}\nuse Rattle·one·specs.specs.B.{line as aLine, dot}\n\
-        use Rattle·two.specs.C.{far}\nuse Rattle·two.specs.Inner.D.{deep}\n\
-        use Rattle·two.proofs.E.{shown}\n\
-        line : N\nline = 0\ntop : N\ntop = aLine plus (far deep shown)\n";
+    let a = "use Kit.Nat.{N, ◌+◌ as ◌plus◌, M}\nuse Rattle.one.specs.B.{line as a_line, dot}\n\
+        use Rattle.two.specs.C.{far}\nuse Rattle.two.specs.Inner.D.{deep}\n\
+        use Rattle.two.proofs.E.{shown}\n\
+        line : N\nline = 0\ntop : N\ntop = a_line plus (far deep shown)\n";
     let b = "data Line : Type 0 where\n  line : Line\ndata Dot : Type 0 where\n  dot : Dot\n";
     let (c, d) = ("far : K\nfar = 0\n", "deep : K\ndeep = 0\n");
     let files = [("one/specs/A", a), ("one/specs/B", b), ("two/specs/C", c)];
@@ -92,7 +92,7 @@ fn imports_are_followed_with_their_new_names() {
         "deep",
         "two/proofs/E: shown",
         "Kit.Nat.N",
-        "Kit.Nat._+_",
+        "Kit.Nat.◌+◌",
     ];
     assert_eq!(found, expected);
 }
@@ -100,18 +100,19 @@ fn imports_are_followed_with_their_new_names() {
 #[test]
 #[should_panic(expected = "one/specs/B.antt declares no gone")]
 fn a_name_that_is_not_there_is_reported() {
-    let a = "use Rattle·one·specs.specs.B.{gone}\ntop : gone\n";
+    let a = "use Rattle.one.specs.B.{gone}\ntop : gone\n";
     names(&project(&[("one/specs/A", a), ("one/specs/B", "")], &[]));
 }
 
 #[test]
 fn structs_and_enums_count_with_those_in_them() {
-    let a = "use Rattle·two.specs.declared.Answer.{Answer}\n\
-        use Rattle·two.specs.declared.Way.the-variants as way\n\
-        use Rattle·two.specs.declared.Gone.the-variants.{Never}\n\
+    let a = "use Rattle.two.specs.declared.Answer.{Answer}\n\
+        use Rattle.two.specs.declared.Way.TheVariants as way\n\
+        use Rattle.two.specs.declared.Gone.TheVariants.{Never}\n\
         top : Answer → N\ntop a = way.Left\n";
-    let one = "pub enum Refusal {\n    Short,\n}\npub struct Idle {\n    a: u8,\n}\n";
-    let two = "use one::Refusal;\n// A way.\npub enum Way {\n    Left,\n    Right(Step),\n}\n\
+    let one = "#![tactic(auto)]\n\npub enum Refusal {\n    Short,\n}\n\
+        pub struct Idle {\n    a: u8,\n}\n";
+    let two = "use one::{\n    Idle,\n    Refusal,\n};\n// A way.\npub enum Way {\n    Left,\n    Right(Step),\n}\n\
         struct Step {\n    by: u8,\n}\n\npub struct Answer {\n    why: Refusal,\n}\n\
         pub enum Gone {\n    Never,\n}\n";
     let rattle = [("one/src/lib", one), ("two/src/lib", two)];
@@ -131,11 +132,11 @@ fn structs_and_enums_count_with_those_in_them() {
 #[test]
 fn contracts_count_and_bodies_do_not() {
     let a = "asked : N\ngiven : N\nother : N\nunder : N\n";
-    let lib = "ghost use Rattle·one·specs.specs.A.{asked, given as got, other, under};\n\n\
+    let lib = "ghost use Rattle.one.specs.A.{asked, given as got, other, under};\n\n\
         pub struct Pair {\n    a: u8,\n}\n\n\
-        pub extern \"C\" fn first(\n    p: &mut Many<Pair>,\n) -> u32\n    requires { ⌜ asked ⌝ }\n    \
-        ensures { λ r. ⌜ r ≡ got ⌝ }\n{\n    under\n}\n\n\
-        fn second() -> u32\n    ensures { ⌜ other ⌝ }\n{\n    1\n}\n\nfn main() {\n    under\n}\n";
+        pub extern \"C\" fn first(\n    p: &mut Many<Pair>,\n) -> u32\n    requires { asked }\n    \
+        ensures same {\n        result ≡ got\n    }\n{\n    under\n}\n\n\
+        fn second() -> u32\n    ensures { other }\n{\n    1\n}\n\nfn main() {\n    under\n}\n";
     let small = project(&[("one/specs/A", a)], &[("one/src/lib", lib)]);
     for (functions, expected) in [
         (&["first"][..], &["asked", "given", "one::Pair"][..]),
@@ -171,7 +172,7 @@ fn a_function_that_is_not_there_is_reported() {
 
 #[test]
 fn a_constructor_of_two_types_counts_to_both() {
-    let a = "use Rattle·one·specs.specs.B.{none}\ntop : none\n";
+    let a = "use Rattle.one.specs.B.{none}\ntop : none\n";
     let b =
         "data First : Type 0 where\n  none : First\ndata Second : Type 0 where\n  none : Second\n";
     let found = names(&project(&[("one/specs/A", a), ("one/specs/B", b)], &[]));

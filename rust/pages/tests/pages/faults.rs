@@ -10,8 +10,8 @@ fn with_closure(project: Project) -> (Project, Closure) {
     (project, closure)
 }
 
-const A: &str = "use Kit.Nat.{N, _+_, _*_}\nuse Rattle·two.specs.Inner.B.{deep}\n\
-    use Rattle·two.proofs.C.{shown}\nuse Rattle·two.specs.D.{far}\n\
+const A: &str = "use Kit.Nat.{N, ◌+◌, ◌*◌}\nuse Rattle.two.specs.Inner.B.{deep}\n\
+    use Rattle.two.proofs.C.{shown}\nuse Rattle.two.specs.D.{far}\n\
     top : N\ntop = deep + shown\nidle : N\nidle = far\n";
 
 #[test]
@@ -29,7 +29,7 @@ fn each_fault_is_found() {
     assert_eq!(found, ["two/specs/Inner/B: deep", "two/proofs/C: shown"]);
     let found = imports_from_proofs(&project, &closure);
     assert_eq!(found, ["one/specs/A imports from two/proofs/C"]);
-    assert_eq!(unused_imports(&project, &closure), ["one/specs/A: _*_"]);
+    assert_eq!(unused_imports(&project, &closure), ["one/specs/A: ◌*◌"]);
     assert_eq!(idle_files(&project, &closure), ["two/specs/D"]);
     assert_eq!(idle_definitions(&project, &closure), ["one/specs/A: idle"]);
 }

@@ -28,14 +28,14 @@ fn every_edit_is_shown() {
 }
 
 const ONE: &str = "const MOST: u8 = 3;\n\n\
-    pub fn first(a: u8, b: u8) -> u8\n    ensures { ⌜ kept ⌝ }\n{\n    second(a) + MOST\n}\n\n\
-    fn second(a: u8) -> u8\n    ensures { ⌜ kept ⌝ }\n{\n    a\n}\n\n\
+    pub fn first(a: u8, b: u8) -> u8\n    ensures { kept }\n{\n    second(a) + MOST\n}\n\n\
+    fn second(a: u8) -> u8\n    ensures { kept }\n{\n    a\n}\n\n\
     fn third() -> u8 {\n    1\n}\n";
 
-const TWO: &str = "pub fn same(a: u8, b: u8) -> u8\n    ensures { ⌜ kept ⌝ }\n{\n    \
+const TWO: &str = "pub fn same(a: u8, b: u8) -> u8\n    ensures { kept }\n{\n    \
     one::first(a, b)\n}\n\n\
-    pub fn exchanged(a: u8, b: u8) -> u8\n    ensures { ⌜ kept ⌝ }\n{\n    one::first(b, a)\n}\n\n\
-    pub fn other(a: u8, b: u8) -> u8\n    ensures { ⌜ weak ⌝ }\n{\n    one::first(a, b)\n}\n\n\
+    pub fn exchanged(a: u8, b: u8) -> u8\n    ensures { kept }\n{\n    one::first(b, a)\n}\n\n\
+    pub fn other(a: u8, b: u8) -> u8\n    ensures { weak }\n{\n    one::first(a, b)\n}\n\n\
     pub fn bare() -> u8 {\n    1\n}\n";
 
 fn small_project() -> Project {

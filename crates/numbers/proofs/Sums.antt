@@ -74,3 +74,5 @@ module _ (a b : ℕ) (a_fits : Fits w32 a) (b_fits : Fits w32 b) where
   sum_word x y test w x_is y_is is most word =
       let inside = in_range (in_test x y test x_is y_is is) most in
       ap some word ∙ sym (sum_inside a b (omega (arith, a_fits)) (omega (arith, b_fits)) inside.0 inside.1)
+
+pub ruleset sum_ways = (sum_missing, sum_word)

@@ -28,6 +28,7 @@ fn extended(w: u32) -> u64
 // 2^32 - 1 where it is in range, and above that, modulo 2^64, where it is not. The compiler makes
 // an addition and a jump on overflow of this, as long as the comparison says what is out of range
 // and stands beside the sum (docs/BENCHMARKS.md).
+#[tactic(auto, using(crate::proofs::Sums::sum_ways))]
 pub fn sum_of(a: u32, b: u32) -> Sum
     ensures { word_in result ≡ result_of plus a b }
 {

@@ -24,6 +24,7 @@ pub fn has_room(answer: &[u64]) -> bool
 }
 
 // The number that a 32-bit word stands for in two's complement, as a 64-bit word: sign-extended.
+#[tactic(auto, using(crate::proofs::Extended::extended_ways))]
 pub fn sign_extended(word: u32) -> u64
     ensures { result ≡ sign_extended word }
 {

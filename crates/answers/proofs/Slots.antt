@@ -1,23 +1,17 @@
 -- Answers with any number of slots: a law for each way out of the functions that report them.
-use Prim.Native.Nat.{ℕ, ◌+◌, ◌≤◌, ◌<◌}
+use Prim.Native.Nat.{ℕ, ◌≤◌, ◌<◌}
 use mathlib.Core.Bool.{true, false}
-use mathlib.Core.List.{List}
+use mathlib.Core.List.{List, ◌++◌}
 use mathlib.Core.Path.{◌≡◌, refl, sym, ap, ◌∙◌}
 use native.Mathlib.Nat.{zero-add}
 use native.Mathlib.Omega.{arith}
 use borrow.Author.Tests.{lt-ltb, le-ltb}
 use lib.Dec.{ltb}
-use lib.ListN.{length, get_or, set}
+use lib.ListN.{length, drop}
 use Rattle.formats.specs.Refusals.{space_too_short}
 use Rattle.formats.specs.Results.{Result}
 use Rattle.formats.specs.Written.{written}
-use Rattle.formats.proofs.Written.{written_short}
-use Rattle.writing.proofs.Copied.{Copied, copy_none, copy_more, copy_length, copy_all}
-use Rattle.refusal.specs.declared.Refusal.{Refusal}
-use Rattle.refusal.specs.Inner.Numbers.{number}
-use Rattle.refusal.specs.Inner.Verdicts.{verdict_result}
-use Rattle.refusal.specs.declared.Verdict.{Verdict}
-use Rattle.refusal.specs.declared.Verdict.TheVariants.{Passed, Refused}
+use Rattle.formats.proofs.Written.{written_fits, written_short}
 use Rattle.answers.specs.Slots.{refusal_of, position_of, Answered}
 use Rattle.answers.specs.Inner.Stores.{Stored}
 
@@ -28,24 +22,11 @@ module _ (row : List ℕ) (n : ℕ) (before : List ℕ) where
   pub stored_short : (r : ℕ) → length before < length row → r ≡ space_too_short → Stored row n before before r
   stored_short r h e = record { given = rw (lt-ltb _ _ h) e; slots = sym (written_short before 0 row (omega arith)) }
 
-  -- as many numbers as the loop has passed are in their slots
-  pub row_none : Copied before 0 row before 0
-  row_none = copy_none before 0 row
+  -- the row stands in the first slots, and the others are as they were
+  pub row_stored : (slots : List ℕ) → length row ≤ length before → slots ≡ row → Stored row n before (slots ++ drop (length row) before) n
+  row_stored slots room e = record { given = rw (le-ltb _ _ room) refl; slots = rw (e, ← (zero-add (length row))) (sym (written_fits before 0 row (omega arith))) }
 
-  pub row_more : (now : List ℕ) (k : ℕ) → length row ≤ length before → k < length row → Copied before 0 row now k
-      → Copied before 0 row (set now k (get_or row k 0)) (k + 1)
-  row_more now k room more c = rw zero-add at (copy_more before 0 row now k room (omega arith) more c)
-
-  pub row_slot : (now : List ℕ) (k : ℕ) → length row ≤ length before → k < length row → Copied before 0 row now k → k < length now
-  row_slot now k room more c = omega (arith, c.same_length)
-
-  pub row_length : (now : List ℕ) (k : ℕ) → Copied before 0 row now k → length now ≡ length before
-  row_length now k c = copy_length before 0 row now k c
-
-  pub row_stored : (now : List ℕ) (k : ℕ) → length row ≤ length before → length row ≤ k → Copied before 0 row now k → Stored row n before now n
-  row_stored now k room all c = record { given = rw (le-ltb _ _ room) refl; slots = copy_all before 0 row now k all c }
-
-pub ruleset rows = (stored_short, row_none, row_more, row_slot, row_length, row_stored)
+pub ruleset rows = (stored_short, row_stored)
 
 -- ---- the answers
 
@@ -65,14 +46,3 @@ module _ (count : ℕ) (row : ℕ → List ℕ) (long : (position : ℕ) → len
         number = (rw (long position) at s.given) ∙ ap (λ k. elim (ltb (length before) count) [ true ↦ space_too_short | false ↦ k ]) is;
         slots = s.slots ∙ ap (λ p. written before 0 (row p)) there;
       }
-
-  module _ (v : Verdict) where
-    pub reported_ended : v ≡ Passed → Stored (row 0) 0 before after r → Answered count row (verdict_result v) before after r
-    unfolding refusal_of position_of
-    reported_ended case = stored_reported (verdict_result v) 0 0 (sym (ap (λ w. refusal_of (verdict_result w)) case)) (sym (ap (λ w. position_of (verdict_result w)) case))
-
-    pub reported_refused : (why : Refusal) (position n : ℕ) → v ≡ Refused why position → n ≡ number why → Stored (row position) n before after r
-        → Answered count row (verdict_result v) before after r
-    unfolding refusal_of position_of
-    reported_refused why position n case is =
-        stored_reported (verdict_result v) n position (is ∙ sym (ap (λ w. refusal_of (verdict_result w)) case)) (sym (ap (λ w. position_of (verdict_result w)) case))

@@ -3,23 +3,45 @@
 #![tactic(auto)]
 
 ghost use Rattle.std.specs.Prelude.{◌≡◌, leb, length};
+ghost use Rattle.refusal.specs.Inner.Answered.{answered};
 ghost use Rattle.refusal.specs.Inner.FilledBuffer.{filled_result};
 ghost use Rattle.formats.specs.Results.{on_value};
 ghost use Rattle.refusal.specs.Inner.Verdicts.{verdict_result};
+ghost use Rattle.answers.specs.Slots.{refusal_of, position_of};
 ghost use Rattle.answers.specs.Inner.Stores.{Stored, Stores};
 ghost use Rattle.answers.specs.Answer.{answer_slots, Answers};
 
-use refusal::{Filled, Refusal, Verdict};
+use refusal::{Refusal, Refused};
 
 // How many slots an answer of position and bytes takes. (`HOGVAX_ANSWER_SLOTS` of the header is
 // larger: it is enough for `hogvax_tree`, too.) Slots that a later version adds come after these.
 const ANSWER_SLOTS: usize = 2;
 
-// Whether the answer array has all slots.
+// Whether the answer array has so many slots.
+pub fn has_slots<const SLOTS: usize>(answer: &[u64]) -> bool
+    ensures { result ≡ leb SLOTS (length answer.now) }
+{
+    SLOTS <= answer.len()
+}
+
+// Whether the answer array has all slots. (Each kind of answer has a function of its own for this:
+// must-fail edits hold its number.)
 pub fn has_room(answer: &[u64]) -> bool
     ensures { result ≡ leb answer_slots (length answer.now) }
 {
-    ANSWER_SLOTS <= answer.len()
+    has_slots::<ANSWER_SLOTS>(answer)
+}
+
+// The number of the refusal and its position, both 0 where all is done.
+#[tactic(auto, unfolding(crate::specs::Slots::refusal_of, crate::specs::Slots::position_of))]
+pub fn number_and_position<T: Copy>(outcome: Result<T, Refused>) -> (u32, usize)
+    ensures number { result.0 ≡ refusal_of (answered (λ x. tt) outcome) }
+    ensures position { result.1 ≡ position_of (answered (λ x. tt) outcome) }
+{
+    match outcome {
+        Ok(_) => (0, 0),
+        Err(refused) => (u32::from(refused.why), refused.position),
+    }
 }
 
 // Stores a row of numbers in the answer's first slots, and gives `number`. With too few slots: 13,
@@ -30,13 +52,9 @@ pub fn store_row(answer: &mut [u64], row: &[u64], number: u32) -> u32
 {
     let n = row.len();
     if answer.len() < n {
-        return refusal::number_of(Refusal::SpaceTooShort);
+        return u32::from(Refusal::SpaceTooShort);
     }
-    let mut k = 0;
-    while k < n {
-        answer[k] = row[k];
-        k = k + 1;
-    }
+    answer[..n].copy_from_slice(row);
     number
 }
 
@@ -49,22 +67,17 @@ pub fn store(answer: &mut [u64], number: u32, position: usize, bytes: usize) -> 
 }
 
 // The answer of a call that has filled a lent buffer, or refused to.
-pub fn report(filled: Filled, answer: &mut [u64]) -> u32
+pub fn report(filled: Result<usize, Refused>, answer: &mut [u64]) -> u32
     ensures { Answers (filled_result filled) answer.old answer.new result }
 {
-    match filled {
-        Filled::Written(bytes) => store(answer, 0, 0, bytes),
-        Filled::Refused(why, position) => store(answer, refusal::number_of(why), position, 0),
-    }
+    let (number, position) = number_and_position(filled);
+    store(answer, number, position, filled.unwrap_or(0))
 }
 
 // The answer of a check, which has no bytes to report.
-pub fn report_verdict(verdict: Verdict, answer: &mut [u64]) -> u32
+pub fn report_verdict(verdict: Result<(), Refused>, answer: &mut [u64]) -> u32
     ensures { Answers (on_value (λ u. 0) (verdict_result verdict)) answer.old
         answer.new result }
 {
-    match verdict {
-        Verdict::Passed => store(answer, 0, 0, 0),
-        Verdict::Refused(why, position) => store(answer, refusal::number_of(why), position, 0),
-    }
+    report(verdict.map(|()| 0), answer)
 }

@@ -13,7 +13,8 @@ use Rattle.stepwise.specs.Inner.Rows.{gives_constant, gives_named, looks_at_tree
 use Rattle.stepwise.specs.Inner.Steps.{State, begin, stuck, action_at, operand_at, tree_at, more_at, after_at, frame_words, record_limit, Found, beginning}
 use Rattle.stepwise.proofs.Steps.{looks_leaf, looks_node, looks_past, begins_const, begins_var, begins_case, begins_bare, begins_args, begins_first}
 use Rattle.stages.specs.declared.Stage.{Stage}
-use Rattle.stages.specs.Inner.Stages.{to_begin, is_finished, to_open, is_stuck, state_of, staged, stage_of, words_of, returns_of}
+use Rattle.stages.specs.declared.Mode.TheVariants.{Begin, Finished, Open, Stuck}
+use Rattle.stages.specs.Inner.Stages.{state_of, staged, stage_of, words_of, returns_of}
 use Rattle.stages.proofs.Stages.{reach_begin, reach_finished, reach_open, reach_stuck}
 use Rattle.named_trees.specs.Inner.Offsets.{tree_offset, named_by}
 use Rattle.named_trees.proofs.Offsets.{found_offset}
@@ -37,7 +38,7 @@ module _ (T input values : List ℕ) (s : Stage) (q : ℕ) (found : q ≡ tree_o
   abbrev leaf_stage : ℕ → Stage
   leaf_stage r =
       record {
-        mode = to_begin;
+        mode = Begin;
         node = r;
         number = 0;
         calls = s.calls;
@@ -47,7 +48,7 @@ module _ (T input values : List ℕ) (s : Stage) (q : ℕ) (found : q ≡ tree_o
         written = s.written;
       }
 
-  pub look_past : (r : Stage) → length input ≤ q → r ≡ staged s is_stuck s.node 0 → Looks T input values values s r
+  pub look_past : (r : Stage) → length input ≤ q → r ≡ staged s Stuck s.node 0 → Looks T input values values s r
   look_past r past e =
       rw e (record { is = λ returns. rw (← found, looks_past T input q s.node (state_of values returns s) past) (reach_stuck values returns s) })
 
@@ -77,7 +78,7 @@ module _ (T input values : List ℕ) (s : Stage) (q : ℕ) (found : q ≡ tree_o
       → q < length input
       → get_or input q 0 ≢ leaf_tag
       → b ≡ after_at T (s.node + 1)
-      → r ≡ staged s to_begin b 0
+      → r ≡ staged s Begin b 0
       → Looks T input values values s r
   look_node b r there tag eb e =
       rw (e, eb, add-one s.node)
@@ -101,7 +102,7 @@ module _ (T input : List ℕ) (r : ℕ) (s : State) where
   begun_past past = simp (begun_turn, le-ltb _ _ past)
 
 module _ (T input values : List ℕ) (s : Stage) where
-  pub begin_past : (r : Stage) → record_limit ≤ s.node → r ≡ staged s is_stuck s.node 0 → Begins T input values values s r
+  pub begin_past : (r : Stage) → record_limit ≤ s.node → r ≡ staged s Stuck s.node 0 → Begins T input values values s r
   begin_past r past e =
       rw e (record { is = λ returns. rw (begun_past T input s.node (state_of values returns s) past) (reach_stuck values returns s) })
 
@@ -114,7 +115,7 @@ module _ (T input values : List ℕ) (s : Stage) where
         (x : ℕ) (r : Stage)
         → k ≡ gives_constant
         → x ≡ operand_at T s.node + 65536 * more_at T s.node
-        → r ≡ staged s is_finished s.node x
+        → r ≡ staged s Finished s.node x
         → Begins T input values values s r
     begin_const x r is ex e =
         rw (e, ex)
@@ -128,7 +129,7 @@ module _ (T input values : List ℕ) (s : Stage) where
         (x : ℕ) (r : Stage)
         → k ≡ gives_named
         → x ≡ get_or values (frame_words * s.calls + operand_at T s.node) 0
-        → r ≡ staged s is_finished s.node x
+        → r ≡ staged s Finished s.node x
         → Begins T input values values s r
     begin_var x r is ex e =
         rw (e, ex)
@@ -151,7 +152,7 @@ module _ (T input values : List ℕ) (s : Stage) where
         → k ≡ calls_function
         → m ≡ more_at T s.node
         → m ≡ 0
-        → r ≡ staged s to_open s.node 0
+        → r ≡ staged s Open s.node 0
         → Begins T input values values s r
     begin_bare m r is em none e =
         rw e
@@ -167,7 +168,7 @@ module _ (T input values : List ℕ) (s : Stage) where
     -- the first part begins
     first_part : (r : Stage)
         → ((returns : List ℕ) → beginning T input (at returns) s.node (state_of values returns s) ≡ begin (suc s.node) (state_of values returns s))
-        → r ≡ staged s to_begin (s.node + 1) 0
+        → r ≡ staged s Begin (s.node + 1) 0
         → Begins T input values values s r
     first_part r begins e =
         rw (e, add-one s.node)
@@ -181,7 +182,7 @@ module _ (T input values : List ℕ) (s : Stage) where
         → k ≡ calls_function
         → m ≡ more_at T s.node
         → m ≢ 0
-        → r ≡ staged s to_begin (s.node + 1) 0
+        → r ≡ staged s Begin (s.node + 1) 0
         → Begins T input values values s r
     begin_args m r is em some e =
         first_part r
@@ -194,7 +195,7 @@ module _ (T input values : List ℕ) (s : Stage) where
         → k ≢ gives_named
         → k ≢ looks_at_tree
         → k ≢ calls_function
-        → r ≡ staged s to_begin (s.node + 1) 0
+        → r ≡ staged s Begin (s.node + 1) 0
         → Begins T input values values s r
     begin_first r a b c d e =
         first_part r

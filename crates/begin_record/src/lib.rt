@@ -9,14 +9,8 @@ ghost use Rattle.begin_record.specs.Inner.Begins.{Looks, Begins};
 use frames::{
     ACTION, AFTER, CALLS_FUNCTION, GIVES_CONSTANT, GIVES_NAMED, LOOKS_AT_TREE, MORE, OPERAND,
 };
-use stages::{BEGIN, FINISHED, OPEN, STUCK, Stage};
-
-// The numbers of records are below this limit.
-const RECORD_LIMIT: u16 = 2048;
-
-const LEAF_TAG: u8 = 1;
-
-const LEAF_BYTES: usize = 5;
+use stages::{Mode, RECORD_LIMIT, Stage};
+use tree::{LEAF_BYTES, LEAF_TAG};
 
 // The number of a Const.
 fn constant(table: &[u16], r: u16) -> u32
@@ -27,6 +21,7 @@ fn constant(table: &[u16], r: u16) -> u32
 }
 
 // Reads the label at an offset, and puts it on the word by which the stage's Case names it.
+#[tactic(auto, using(crate::proofs::Begins::slots))]
 fn put_label(table: &[u16], input: &[u8], at: usize, values: &mut [u32], s: Stage)
     ensures { values.new ≡ set values.old
         (frame_words * s.calls + operand_at table.now s.node)
@@ -43,6 +38,7 @@ fn put_label(table: &[u16], input: &[u8], at: usize, values: &mut [u32], s: Stag
 
 // A Case looks at its tree. At a leaf its label is put on its word, and the leaf part begins; else
 // the node part begins.
+#[tactic(auto, using(crate::proofs::Begins::looks))]
 fn look(table: &[u16], input: &[u8], values: &mut [u32], s: Stage) -> Stage
     requires { s.node < record_limit }
     ensures { Looks table.now input.now values.old
@@ -51,25 +47,21 @@ fn look(table: &[u16], input: &[u8], values: &mut [u32], s: Stage) -> Stage
     let r = s.node;
     let p = named_trees::named_offset(table, input, s);
     if input.len() <= p {
-        return stages::staged_at(s, STUCK, r, 0);
+        return s.at(Mode::Stuck, r, 0);
     }
     if input[p] == LEAF_TAG {
         put_label(table, input, p + 1, values, s);
         return Stage {
-            mode: BEGIN,
-            node: r + 1,
-            number: 0,
-            calls: s.calls,
-            tree: s.tree,
             known: p,
             end: p + LEAF_BYTES,
-            written: s.written,
+            ..s.at(Mode::Begin, r + 1, 0)
         };
     }
-    stages::staged_at(s, BEGIN, frames::field(table, r + 1, AFTER), 0)
+    s.at(Mode::Begin, frames::field(table, r + 1, AFTER), 0)
 }
 
 // The number that a Var names.
+#[tactic(auto, using(crate::proofs::Begins::slots))]
 fn named_number(table: &[u16], values: &[u32], s: Stage) -> u32
     ensures { result ≡ get_or values.now
         (frame_words * s.calls + operand_at table.now s.node) 0 }
@@ -79,24 +71,26 @@ fn named_number(table: &[u16], values: &[u32], s: Stage) -> u32
 
 // The next stage after a record begins, by its action: a number is given; a tree is looked at; a
 // call without arguments opens; else the first part begins.
+#[tactic(auto, using(crate::proofs::Begins::beginnings))]
 pub fn begin(table: &[u16], input: &[u8], values: &mut [u32], s: Stage) -> Stage
     ensures { Begins table.now input.now values.old
         values.new s result }
 {
     let r = s.node;
     if RECORD_LIMIT <= r {
-        return stages::staged_at(s, STUCK, r, 0);
+        return s.at(Mode::Stuck, r, 0);
     }
     match frames::field(table, r, ACTION) {
-        GIVES_CONSTANT => stages::staged_at(s, FINISHED, r, constant(table, r)),
-        GIVES_NAMED => stages::staged_at(s, FINISHED, r, named_number(table, values, s)),
+        GIVES_CONSTANT => s.at(Mode::Finished, r, constant(table, r)),
+        GIVES_NAMED => s.at(Mode::Finished, r, named_number(table, values, s)),
         LOOKS_AT_TREE => look(table, input, values, s),
         CALLS_FUNCTION => {
             if frames::field(table, r, MORE) == 0 {
-                return stages::staged_at(s, OPEN, r, 0);
+                s.at(Mode::Open, r, 0)
+            } else {
+                s.at(Mode::Begin, r + 1, 0)
             }
-            stages::staged_at(s, BEGIN, r + 1, 0)
         }
-        _ => stages::staged_at(s, BEGIN, r + 1, 0),
+        _ => s.at(Mode::Begin, r + 1, 0),
     }
 }

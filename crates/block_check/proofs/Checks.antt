@@ -8,6 +8,10 @@ use Rattle.formats.specs.Results.{done, refusal, verdict}
 use Rattle.formats.specs.Records.{record_bytes}
 use Rattle.formats.specs.Blocks.{block_records, records_bytes, number_offset, used_offset, blocks_offset, word_sum, check_target, word_limit, zeros, used_fits, fields_fit, used_of}
 use Rattle.formats.proofs.Words.{word_sum_step}
+use Rattle.std.specs.Prelude.{Ok, Err}
+use Rattle.refusal.specs.Inner.Verdicts.{verdict_result}
+use Rattle.refusal.specs.declared.Refused.{Refused}
+use Rattle.refusal.specs.declared.Refusal.TheVariants.{BlockCheck, BlockField}
 
 -- ---- the sum of 16-bit words
 
@@ -125,16 +129,17 @@ pub ruleset fields_reported = (field_number, field_used, field_count, field_unus
 -- ---- the row of one block
 
 module _ (blocks j : ℕ) (block : List ℕ) (sum : ℕ) (added : sum ≡ word_sum block % word_limit) where
-  pub row_check : sum ≢ check_target → refusal block_check j ≡ verdict (used_of blocks j block)
+  pub row_check : sum ≢ check_target → (r : Refused) → r ≡ record { why = BlockCheck; position = j } → verdict_result (Err r) ≡ verdict (used_of blocks j block)
   unfolding used_of
-  row_check wrong = simp (used_of, ← added, ne_eqb _ _ wrong)
+  row_check wrong r is = rw is (simp (used_of, ← added, ne_eqb _ _ wrong))
 
   pub row_passed : (fits : Bool) → sum ≡ check_target → fits ≡ fields_fit blocks j block → fits ≡ true → done tt ≡ verdict (used_of blocks j block)
   unfolding used_of
   row_passed fits right reported fit = simp (used_of, ← added, eq-eqb _ _ right, ← reported, fit)
 
-  pub row_field : (fits : Bool) → sum ≡ check_target → fits ≡ fields_fit blocks j block → fits ≡ false → refusal block_field j ≡ verdict (used_of blocks j block)
+  pub row_field : (fits : Bool) → sum ≡ check_target → fits ≡ fields_fit blocks j block → fits ≡ false
+      → (r : Refused) → r ≡ record { why = BlockField; position = j } → verdict_result (Err r) ≡ verdict (used_of blocks j block)
   unfolding used_of
-  row_field fits right reported unfit = simp (used_of, ← added, eq-eqb _ _ right, ← reported, unfit)
+  row_field fits right reported unfit r is = rw is (simp (used_of, ← added, eq-eqb _ _ right, ← reported, unfit))
 
 pub ruleset row_reported = (row_check, row_passed, row_field)

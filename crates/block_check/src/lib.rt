@@ -6,24 +6,27 @@ ghost use Rattle.formats.specs.Results.{verdict};
 ghost use Rattle.formats.specs.Blocks.{word_limit, word_sum, zeros, used_fits, fields_fit, used_of};
 ghost use Rattle.refusal.specs.Inner.Verdicts.{verdict_result};
 
-use refusal::{Refusal, Verdict};
+use refusal::{Refusal, Refused};
 
-const RECORD_BYTES: usize = 8;
+// What blocks are made of, for all crates that read and write them.
+pub const RECORD_BYTES: usize = 8;
+
+pub const BLOCK_BYTES: usize = 512;
 
 const BLOCK_RECORDS: u16 = 63;
 
 // The bytes of all records of a block.
-const PART_BYTES: usize = 504;
+pub const PART_BYTES: usize = 504;
 
 // The offsets of a block's fields: its number, the records that it uses, the number of blocks.
-const NUMBER_OFFSET: usize = 504;
+pub const NUMBER_OFFSET: usize = 504;
 
-const USED_OFFSET: usize = 506;
+pub const USED_OFFSET: usize = 506;
 
-const BLOCKS_OFFSET: usize = 508;
+pub const BLOCKS_OFFSET: usize = 508;
 
 // What a block's words sum to, modulo 65,536.
-const CHECK_SUM: u16 = 65535;
+pub const CHECK_SUM: u16 = 65535;
 
 // The sum of the 16-bit words of a slice, modulo 65,536.
 pub fn word_sum(s: &[u8]) -> u16
@@ -31,10 +34,8 @@ pub fn word_sum(s: &[u8]) -> u16
 {
     let n = s.len() / 2;
     let mut sum: u16 = 0;
-    let mut k = 0;
-    while k < n {
-        sum = std::num::wrapping_add_u16(sum, words::read16(s, 2 * k));
-        k = k + 1;
+    for k in 0..n {
+        sum = sum.wrapping_add(words::read16(s, 2 * k));
     }
     sum
 }
@@ -43,12 +44,10 @@ pub fn word_sum(s: &[u8]) -> u16
 fn zero_between(s: &[u8], from: usize, to: usize) -> bool
     ensures { result ≡ zeros (drop from (take to s.now)) }
 {
-    let mut i = from;
-    while i < to {
+    for i in from..to {
         if words::read8(s, i) != 0 {
             return false;
         }
-        i = i + 1;
     }
     true
 }
@@ -87,14 +86,14 @@ fn fields_fit(block: &[u8], blocks: u16, j: u16) -> bool
 
 // The row "each block" for block j of a file of `blocks` blocks: the check, then the other fields
 // and the unused records.
-pub fn block_row(block: &[u8], blocks: u16, j: u16) -> Verdict
+pub fn block_row(block: &[u8], blocks: u16, j: u16) -> Result<(), Refused>
     ensures { verdict_result result ≡ verdict (used_of blocks j block.now) }
 {
     if word_sum(block) != CHECK_SUM {
-        return Verdict::Refused(Refusal::BlockCheck, j as usize);
+        return Err(Refusal::BlockCheck.at(j as usize));
     }
     if fields_fit(block, blocks, j) {
-        return Verdict::Passed;
+        return Ok(());
     }
-    Verdict::Refused(Refusal::BlockField, j as usize)
+    Err(Refusal::BlockField.at(j as usize))
 }

@@ -20,13 +20,11 @@ use Rattle.formats.proofs.Written.{written_none, written_append, wrote}
 use Rattle.formats.proofs.Results.{then_inv, each_inv, each_none, each_length, each_front, each_part, value_inv, refused_is}
 use Rattle.formats.proofs.Blocks.{used_some, used_full, passed}
 use Rattle.formats.proofs.Files.{Whole, length_inv, flat_short, length_lent}
-use Rattle.refusal.specs.declared.Refusal.{Refusal}
-use Rattle.refusal.specs.declared.Verdict.{Verdict}
-use Rattle.refusal.specs.declared.Verdict.TheVariants as verdict_is
+use Rattle.std.specs.Prelude.{Result as Answer, Ok, Err}
+use Rattle.refusal.specs.declared.Refused.{Refused}
 use Rattle.refusal.specs.Inner.Numbers.{number}
 use Rattle.refusal.specs.Inner.Verdicts.{verdict_result}
 use Rattle.refusal.specs.Inner.FilledBuffer.{FilledBuffer}
-use Rattle.refusal.specs.declared.Filled.TheVariants as filled
 use Rattle.refusal.proofs.FilledBuffer.{put_refused, put_done}
 
 -- ---- the parts that blocks give
@@ -243,15 +241,15 @@ flat s bytes e =
     let v = value_inv length (flat_in s) bytes (sym e) in
     record { records = v.value; is = v.first; measure = v.second }
 
-pub take_refused : (s before : List ℕ) (rows : Verdict) (why : Refusal) (position : ℕ) → verdict_result rows ≡ verdict (flat_in s) → rows ≡ verdict_is.Refused why position
-    → FilledBuffer (flat_in s) before before (filled.Refused why position)
-take_refused s before rows why position reported is = put_refused _ before why position (refused_is (flat_in s) (number why) position (sym reported ∙ ap verdict_result is))
+pub take_refused : (s before : List ℕ) (rows : Answer (Unit {0}) Refused) (r : Refused) → verdict_result rows ≡ verdict (flat_in s) → rows ≡ Err r
+    → FilledBuffer (flat_in s) before before (Err r)
+take_refused s before rows r reported is = put_refused _ before r (refused_is (flat_in s) (number r.why) r.position (sym reported ∙ ap verdict_result is))
 
-pub take_passes : (s : List ℕ) (rows : Verdict) → verdict_result rows ≡ verdict (flat_in s) → rows ≡ verdict_is.Passed → verdict (flat_in s) ≡ done tt
+pub take_passes : (s : List ℕ) (rows : Answer (Unit {0}) Refused) → verdict_result rows ≡ verdict (flat_in s) → rows ≡ Ok tt → verdict (flat_in s) ≡ done tt
 take_passes s rows reported is = sym reported ∙ ap verdict_result is
 
 pub take_done : (s before after : List ℕ) (bytes : ℕ) → done bytes ≡ on_value length (flat_in s) → after ≡ buffer_after before (flat_in s)
-    → FilledBuffer (flat_in s) before after (filled.Written bytes)
+    → FilledBuffer (flat_in s) before after (Ok bytes)
 unfolding buffer_after
 take_done s before after bytes e wrote =
     let f = flat s bytes e in

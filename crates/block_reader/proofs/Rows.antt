@@ -7,14 +7,13 @@ use mathlib.Core.Path.{◌≡◌, refl, sym, ap, ◌∙◌}
 use native.Mathlib.Nat.{sub-zero}
 use borrow.Author.Tests.{eq-eqb, ne_eqb, le-leb, lt-leb}
 use lib.ListN.{length, take, drop}
-use Rattle.formats.specs.Refusals.{file_length}
 use Rattle.formats.specs.Results.{Result, done, refusal, on_value, verdict, each}
 use Rattle.formats.specs.Blocks.{block_bytes, most_blocks, length_row, used_of, block_at, block_row, concatenated, flat_in}
 use Rattle.formats.proofs.Results.{then_done, Passing, pass_more, pass_refused, pass_all}
 use Rattle.formats.proofs.Files.{length_done}
-use Rattle.refusal.specs.declared.Refusal.{Refusal}
-use Rattle.refusal.specs.declared.Verdict.{Verdict}
-use Rattle.refusal.specs.declared.Verdict.TheVariants.{Passed, Refused}
+use Rattle.std.specs.Prelude.{Result as Answer, Ok, Err}
+use Rattle.refusal.specs.declared.Refusal.TheVariants.{FileLength}
+use Rattle.refusal.specs.declared.Refused.{Refused}
 use Rattle.refusal.specs.Inner.Numbers.{number}
 use Rattle.refusal.specs.Inner.Verdicts.{verdict_result}
 
@@ -28,18 +27,18 @@ pub rows_none : (s : List ℕ) (blocks : ℕ) → RowsLeft s blocks 0
 unfolding block_row
 rows_none s blocks = record { left = ap (λ (n : ℕ). verdict (each (block_at blocks s) n 0)) (sym (sub-zero blocks)) }
 
-module _ (s : List ℕ) (blocks j : ℕ) (block : List ℕ) (row : Verdict) (more : j < blocks) (c : RowsLeft s blocks j)
+module _ (s : List ℕ) (blocks j : ℕ) (block : List ℕ) (row : Answer (Unit {0}) Refused) (more : j < blocks) (c : RowsLeft s blocks j)
     (there : block ≡ take block_bytes (drop (block_bytes * j) s)) (reported : verdict_result row ≡ verdict (used_of blocks j block)) where
   -- the verdict on a block is the next one of the row
   next : verdict_result row ≡ verdict (block_at blocks s j)
   unfolding block_at
   next = reported ∙ ap (λ (b : List ℕ). verdict (used_of blocks j b)) there
 
-  pub rows_more : row ≡ Passed → RowsLeft s blocks (j + 1)
+  pub rows_more : row ≡ Ok tt → RowsLeft s blocks (j + 1)
   rows_more is = pass_more _ _ blocks j more c (sym next ∙ ap verdict_result is)
 
-  pub rows_refused : (why : Refusal) (position : ℕ) → row ≡ Refused why position → refusal (number why) position ≡ verdict (block_row blocks s)
-  rows_refused why position is = pass_refused _ _ blocks j (number why) position more c (sym next ∙ ap verdict_result is)
+  pub rows_refused : (r : Refused) → row ≡ Err r → verdict_result (Err r) ≡ verdict (block_row blocks s)
+  rows_refused r is = pass_refused _ _ blocks j (number r.why) r.position more c (sym next ∙ ap verdict_result is)
 
 pub rows_all : (s : List ℕ) (blocks j : ℕ) → blocks ≤ j → RowsLeft s blocks j → done tt ≡ verdict (block_row blocks s)
 rows_all s blocks j all c = pass_all _ _ blocks j all c
@@ -48,21 +47,21 @@ pub ruleset rows_reported = (rows_none, rows_more, rows_refused, rows_all)
 
 -- ---- the row of the length, and both
 
-pub whole_not : (s : List ℕ) → length s ≢ block_bytes * (length s / block_bytes) → refusal file_length 0 ≡ verdict (flat_in s)
+pub whole_not : (s : List ℕ) → length s ≢ block_bytes * (length s / block_bytes) → (r : Refused) → r ≡ record { why = FileLength; position = 0 } → verdict_result (Err r) ≡ verdict (flat_in s)
 unfolding flat_in length_row
-whole_not s wrong = simp (flat_in, length_row, ne_eqb _ _ wrong)
+whole_not s wrong r is = rw is (simp (flat_in, length_row, ne_eqb _ _ wrong))
 
-pub whole_none : (s : List ℕ) → length s ≡ block_bytes * (length s / block_bytes) → length s / block_bytes < 1 → refusal file_length 0 ≡ verdict (flat_in s)
+pub whole_none : (s : List ℕ) → length s ≡ block_bytes * (length s / block_bytes) → length s / block_bytes < 1 → (r : Refused) → r ≡ record { why = FileLength; position = 0 } → verdict_result (Err r) ≡ verdict (flat_in s)
 unfolding flat_in length_row
-whole_none s whole none = simp (flat_in, length_row, eq-eqb _ _ whole, lt-leb _ _ none)
+whole_none s whole none r is = rw is (simp (flat_in, length_row, eq-eqb _ _ whole, lt-leb _ _ none))
 
 pub whole_many : (s : List ℕ) → length s ≡ block_bytes * (length s / block_bytes) → 1 ≤ length s / block_bytes → most_blocks < length s / block_bytes
-    → refusal file_length 0 ≡ verdict (flat_in s)
+    → (r : Refused) → r ≡ record { why = FileLength; position = 0 } → verdict_result (Err r) ≡ verdict (flat_in s)
 unfolding flat_in length_row
-whole_many s whole some many = simp (flat_in, length_row, eq-eqb _ _ whole, le-leb _ _ some, lt-leb _ _ many)
+whole_many s whole some many r is = rw is (simp (flat_in, length_row, eq-eqb _ _ whole, le-leb _ _ some, lt-leb _ _ many))
 
 -- for a file of 1 to 17 blocks the row "each block" decides
-pub whole_rows : (s : List ℕ) (row : Verdict) → length s ≡ block_bytes * (length s / block_bytes) → 1 ≤ length s / block_bytes → length s / block_bytes ≤ most_blocks
+pub whole_rows : (s : List ℕ) (row : Answer (Unit {0}) Refused) → length s ≡ block_bytes * (length s / block_bytes) → 1 ≤ length s / block_bytes → length s / block_bytes ≤ most_blocks
     → verdict_result row ≡ verdict (block_row (length s / block_bytes) s) → verdict_result row ≡ verdict (flat_in s)
 unfolding flat_in
 whole_rows s row whole some few reported =

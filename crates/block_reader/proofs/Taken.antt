@@ -12,11 +12,10 @@ use Rattle.formats.specs.Inner.Blocks.{most_bytes}
 use Rattle.formats.proofs.Results.{value_inv, value_refused}
 use Rattle.formats.proofs.Written.{written_fits}
 use Rattle.formats.proofs.Files.{flat_short}
-use Rattle.refusal.specs.declared.Refusal.{Refusal}
 use Rattle.refusal.specs.Inner.Numbers.{number}
 use Rattle.refusal.specs.Inner.FilledBuffer.{filled_result, FilledBuffer}
-use Rattle.refusal.specs.declared.Filled.{Filled}
-use Rattle.refusal.specs.declared.Filled.TheVariants.{Written, Refused}
+use Rattle.refusal.specs.declared.Refused.{Refused}
+use Rattle.std.specs.Prelude.{Result as Answer, Ok, Err}
 
 -- the flat records of the file s, so many bytes, stand at the start of the buffer
 pub record Taken (s after : List ℕ) (bytes : ℕ) : Type 0 where
@@ -25,11 +24,11 @@ pub record Taken (s after : List ℕ) (bytes : ℕ) : Type 0 where
   pub there : take bytes after ≡ flat
   pub inside : bytes ≤ length after
 
-module _ (s space : List ℕ) (size : length space ≡ most_bytes) (after : List ℕ) (taken : Filled) (put : FilledBuffer (flat_in s) space after taken) where
-  pub not_taken : (why : Refusal) (position : ℕ) → taken ≡ Refused why position → flat_in s ≡ refusal (number why) position
-  not_taken why position is = value_refused length (flat_in s) (number why) position (sym put.answer ∙ ap filled_result is)
+module _ (s space : List ℕ) (size : length space ≡ most_bytes) (after : List ℕ) (taken : Answer ℕ Refused) (put : FilledBuffer (flat_in s) space after taken) where
+  pub not_taken : (r : Refused) → taken ≡ Err r → flat_in s ≡ refusal (number r.why) r.position
+  not_taken r is = value_refused length (flat_in s) (number r.why) r.position (sym put.answer ∙ ap filled_result is)
 
-  pub taken_out : (bytes : ℕ) → taken ≡ Written bytes → Taken s after bytes
+  pub taken_out : (bytes : ℕ) → taken ≡ Ok bytes → Taken s after bytes
   unfolding buffer_after
   taken_out bytes is =
       let v = value_inv length (flat_in s) bytes (sym put.answer ∙ ap filled_result is) in
@@ -43,5 +42,5 @@ module _ (s space : List ℕ) (size : length space ≡ most_bytes) (after : List
         inside = omega (arith, ap length wrote, length-append v.value (drop (0 + length v.value) space), v.second);
       }
 
-  pub taken_inside : (bytes : ℕ) → taken ≡ Written bytes → bytes ≤ length after
+  pub taken_inside : (bytes : ℕ) → taken ≡ Ok bytes → bytes ≤ length after
   taken_inside bytes is = (taken_out bytes is).inside

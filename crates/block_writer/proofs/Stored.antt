@@ -8,7 +8,7 @@ use native.Mathlib.Nat.{add-mul-div_left, add-mul-mod_self_left, zero-add, add-z
 use native.Mathlib.Numerals.{add-one}
 use native.Mathlib.Omega.{arith}
 use lib.ListN.{length, take, drop, replicate, length-append, length-take, length-replicate, replicate-append-replicate}
-use lib.Seq.{length-take-le, take_all, drop_at, drop-drop, take-append_seam}
+use lib.Seq.{length-take-le, drop_at, drop-drop, take-append_seam}
 use Rattle.formats.specs.Numbers.{bytes_of}
 use Rattle.formats.specs.Written.{written}
 use Rattle.formats.specs.Records.{record_bytes}
@@ -18,9 +18,10 @@ use Rattle.formats.proofs.Numbers.{length_bytes_of}
 use Rattle.formats.proofs.Written.{written_none, written_fits, written_append, wrote}
 use Rattle.formats.proofs.Blocks.{padded, length_padded, length_body, length_block}
 use Rattle.formats.proofs.Files.{length_blocks, length_file, within_room, within_short}
+use Rattle.std.specs.Prelude.{Ok, Err}
 use Rattle.refusal.specs.declared.Refusal.TheVariants.{SpaceTooShort}
+use Rattle.refusal.specs.declared.Refused.{Refused}
 use Rattle.refusal.specs.Inner.FilledBuffer.{FilledBuffer}
-use Rattle.refusal.specs.declared.Filled.TheVariants as filled
 use Rattle.refusal.proofs.FilledBuffer.{put_refused, put_done}
 
 -- a write right after another one joins it
@@ -51,24 +52,32 @@ length_blank : (n : ℕ) → length (blank n) ≡ n
 length_blank n = length-replicate {A = ℕ} n 0
 
 -- what is left of zeros is zeros
-drop_blank : (n m : ℕ) → n ≤ m → take (m - n) (drop n (blank m)) ≡ blank (m - n)
+drop_blank : (n m : ℕ) → n ≤ m → drop n (blank m) ≡ blank (m - n)
 drop_blank n m h =
-    let rest : drop n (blank m) ≡ blank (m - n) =
     ap (λ (k : ℕ). drop n (blank k)) (sym (add-sub_of_le h))
     ∙ ap (drop n) (sym (replicate-append-replicate {A = ℕ} n (m - n) 0))
-    ∙ drop_at (blank n) (blank (m - n)) n (length_blank n) in
-    ap (take (m - n)) rest ∙ take_all (m - n) (blank (m - n)) (omega (arith, length_blank (m - n)))
+    ∙ drop_at (blank n) (blank (m - n)) n (length_blank n)
 
-pub records_written : (s t u part : List ℕ) (start : ℕ)
-    → start + block_bytes ≤ length s
-    → length part ≤ records_bytes
-    → t ≡ written s start part
-    → u ≡ written t (start + length part) (take (records_bytes - length part) (drop (length part) (blank records_bytes)))
-    → u ≡ written s start (padded part)
-records_written s t u part start room short first second =
-    let Z : List ℕ = blank (records_bytes - length part) in
-    let zeros : u ≡ written t (start + length part) Z = second ∙ ap (written t (start + length part)) (drop_blank (length part) records_bytes short) in
-    write_later s t u start (start + length part) part Z first zeros refl (omega (arith, length_padded part short))
+-- a part written over zeros is followed by zeros
+records_written : (t part : List ℕ) → length part ≤ records_bytes → t ≡ written (blank block_bytes) 0 part → t ≡ written (blank block_bytes) 0 (padded part)
+records_written t part short first =
+    let S : List ℕ = blank block_bytes in
+    let size : length S ≡ block_bytes = length_blank block_bytes in
+    let rest : ℕ = records_bytes - length part in
+    let after : drop (0 + length part) S ≡ blank (block_bytes - length part) =
+    ap (λ (k : ℕ). drop k S) (zero-add (length part)) ∙ drop_blank (length part) block_bytes (omega arith) in
+    let sum : block_bytes - length part ≡ rest + (block_bytes - records_bytes) = omega arith in
+    let two : blank (block_bytes - length part) ≡ blank rest ++ blank (block_bytes - records_bytes) =
+    ap blank sum ∙ sym (replicate-append-replicate {A = ℕ} rest (block_bytes - records_bytes) 0) in
+    let long : length (padded part) ≡ records_bytes = length_padded part short in
+    let end : drop (0 + length (padded part)) S ≡ blank (block_bytes - records_bytes) =
+    ap (λ (k : ℕ). drop (0 + k) S) long ∙ drop_blank records_bytes block_bytes (omega arith) in
+    first
+    ∙ written_fits S 0 part (omega arith)
+    ∙ ap (λ (l : List ℕ). part ++ l) (after ∙ two)
+    ∙ sym (append_assoc part (blank rest) (blank (block_bytes - records_bytes)))
+    ∙ ap (λ (l : List ℕ). padded part ++ l) (sym end)
+    ∙ sym (written_fits S 0 (padded part) (omega arith))
 
 pub body_written : (s s1 s2 s3 s4 part : List ℕ) (start j blocks : ℕ)
     → start + block_bytes ≤ length s
@@ -108,7 +117,7 @@ pub check_written : (s t u part : List ℕ) (start j blocks sum : ℕ)
     → start + block_bytes ≤ length s
     → length part ≤ records_bytes
     → t ≡ written s start (block_body part j blocks)
-    → sum ≡ word_sum (take (start + check_offset - start) (drop start t)) % word_limit
+    → sum ≡ word_sum (take check_offset (drop start t)) % word_limit
     → u ≡ written t (start + check_offset) (bytes_of 2 (check_target - sum))
     → u ≡ written s start (block_of part j blocks)
 unfolding block_of check_word
@@ -117,12 +126,47 @@ check_written s t u part start j blocks sum room short first added second =
     let word : List ℕ = bytes_of 2 (check_word body) in
     let size : length body ≡ check_offset = length_body part j blocks short in
     let all : length (block_of part j blocks) ≡ block_bytes = length_block part j blocks short in
-    let long : start + check_offset - start ≡ length body = omega arith in
-    let there : take (start + check_offset - start) (drop start t) ≡ body =
+    let long : check_offset ≡ length body = omega arith in
+    let there : take check_offset (drop start t) ≡ body =
     ap₂ (λ (k : ℕ) (l : List ℕ). take k (drop start l)) long first ∙ written_there s start body (omega arith) in
     let right : check_target - sum ≡ check_word body = ap (λ (m : ℕ). check_target - m) (added ∙ ap (λ (l : List ℕ). word_sum l % word_limit) there) in
     let check : u ≡ written t (start + check_offset) word = second ∙ ap (λ (m : ℕ). written t (start + check_offset) (bytes_of 2 m)) right in
     write_later s t u start (start + check_offset) body word first check (omega arith) (omega arith)
+
+-- the words that are summed are there
+pub block_summed : (s1 s2 s3 s4 part v2 v3 v4 : List ℕ)
+    → s1 ≡ written (blank block_bytes) 0 part
+    → s2 ≡ written s1 number_offset v2
+    → s3 ≡ written s2 used_offset v3
+    → s4 ≡ written s3 blocks_offset v4
+    → check_offset ≡ length (take check_offset s4)
+block_summed s1 s2 s3 s4 part v2 v3 v4 w1 w2 w3 w4 =
+    let l1 : length s1 ≡ block_bytes = ap length w1 ∙ (wrote (blank block_bytes) 0 part).same_length ∙ length_blank block_bytes in
+    let l2 : length s2 ≡ block_bytes = ap length w2 ∙ (wrote s1 number_offset v2).same_length ∙ l1 in
+    let l3 : length s3 ≡ block_bytes = ap length w3 ∙ (wrote s2 used_offset v3).same_length ∙ l2 in
+    let l4 : length s4 ≡ block_bytes = ap length w4 ∙ (wrote s3 blocks_offset v4).same_length ∙ l3 in
+    sym (length-take-le check_offset s4 (omega (arith, l4)))
+
+-- all of a block is written over zeros
+pub block_made : (s1 s2 s3 s4 s5 part : List ℕ) (j blocks sum : ℕ)
+    → length part ≤ records_bytes
+    → s1 ≡ written (blank block_bytes) 0 part
+    → s2 ≡ written s1 number_offset (bytes_of 2 (j % word_limit))
+    → s3 ≡ written s2 used_offset (bytes_of 2 (length part / record_bytes))
+    → s4 ≡ written s3 blocks_offset (bytes_of 2 (blocks % word_limit))
+    → sum ≡ word_sum (take check_offset s4) % word_limit
+    → s5 ≡ written s4 check_offset (bytes_of 2 (check_target - sum))
+    → s5 ≡ block_of part j blocks
+block_made s1 s2 s3 s4 s5 part j blocks sum short w1 w2 w3 w4 added w5 =
+    let S : List ℕ = blank block_bytes in
+    let size : length S ≡ block_bytes = length_blank block_bytes in
+    let room : 0 + block_bytes ≤ length S = omega arith in
+    let body = body_written S s1 s2 s3 s4 part 0 j blocks room short (records_written s1 part short w1) w2 w3 w4 in
+    let all : length (block_of part j blocks) ≡ block_bytes = length_block part j blocks short in
+    check_written S s4 s5 part 0 j blocks sum room short body added w5
+    ∙ written_fits S 0 (block_of part j blocks) (omega arith)
+    ∙ ap (λ (l : List ℕ). block_of part j blocks ++ l) (ap (λ (k : ℕ). drop (0 + k) S) all ∙ drop_blank block_bytes block_bytes (omega arith))
+    ∙ append-nil (block_of part j blocks)
 
 -- ---- the blocks one after the other
 
@@ -156,27 +200,24 @@ pub stored_part : (s : List ℕ) (blocks j : ℕ) → blocks ≡ blocks_for (len
 unfolding blocks_for
 stored_part s blocks j count more = omega arith
 
-pub stored_room : (s before after : List ℕ) (blocks j : ℕ) → block_bytes * blocks ≤ length before → j < blocks → Stored s before after blocks j
-    → block_bytes * j + block_bytes ≤ length after
-stored_room s before after blocks j room more c = omega (arith, c.same_length)
-
 pub stored_short : (s part : List ℕ) (j : ℕ) → part ≡ take records_bytes (drop (records_bytes * j) s) → length part ≤ records_bytes
 stored_short s part j is = rw (is, length-take) (omega arith)
 
-pub stored_more : (s before after next part : List ℕ) (blocks j : ℕ)
+pub stored_more : (s before after next part made : List ℕ) (blocks j : ℕ)
     → block_bytes * blocks ≤ length before
     → j < blocks
     → Stored s before after blocks j
     → part ≡ take records_bytes (drop (records_bytes * j) s)
-    → next ≡ written after (block_bytes * j) (block_of part j blocks)
+    → made ≡ block_of part j blocks
+    → next ≡ written after (block_bytes * j) made
     → Stored s before next blocks (j + 1)
-stored_more s before after next part blocks j room more c is second =
+stored_more s before after next part made blocks j room more c is makes second =
     let block : List ℕ = block_of (take records_bytes (drop (records_bytes * j) s)) j blocks in
     let front : List ℕ = blocks_from blocks j 0 s in
     let both : blocks_from blocks (suc j) 0 s ≡ front ++ block =
     blocks_more blocks j 0 s ∙ ap (λ (i : ℕ). front ++ block_of (take records_bytes (drop (records_bytes * j) s)) i blocks) (zero-add j) in
     let size : length (front ++ block) ≡ block_bytes * suc j = ap length (sym both) ∙ length_blocks blocks (suc j) 0 s in
-    let later : next ≡ written after (block_bytes * j) block = second ∙ ap (λ (p : List ℕ). written after (block_bytes * j) (block_of p j blocks)) is in
+    let later : next ≡ written after (block_bytes * j) block = second ∙ ap (written after (block_bytes * j)) (makes ∙ ap (λ (p : List ℕ). block_of p j blocks) is) in
     record {
       few = omega arith;
       same_length = ap length later ∙ (wrote after (block_bytes * j) block).same_length ∙ c.same_length;
@@ -197,7 +238,7 @@ stored_all s before after blocks j count all c =
     ∙ ap (λ (n : ℕ). written before 0 (blocks_from blocks n 0 s)) done_all
     ∙ ap (λ (n : ℕ). written before 0 (blocks_from n n 0 s)) count
 
-pub ruleset stored = (stored_none, stored_part, stored_room, stored_short, stored_more, stored_length, stored_all)
+pub ruleset stored = (stored_none, stored_part, stored_short, stored_more, stored_length, stored_all)
 
 -- ---- the ways out of `to_blocks`
 
@@ -210,15 +251,16 @@ module _ (s before : List ℕ) where
   unfolding blocks_for
   size = length_file s
 
-  pub store_short : length before / block_bytes < count → FilledBuffer (in_room (length before) (file_of s)) before before (filled.Refused SpaceTooShort 0)
-  store_short short = put_refused _ before SpaceTooShort 0 (within_short (length before) (file_of s) (omega (arith, size)))
+  pub store_short : length before / block_bytes < count → (r : Refused) → r ≡ record { why = SpaceTooShort; position = 0 }
+      → FilledBuffer (in_room (length before) (file_of s)) before before (Err r)
+  store_short short r is = rw is (put_refused _ before _ (within_short (length before) (file_of s) (omega (arith, size))))
 
   pub store_room : count ≤ length before / block_bytes → (count ≡ blocks_for (length s)) × (block_bytes * count ≤ length before)
   unfolding blocks_for
   store_room room = (refl, omega arith)
 
   pub store_done : (after : List ℕ) → count ≤ length before / block_bytes → after ≡ written before 0 (file_of s)
-      → FilledBuffer (in_room (length before) (file_of s)) before after (filled.Written (block_bytes * count))
+      → FilledBuffer (in_room (length before) (file_of s)) before after (Ok (block_bytes * count))
   store_done after room wrote = put_done _ before after (file_of s) (block_bytes * count) (within_room (length before) (file_of s) (omega (arith, size))) size wrote
 
 pub ruleset stored_out = (store_short, store_room, store_done)

@@ -1,6 +1,8 @@
 -- Scopes: the words of names, and a law for each way out of the functions that say what is known on
 -- entering a part.
-use Rattle.std.proofs.Common.{◌≡◌, ℕ, zero, suc, ◌+◌, ◌%◌, ◌^◌, ◌<◌, ◌≤◌, min, true, false, ◌≢◌, List, ◌∷◌, get_or, set, sym, refl, ap, ◌∙◌, subst, ap₂, arith, length-set, eq-eqb, ne_eqb}
+use Rattle.std.proofs.Common.{◌≡◌, ℕ, zero, suc, ◌+◌, ◌%◌, ◌^◌, ◌<◌, ◌≤◌, min, true, false, ◌≢◌, List, ◌∷◌, get_or, set, sym, refl, ap, ◌∙◌, subst, ap₂, arith, length-set, eq-eqb, ne_eqb, take}
+use lib.ListN.{get_or-eq_default, length-take}
+use lib.Seq.{get_or-take}
 use mathlib.Core.Option.{none, some}
 use native.Mathlib.Decide.{dec_le}
 use Rattle.formats.specs.Inner.Buffers.{from_last}
@@ -36,16 +38,17 @@ some_there ws (suc n) a h = elim (dec_le n a) [
       level_older (get_or ws n 0) a (from_last ws n) (λ e. absurd (omega (arith, length_from ws n))) ∙ some_there ws n a (omega arith)
 ]
 
-module _ (c : Scope) (n a : ℕ) (counted : n ≡ min c.names most_names) where
-  pub word_none : n ≤ a → 0 ≡ word_of (words_in c) a
-  unfolding word_of words_in
-  word_none over = sym (rw (none_there c.words (min c.names most_names) a (omega arith), word_of))
-
-  pub word_found : a < n → get_or c.words a 0 ≡ word_of (words_in c) a
-  unfolding word_of words_in
-  word_found below = sym (rw (some_there c.words (min c.names most_names) a (omega arith), word_of))
-
-pub ruleset words_found = (word_none, word_found)
+-- the array's first words, read up to the last name, are the words of names; 0 past it
+pub word_read : (c : Scope) (n a w : ℕ) → n ≡ min c.names most_names → w ≡ get_or (take n c.words) a 0 → w ≡ word_of (words_in c) a
+unfolding word_of words_in
+word_read c n a w counted is = elim (dec_le n a) [
+  | yes over ↦
+      let past : get_or (take n c.words) a 0 ≡ 0 = get_or-eq_default (take n c.words) 0 (omega (arith, length-take n c.words)) in
+      is ∙ past ∙ sym (rw (none_there c.words (min c.names most_names) a (omega arith), word_of))
+  | no below ↦
+      let here : get_or (take n c.words) a 0 ≡ get_or c.words a 0 = get_or-take n c.words a 0 (omega arith) in
+      is ∙ here ∙ sym (rw (some_there c.words (min c.names most_names) a (omega arith), word_of))
+]
 
 -- ---- `under_number`
 

@@ -17,7 +17,7 @@ const NO_WORD: u16 = 0;
 // What is known where an expression is emitted: the words that the number names stand on, how many
 // names there are, how many words stand above the base, and whether a tree is expected. More names
 // than 16 count as 16: no program that passes pass one has more.
-#[derive(Clone, Copy)]
+#[derive(Clone, Copy, Debug, PartialEq, Eq)]
 pub struct Scope {
     pub words: [u16; MOST_NAMES],
     pub names: usize,
@@ -25,72 +25,60 @@ pub struct Scope {
     pub tree: bool,
 }
 
-// How many names there are.
-fn count(scope: Scope) -> usize
-    ensures { result ≡ min scope.names most_names }
-{
-    if scope.names < MOST_NAMES {
-        return scope.names;
+impl Scope {
+    // How many names there are.
+    fn count(self) -> usize
+        ensures { result ≡ min self.names most_names }
+    {
+        self.names.min(MOST_NAMES)
     }
-    MOST_NAMES
-}
 
-// The word of name a; 0 where it is not bound.
-pub fn word_of(scope: Scope, a: u8) -> u16
-    ensures { result ≡ word_of (words_in scope) a }
-{
-    let name = a as usize;
-    if count(scope) <= name {
-        return NO_WORD;
+    // The word of name a; 0 where it is not bound.
+    #[tactic(auto, using(crate::proofs::Scopes::word_read))]
+    pub fn word_of(self, a: u8) -> u16
+        ensures { result ≡ word_of (words_in self) a }
+    {
+        let name = a as usize;
+        self.words[..self.count()]
+            .get(name)
+            .copied()
+            .unwrap_or(NO_WORD)
     }
-    let words = scope.words;
-    words[name]
-}
 
-// The scope with one more number named, on the next word.
-fn under_number(scope: Scope) -> Scope
-    ensures { result ≡ under_scope scope }
-{
-    let names = count(scope);
-    if names == MOST_NAMES {
-        return scope;
+    // The scope with one more number named, on the next word.
+    #[tactic(auto, using(crate::proofs::Scopes::under))]
+    fn under_number(self) -> Scope
+        ensures { result ≡ under_scope self }
+    {
+        let names = self.count();
+        if names == MOST_NAMES {
+            return self;
+        }
+        let mut words = self.words;
+        words[names] = (self.standing % 65536) as u16;
+        Scope {
+            words,
+            names: names + 1,
+            standing: self.standing.wrapping_add(1),
+            ..self
+        }
     }
-    let mut words = scope.words;
-    words[names] = (scope.standing % 65536) as u16;
-    Scope {
-        words: words,
-        names: names + 1,
-        standing: std::num::wrapping_add_usize(scope.standing, 1),
-        tree: scope.tree,
-    }
-}
 
-// What is known on entering part i of a record, by what the part is. Trees that are named need no
-// word.
-pub fn inside(part: Part, i: usize, scope: Scope) -> Scope
-    ensures { result ≡ inside_scope (part_of part) i scope }
-{
-    match part {
-        Part::Number => {
-            let words = scope.words;
-            Scope {
-                words: words,
-                names: scope.names,
-                standing: std::num::wrapping_add_usize(scope.standing, i),
+    // What is known on entering part i of a record, by what the part is. Trees that are named need
+    // no word.
+    #[tactic(auto, using(crate::proofs::Scopes::insides))]
+    pub fn inside(self, part: Part, i: usize) -> Scope
+        ensures { result ≡ inside_scope (part_of part) i self }
+    {
+        match part {
+            Part::Number => Scope {
+                standing: self.standing.wrapping_add(i),
                 tree: false,
-            }
+                ..self
+            },
+            Part::Tree => Scope { tree: true, ..self },
+            Part::UnderNumber => self.under_number(),
+            Part::Whole | Part::UnderTrees => self,
         }
-        Part::Tree => {
-            let words = scope.words;
-            Scope {
-                words: words,
-                names: scope.names,
-                standing: scope.standing,
-                tree: true,
-            }
-        }
-        Part::Whole => scope,
-        Part::UnderNumber => under_number(scope),
-        Part::UnderTrees => scope,
     }
 }

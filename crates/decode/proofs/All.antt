@@ -72,20 +72,19 @@ pub record Left (s : List ℕ) (functions end : ℕ) (table₀ table : List ℕ)
 
 -- The same for every program that the records stand for, with the lengths of the table and of the
 -- stack.
-pub record Filling (s : List ℕ) (functions end : ℕ) (table₀ cases₀ table cases : List ℕ) (k j : ℕ) : Type 0 where
+pub record Filling (s : List ℕ) (functions end : ℕ) (table₀ table cases : List ℕ) (k j : ℕ) : Type 0 where
   pub some_program : Value (read_program s)
   pub inside : Inside k end
   pub table_long : length table ≡ length table₀
-  pub cases_long : length cases ≡ length cases₀
   pub room : table_words ≤ length table₀
-  pub stack : most_records ≤ length cases₀
+  pub stack : length cases ≡ most_records
   pub left : (program : Program) → read_program s ≡ done program → Left s functions end table₀ table k j program
 
 -- at the start all functions are still to be done
-pub fill_first : (s table cases : List ℕ) (functions nodes end : ℕ) → Bytes s → TableReady s table cases → functions ≡ (header_in s).functions → nodes ≡ (header_in s).nodes → end ≡ 1 + functions + nodes
-    → Filling s functions end table cases table cases (1 + functions) 0
+pub fill_first : (s table cases : List ℕ) (functions nodes end : ℕ) → Bytes s → TableReady s table → length cases ≡ most_records → functions ≡ (header_in s).functions → nodes ≡ (header_in s).nodes → end ≡ 1 + functions + nodes
+    → Filling s functions end table table cases (1 + functions) 0
 unfolding header_in record_at tabled
-fill_first s table cases functions nodes end bytes ready ef en el =
+fill_first s table cases functions nodes end bytes ready long ef en el =
     let v = passed_is (read_program s) ready.is_read in
     let own = program_held s v.value bytes v.is in
     let few = (flattens s v.value bytes v.is).lawful.few_functions in
@@ -93,9 +92,8 @@ fill_first s table cases functions nodes end bytes ready ef en el =
       some_program = v;
       inside = record { before_end = omega arith; few = omega (arith, own.functions, own.few_nodes, few) };
       table_long = refl;
-      cases_long = refl;
       room = ready.room;
-      stack = ready.stack;
+      stack = long;
       left = λ program e.
           let h = program_held s program bytes e in
           let location : suc (length program.functions) ≡ 1 + functions = omega (arith, h.functions) in
@@ -110,7 +108,7 @@ fill_first s table cases functions nodes end bytes ready ef en el =
           };
     }
 
-module _ (s : List ℕ) (functions end : ℕ) (table₀ cases₀ table cases : List ℕ) (k j : ℕ) (l : Filling s functions end table₀ cases₀ table cases k j) where
+module _ (s : List ℕ) (functions end : ℕ) (table₀ table cases : List ℕ) (k j : ℕ) (l : Filling s functions end table₀ table cases k j) where
   -- at the end none is
   pub fill_all : functions ≤ j → FillsAll s table₀ table
   unfolding rows_of_all
@@ -168,7 +166,6 @@ module _ (s : List ℕ) (functions end : ℕ) (table₀ cases₀ table cases : L
         rw (starts_at v.value v.is)
         (record {
           inside = l.inside;
-          role = omega arith;
           parent = omega arith;
           slot = omega arith;
           names = omega (arith, t.few, l.inside.few);
@@ -186,7 +183,7 @@ module _ (s : List ℕ) (functions end : ℕ) (table₀ cases₀ table cases : L
           here = record { signed = signatures program; known = (l.left program e).known; holds = t.holds; fits = omega (arith, t.ends) };
           agrees = (l.left program e).agrees;
           room = omega (arith, l.inside.few, l.room, l.table_long);
-          stacked = record { room = omega (arith, l.inside.few, l.stack, l.cases_long); low = λ n below. absurd (omega arith) };
+          stacked = record { room = omega (arith, l.inside.few, l.stack); low = λ n below. absurd (omega arith) };
         }
 
     -- its location is the one wanted
@@ -238,14 +235,13 @@ module _ (s : List ℕ) (functions end : ℕ) (table₀ cases₀ table cases : L
                 ∙ ap (λ n. written table' (row_words * next) (rows_of_all entry arity n t.others)) (sym g.after);
           }
 
-      pub fill_more : Filling s functions end table₀ cases₀ table' cases' next (j + 1)
+      pub fill_more : Filling s functions end table₀ table' cases' next (j + 1)
       fill_more = record {
         some_program = l.some_program;
         inside = record { before_end = fills.went.inside; few = l.inside.few };
         table_long = same_table ∙ l.table_long;
-        cases_long = let v = l.some_program in (filled v.value v.is).stack.long ∙ l.cases_long;
         room = l.room;
-        stack = l.stack;
+        stack = let v = l.some_program in (filled v.value v.is).stack.long ∙ l.stack;
         left = rest_left;
       }
 

@@ -1,16 +1,12 @@
 -- The location of a part where counts are small, and what holds of it.
 use Prim.Native.Nat.{ℕ, zero, suc, ◌+◌, ◌%◌, ◌≤◌, ◌<◌}
-use mathlib.Core.Bool.{Bool, true, false}
 use mathlib.Core.List.{List, [], ◌∷◌, ◌++◌}
 use mathlib.Core.Path.{◌≡◌, refl, sym, ap, ap₂, ◌∙◌}
 use native.Mathlib.Decide.{dec_le}
 use native.Mathlib.Nat.{le_refl}
-use native.Mathlib.Numerals.{add-one}
 use native.Mathlib.Omega.{arith}
-use lib.Dec.{eqb}
 use lib.ListN.{length, get_or, set, take, length-set}
 use lib.Seq.{get_or-set_same, get_or-set_other, get_or-take, take-set-le, take-suc-set, take-take}
-use Rattle.formats.specs.Arithmetic.{Op, plus}
 use Rattle.formats.specs.Records.{Kind, Part, a_number, a_tree, as_whole, under_number, under_trees, parts_of, part_count, nth, nth_part}
 use Rattle.formats.specs.Records.{Const as a_const, Var as a_var, Compute as an_operation, IfZero as an_if_zero, Let as a_let, Leaf as a_leaf, Node as a_node, Case as a_case, Call as a_call}
 use Rattle.formats.specs.Programs.{signature_of}
@@ -21,17 +17,17 @@ use Rattle.records.specs.Inner.Read.{meant, part_of}
 use Rattle.records.specs.declared.Part.{Part as RecordPart}
 use Rattle.records.specs.declared.Record.{Record}
 use Rattle.walks.specs.Inner.Limits.{most_count}
-use Rattle.stepwise.specs.Inner.Rows.{kept, second_of, last_argument, last_word, role_of, slot_of, names_in, keeps_in, cases_in, part_location}
+use Rattle.stepwise.specs.Inner.Rows.{last_word, role_of, slot_of, names_in, keeps_in, cases_in, part_location}
 use Rattle.part_locations.specs.declared.Location.{Location}
 use Rattle.part_locations.specs.Inner.Locations.{location_with, capped, names_inside, keeps_inside, depth_inside, part_in, noted}
-use Rattle.part_locations.proofs.Parts.{cap_low, placed}
+use Rattle.part_locations.proofs.Parts.{placed}
 use Rattle.decode.specs.Inner.Walk.{names_under, deeper, inside_location, Grows, Stacked, Small, SmallParts, Counted, Same, Starts}
 
 -- ---- `inside`, where counts are small
 
 -- one more is below the cap
 one_more : (n : ℕ) → n < most_count → capped (n + 1) ≡ suc n
-one_more n low = cap_low (n + 1) (omega arith) ∙ add-one n
+one_more n low = omega arith
 
 names_plain : (part : Part) (n : ℕ) → n < most_count → names_inside part n ≡ names_under part n
 unfolding names_inside names_under
@@ -61,7 +57,7 @@ module _ (part : Part) (r count : ℕ) where
   keeps_plain a_leaf i p low = refl
   keeps_plain a_node i p low = refl
   keeps_plain (a_case a) i p low = refl
-  keeps_plain (a_call a b) i p low = cap_low (p.keeps + i) (omega arith)
+  keeps_plain (a_call a b) i p low = omega arith
 
   -- no count is cut
   pub inside_plain : (kind : Kind) (i : ℕ) (p : Location) → Grows i p → part_in part kind r i count p ≡ inside_location part kind r i count p
@@ -83,7 +79,6 @@ started s j m p em e = record {
 
 -- counts grow by one at most, or by the parts before it
 record Near (r i : ℕ) (p q : Location) : Type 0 where
-  role : q.role ≤ last_argument
   parent : q.parent ≡ r
   slot : q.slot ≤ p.names + last_word
   names : q.names ≤ p.names + 1
@@ -109,37 +104,27 @@ depth_near under_number n = omega arith
 depth_near under_trees n = omega arith
 
 -- a location that is near, by its counts
-near_to : (part : Part) (r i : ℕ) (p : Location) (role slot keeps : ℕ) → role ≤ last_argument → slot ≤ p.names + last_word → keeps ≤ p.keeps + i
+near_to : (part : Part) (r i : ℕ) (p : Location) (role slot keeps : ℕ) → slot ≤ p.names + last_word → keeps ≤ p.keeps + i
     → Near r i p (placed role r slot (names_under part p.names) keeps (deeper part p.depth))
-near_to part r i p role slot keeps hr hs hk =
-    record { role = hr; parent = refl; slot = hs; names = names_near part p.names; keeps = hk; depth = depth_near part p.depth }
-
--- an argument's role
-last_role : (b : Bool) → elim b [ true ↦ last_argument | false ↦ kept ] ≤ last_argument
-last_role true = omega arith
-last_role false = omega arith
-
--- the role of an operation's second part
-second_role : (op : Op) → second_of op ≤ last_argument
-unfolding second_of
-second_role plus = omega arith
+near_to part r i p role slot keeps hs hk =
+    record { parent = refl; slot = hs; names = names_near part p.names; keeps = hk; depth = depth_near part p.depth }
 
 -- each part's location is near
 near : (part : Part) (kind : Kind) (r i count : ℕ) (p : Location) → Near r i p (inside_location part kind r i count p)
 unfolding inside_location role_of slot_of keeps_in
-near part (a_const c) r i count p = near_to part r i p _ _ _ (omega arith) (omega arith) (omega arith)
-near part (a_var a) r i count p = near_to part r i p _ _ _ (omega arith) (omega arith) (omega arith)
-near part (an_operation op) r zero count p = near_to part r zero p _ _ _ (omega arith) (omega arith) (omega arith)
-near part (an_operation op) r (suc i) count p = near_to part r (suc i) p _ _ _ (second_role op) (omega arith) (omega arith)
-near part an_if_zero r zero count p = near_to part r zero p _ _ _ (omega arith) (omega arith) (omega arith)
-near part an_if_zero r (suc i) count p = near_to part r (suc i) p _ _ _ (omega arith) (omega arith) (omega arith)
-near part a_let r zero count p = near_to part r zero p _ _ _ (omega arith) (omega arith) (omega arith)
-near part a_let r (suc i) count p = near_to part r (suc i) p _ _ _ (omega arith) (omega arith) (omega arith)
-near part a_leaf r i count p = near_to part r i p _ _ _ (omega arith) (omega arith) (omega arith)
-near part a_node r zero count p = near_to part r zero p _ _ _ (omega arith) (omega arith) (omega arith)
-near part a_node r (suc i) count p = near_to part r (suc i) p _ _ _ (omega arith) (omega arith) (omega arith)
-near part (a_case a) r i count p = near_to part r i p _ _ _ (omega arith) (omega arith) (omega arith)
-near part (a_call a b) r i count p = near_to part r i p _ _ _ (last_role (eqb (suc i) count)) (omega arith) (omega arith)
+near part (a_const c) r i count p = near_to part r i p _ _ _ (omega arith) (omega arith)
+near part (a_var a) r i count p = near_to part r i p _ _ _ (omega arith) (omega arith)
+near part (an_operation op) r zero count p = near_to part r zero p _ _ _ (omega arith) (omega arith)
+near part (an_operation op) r (suc i) count p = near_to part r (suc i) p _ _ _ (omega arith) (omega arith)
+near part an_if_zero r zero count p = near_to part r zero p _ _ _ (omega arith) (omega arith)
+near part an_if_zero r (suc i) count p = near_to part r (suc i) p _ _ _ (omega arith) (omega arith)
+near part a_let r zero count p = near_to part r zero p _ _ _ (omega arith) (omega arith)
+near part a_let r (suc i) count p = near_to part r (suc i) p _ _ _ (omega arith) (omega arith)
+near part a_leaf r i count p = near_to part r i p _ _ _ (omega arith) (omega arith)
+near part a_node r zero count p = near_to part r zero p _ _ _ (omega arith) (omega arith)
+near part a_node r (suc i) count p = near_to part r (suc i) p _ _ _ (omega arith) (omega arith)
+near part (a_case a) r i count p = near_to part r i p _ _ _ (omega arith) (omega arith)
+near part (a_call a b) r i count p = near_to part r i p _ _ _ (omega arith) (omega arith)
 
 -- the counts can grow on entering a part
 pub grows : (r i k end : ℕ) (p : Location) → SmallParts r i k end p → Grows i p
@@ -152,7 +137,6 @@ module _ (part : RecordPart) (node : Record) (r i count k end : ℕ) (p q : Loca
       let n : Near r i p q = rw (is, inside_plain (part_of part) r count (meant node) i p (grows r i k end p small)) (near (part_of part) (meant node) r i count p) in
       record {
         inside = small.inside;
-        role = n.role;
         parent = omega (arith, n.parent, small.parent);
         slot = omega (arith, n.slot, small.names);
         names = omega (arith, n.names, small.names);

@@ -1,5 +1,5 @@
--- The functions that fill the rows of an expression and of its parts: a law for each way out of
--- them, and what their calls require.
+-- The function that fills the rows of an expression: a law for each way out of it, and for the loop
+-- over the parts of a record.
 use Prim.Native.Nat.{ℕ, suc, ◌+◌, ◌-◌, ◌*◌, ◌%◌, ◌≤◌, ◌<◌}
 use mathlib.Core.Bool.{true}
 use mathlib.Core.List.{List, [], ◌∷◌, ◌++◌}
@@ -7,7 +7,6 @@ use mathlib.Core.Path.{◌≡◌, refl, sym, ap, ap₂, ◌∙◌}
 use native.Mathlib.Nat.{le_refl}
 use native.Mathlib.Numerals.{add-one}
 use native.Mathlib.Omega.{arith}
-use borrow.Author.Rules.{rules}
 use borrow.Author.Tests.{ltb-true}
 use lib.ListN.{length, length-append}
 use Rattle.formats.specs.Results.{on_value}
@@ -20,14 +19,14 @@ use Rattle.formats.proofs.Results.{done_injective, done_not}
 use Rattle.formats.proofs.Records.{node_below}
 use Rattle.formats.proofs.Programs.{some_record}
 use Rattle.formats.proofs.Written.{written_append, written_front, written_none, wrote}
-use Rattle.refusal.specs.declared.Refusal.{Refusal}
+use Rattle.std.specs.Prelude.{Result as Answer, Ok, Err}
+use Rattle.refusal.specs.declared.Refused.{Refused}
 use Rattle.records.specs.Inner.Read.{Shape, meant, part_of, listed, described, shape_of, shaped}
 use Rattle.records.specs.declared.Record.{Record}
 use Rattle.records.specs.declared.Part.{Part}
 use Rattle.records.specs.declared.Parts.{Parts}
 use Rattle.records.specs.declared.Template.{Template}
-use Rattle.records.specs.declared.RecordRead.{RecordRead}
-use Rattle.records.specs.declared.RecordRead.TheVariants.{Read, Refused}
+use Rattle.records.specs.declared.Described.{Described}
 use Rattle.walks.specs.Inner.Standing.{head_of}
 use Rattle.walks.specs.Inner.Walks.{Went}
 use Rattle.walks.proofs.Walks.{node_held, parts_counted, FirstOf, row_first, row_none}
@@ -40,7 +39,7 @@ use Rattle.record_rows.specs.declared.Own.{Own}
 use Rattle.record_rows.specs.Inner.Halves.{own_in}
 use Rattle.decode.specs.Inner.Walk.{inside_location, Agrees, FirstHalf, row_in, Small, Entering, Same, Filled, FillsRows, rows_of_parts, SmallParts, Counted, EnteringParts, FillsParts}
 use Rattle.decode.proofs.Leaves.{reported}
-use Rattle.decode.proofs.Locations.{inside_plain, grows, location_inside, few_part, stacked_less, stacked_same, same_more, stacked_inside, same_inside}
+use Rattle.decode.proofs.Locations.{inside_plain, grows, location_inside, stacked_less, stacked_same, same_more, stacked_inside, same_inside}
 use Rattle.decode.proofs.Rows.{rows_split, length_parts}
 
 -- ---- `decode_at`
@@ -49,11 +48,10 @@ use Rattle.decode.proofs.Rows.{rows_split, length_parts}
 row_is : (entry arity : ℕ → ℕ) (cases : List ℕ) (k end : ℕ) (p : Location) (kind : Kind) (own : Own) (next : ℕ) → FirstHalf entry arity (location_with p cases) kind own → Small k end p → next ≤ end
     → row_in own p next ≡ row_of entry arity (location_with p cases) next kind
 row_is entry arity cases k end p kind own next half small inside =
-    let role : p.role % 65536 ≡ p.role = omega (arith, small.role) in
     let parent : p.parent % 65536 ≡ p.parent = omega (arith, small.parent) in
     let slot : p.slot % 65536 ≡ p.slot = omega (arith, small.slot) in
     let after : next % 65536 ≡ next = omega (arith, small.inside.few) in
-    let rest = ap₂ ◌∷◌ role (ap₂ ◌∷◌ parent (ap₂ ◌∷◌ slot (ap (λ n. n ∷ []) after))) in
+    let rest = ap (λ l. p.role ∷ l) (ap₂ ◌∷◌ parent (ap₂ ◌∷◌ slot (ap (λ n. n ∷ []) after))) in
     ap₂ ◌∷◌ half.action (ap₂ ◌∷◌ half.operand (ap₂ ◌∷◌ half.tree (ap₂ ◌∷◌ half.more rest)))
 
 -- counting parts by `arity` or by the function records gives the same number
@@ -79,18 +77,18 @@ module _ (s table cases : List ℕ) (k end : ℕ) (p : Location) where
   pub fill_past : Small k end p → end ≤ k → FillsRows s table table cases cases k end p k
   fill_past small over = record { went = stayed small; is = λ entry arity e h. absurd (omega (arith, some_record e, h.here.fits)) }
 
-  module _ (read : RecordRead) (says : described read ≡ on_value shape_of (node_in s k)) where
+  module _ (read : Answer Described Refused) (says : described read ≡ on_value shape_of (node_in s k)) where
     -- no expression begins with a record that is refused
-    pub fill_unread : (why : Refusal) (location : ℕ) → Small k end p → read ≡ Refused why location → FillsRows s table table cases cases k end p k
-    fill_unread why location small is = record {
+    pub fill_unread : (r : Refused) → Small k end p → read ≡ Err r → FillsRows s table table cases cases k end p k
+    fill_unread r small is = record {
       went = stayed small;
       is = λ entry arity e h. done_not (says ∙ ap (on_value shape_of) (node_held s h.here.signed k e h.here.holds)) (ap described is);
     }
 
-    module _ (node : Record) (parts : Parts) (template : Template) (count : ℕ) (is : read ≡ Read node parts template) (many : count ≡ part_count (arity_in s) (listed parts)) where
+    module _ (node : Record) (parts : Parts) (template : Template) (count : ℕ) (is : read ≡ Ok (record { node = node; parts = parts; template = template })) (many : count ≡ part_count (arity_in s) (listed parts)) where
       module _ {entry arity : ℕ → ℕ} {e : Expr} (h : Entering s table cases entry arity k end p e) where
         -- what is read is the expression's own record
-        own_shape : shaped node parts template ≡ shape_of (head_of e)
+        own_shape : shaped (record { node = node; parts = parts; template = template }) ≡ shape_of (head_of e)
         own_shape = done_injective (ap described (sym is) ∙ says ∙ ap (on_value shape_of) (node_held s h.here.signed k e h.here.holds))
 
         own_kind : meant node ≡ head_of e
@@ -129,7 +127,7 @@ module _ (s table cases : List ℕ) (k end : ℕ) (p : Location) where
         }
 
       -- its own row, before the parts' rows
-      pub fill_read : (own : Own) (there after cases' : List ℕ) (next : ℕ) → Small k end p → k < end → own ≡ own_in s cases p.names p.depth (meant node)
+      fill_read : (own : Own) (there after cases' : List ℕ) (next : ℕ) → Small k end p → k < end → own ≡ own_in s cases p.names p.depth (meant node)
           → FillsParts s table there cases cases' node parts k 0 count (k + 1) end p next
           → after ≡ written there (row_words * k) (row_in own p next)
           → FillsRows s table after cases cases' k end p next
@@ -158,13 +156,11 @@ module _ (s table cases : List ℕ) (k end : ℕ) (p : Location) where
             };
       }
 
-pub ruleset expressions = (fill_past, fill_unread, fill_read)
-
--- ---- `decode_parts`
+-- ---- the parts of a record
 
 module _ (s table cases : List ℕ) (node : Record) (parts : Parts) (r i count k end : ℕ) (p : Location) (small : SmallParts r i k end p) where
   -- the parts are finished
-  pub parts_done : count ≤ i → FillsParts s table table cases cases node parts r i count k end p k
+  parts_done : count ≤ i → FillsParts s table table cases cases node parts r i count k end p k
   unfolding rows_of_parts
   parts_done over = record {
     went = record { on = le_refl k; inside = small.inside.before_end };
@@ -245,15 +241,12 @@ module _ (s table cases : List ℕ) (node : Record) (parts : Parts) (r i count k
             stacked = stacked_same cases cases₁ p.depth kept _ (stacked_less cases p.depth _ _ h.stacked fewer);
           }
 
-    -- a part that is not entered: no expression stands there
-    pub parts_stuck : next ≤ k → FillsParts s table between cases cases₁ node parts r i count k end p next
-    parts_stuck stuck = record {
-      went = f.went;
-      is = λ entry arity ps m h. absurd (omega (arith, some_record (first h).expr, (filled h).after));
-    }
+    -- where no record is taken, no part is entered
+    parts_stuck : next ≤ k → {entry arity : ℕ → ℕ} {ps : List Placed} {m : ℕ} → EnteringParts s table cases entry arity node parts i count k end p ps m → ⊥
+    parts_stuck stuck h = absurd (omega (arith, some_record (first h).expr, (filled h).after))
 
     -- the part's rows, and after them those of the others
-    pub parts_more : (table' cases' : List ℕ) (n : ℕ) → FillsParts s between table' cases₁ cases' node parts r (i + 1) count next end p n
+    parts_more : (table' cases' : List ℕ) (n : ℕ) → FillsParts s between table' cases₁ cases' node parts r (i + 1) count next end p n
         → FillsParts s table table' cases cases' node parts r i count k end p n
     unfolding rows_of_parts
     parts_more table' cases' n l = record {
@@ -281,12 +274,10 @@ module _ (s table cases : List ℕ) (node : Record) (parts : Parts) (r i count k
           };
     }
 
-pub ruleset parts = (parts_done, parts_stuck, parts_more)
-
--- ---- what the calls require: counts stay small, and fewer records are left
+-- ---- the loop over the parts
 
 -- the parts of a record
-pub few_parts : (k end : ℕ) (p : Location) → Small k end p → k < end → SmallParts k 0 (k + 1) end p
+few_parts : (k end : ℕ) (p : Location) → Small k end p → k < end → SmallParts k 0 (k + 1) end p
 few_parts k end p small more = record {
   inside = record { before_end = omega arith; few = small.inside.few };
   parent = omega (arith, small.inside.few);
@@ -295,12 +286,8 @@ few_parts k end p small more = record {
   depth = omega (arith, small.depth);
 }
 
--- the measure, from a part to those after it
-pub fall_on : (t k end next : ℕ) → 2 * (end - k) + 1 ≡ t → Went k end next → k < next → 2 * (end - next) + 1 < t
-fall_on t k end next is went on = omega (arith, went.inside)
-
--- the parts after it
-pub few_rest : (r i k end : ℕ) (p : Location) (next : ℕ) → SmallParts r i k end p → Went k end next → k < next → SmallParts r (i + 1) next end p
+-- the parts after one
+few_rest : (r i k end : ℕ) (p : Location) (next : ℕ) → SmallParts r i k end p → Went k end next → k < next → SmallParts r (i + 1) next end p
 few_rest r i k end p next small went on = record {
   inside = record { before_end = went.inside; few = small.inside.few };
   parent = small.parent;
@@ -309,4 +296,66 @@ few_rest r i k end p next small went on = record {
   depth = omega (arith, small.depth, went.inside);
 }
 
-pub ruleset asked = (few_parts, few_part, fall_on, few_rest, rules)
+-- Parts from part i on, the next at record k and the last before record m.
+pub record Reached (s table cases : List ℕ) (entry arity : ℕ → ℕ) (node : Record) (parts : Parts) (i count k end : ℕ) (p : Location) (m : ℕ) : Type 0 where
+  pub others : List Placed
+  pub entered : EnteringParts s table cases entry arity node parts i count k end p others m
+
+-- Before part i of the record r, which stands at record k: where all parts are entered, so are
+-- those from here on; and what fills these has filled all.
+pub record Going (s table₀ cases₀ : List ℕ) (node : Record) (parts : Parts) (r count end : ℕ) (p : Location) (i k : ℕ) (table cases : List ℕ) : Type 0 where
+  pub small : SmallParts r i k end p
+  pub later : r < k
+  pub reach : (entry arity : ℕ → ℕ) (ps : List Placed) (m : ℕ) → EnteringParts s table₀ cases₀ entry arity node parts 0 count (r + 1) end p ps m → Reached s table cases entry arity node parts i count k end p m
+  pub rest : (table' cases' : List ℕ) (n : ℕ) → FillsParts s table table' cases cases' node parts r i count k end p n → FillsParts s table₀ table' cases₀ cases' node parts r 0 count (r + 1) end p n
+
+module _ (s table cases : List ℕ) (node : Record) (parts : Parts) (r count end : ℕ) (p : Location) where
+  pub going_first : Small r end p → r < end → Going s table cases node parts r count end p 0 (r + 1) table cases
+  going_first small more = record {
+    small = few_parts r end p small more;
+    later = omega arith;
+    reach = λ entry arity ps m h. record { others = ps; entered = h };
+    rest = λ table' cases' n l. l;
+  }
+
+module _ (s table₀ cases₀ : List ℕ) (node : Record) (parts : Parts) (r count end : ℕ) (p : Location) (i k : ℕ) (table cases : List ℕ) (g : Going s table₀ cases₀ node parts r count end p i k table cases) where
+  -- fewer records are left
+  pub falls : (t : ℕ) → end - r ≡ t → end - k < t
+  falls t is = omega (arith, g.later, g.small.inside.before_end)
+
+  module _ (read : Answer Described Refused) (says : described read ≡ on_value shape_of (node_in s r)) (template : Template) (is : read ≡ Ok (record { node = node; parts = parts; template = template }))
+      (many : count ≡ part_count (arity_in s) (listed parts)) (small : Small r end p) (more : r < end) where
+    -- all parts are filled
+    pub fill_all : (own : Own) (after : List ℕ) → own ≡ own_in s cases₀ p.names p.depth (meant node) → count ≤ i → after ≡ written table (row_words * r) (row_in own p k) → FillsRows s table₀ after cases₀ cases r end p k
+    fill_all own after owns over wrote_it =
+        fill_read s table₀ cases₀ r end p read says node parts template count is many own table after cases k small more owns
+        (g.rest table cases k (parts_done s table cases node parts r i count k end p g.small over)) wrote_it
+
+    module _ (part : Part) (here : part_of part ≡ nth_part (listed parts) i) (inner : Location) (noted_cases between cases₁ : List ℕ) (next : ℕ)
+        (is_part : inner ≡ part_in (part_of part) (meant node) r i count p) (is_noted : noted_cases ≡ noted (part_of part) r p.depth cases) (f : FillsRows s table between noted_cases cases₁ k end inner next) (left : i < count) where
+      -- a part that has no record: no expression stands at r
+      pub fill_stuck : next ≤ k → FillsRows s table₀ between cases₀ cases₁ r end p next
+      fill_stuck stuck = record {
+        went = record { on = omega (arith, g.later, f.went.on); inside = f.went.inside };
+        is = λ entry arity e h.
+            let x = g.reach entry arity (parts_at r e) (r + size e) (parts_entered s table₀ cases₀ r end p read says node parts template count is many h more) in
+            absurd (parts_stuck s table cases node parts r i count k end p g.small part here inner noted_cases between cases₁ next is_part is_noted f left stuck x.entered);
+      }
+
+  module _ (part : Part) (here : part_of part ≡ nth_part (listed parts) i) (inner : Location) (noted_cases between cases₁ : List ℕ) (next : ℕ)
+      (is_part : inner ≡ part_in (part_of part) (meant node) r i count p) (is_noted : noted_cases ≡ noted (part_of part) r p.depth cases) (f : FillsRows s table between noted_cases cases₁ k end inner next) (left : i < count) where
+    -- the other parts are still to be filled
+    pub going_more : k < next → Going s table₀ cases₀ node parts r count end p (i + 1) next between cases₁
+    going_more on = record {
+      small = few_rest r i k end p next g.small f.went on;
+      later = omega (arith, g.later);
+      reach = λ entry arity ps m h.
+          let x = g.reach entry arity ps m h in
+          record {
+            others = _;
+            entered = rest_entered s table cases node parts r i count k end p g.small part here inner noted_cases between cases₁ next is_part is_noted f left x.entered;
+          };
+      rest = λ table' cases' n l.
+          g.rest table' cases' n
+          (parts_more s table cases node parts r i count k end p g.small part here inner noted_cases between cases₁ next is_part is_noted f left table' cases' n l);
+    }

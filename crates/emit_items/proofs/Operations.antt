@@ -21,65 +21,72 @@ use Rattle.translation.specs.Templates.{word_of, end_of}
 use Rattle.code_scope.specs.declared.Scope.{Scope}
 use Rattle.code_scope.specs.Inner.Around.{words_in, sort_of}
 use Rattle.template.specs.Inner.Items.{entries_in}
-use Rattle.emit_items.specs.declared.Instruction.{Instruction}
-use Rattle.emit_items.specs.Inner.Operations.{operation_for, fields_in, instruction_for, operations_for, put, put_all, opcode_of_end}
+use Rattle.instruction.specs.declared.Instruction.{Instruction}
+use Rattle.instruction.specs.declared.Opcode.{Opcode}
+use Rattle.instruction.specs.declared.Opcode.TheVariants as o
+use Rattle.instruction.specs.Inner.Opcodes.{number_of, fields_in}
+use Rattle.emit_items.specs.Inner.Operations.{operation_for, instruction_for, operations_for, put, put_all, end_opcode}
 
 -- ---- `instruction_of`
 
-module _ (s entries : List ℕ) (c : Scope) (last beyond : ℕ) (item : Item) (r : Instruction) where
-  -- the fields are the item's
-  abbrev Is : Type 0
-  Is = fields_in r ≡ instruction_for s entries c last beyond (item_of item)
+-- an opcode's instruction with no operand
+abbrev alone : Opcode → Instruction
+alone opcode = record { opcode = opcode; byte1 = 0; operand = 0; number = 0 }
 
-  pub is_push : (i : ℕ) → item ≡ Push i → r ≡ record { opcode = 0; byte1 = 0; operand = 0; number = i } → Is
+module _ (s entries : List ℕ) (c : Scope) (last beyond : ℕ) (item : Item) (x : Instruction) where
+  -- these are the fields of the item's instruction
+  abbrev Is : Record → Type 0
+  Is r = r ≡ instruction_for s entries c last beyond (item_of item)
+
+  pub is_push : (i : ℕ) → item ≡ Push i → x ≡ alone o.Push → Is (fields (number_of x.opcode) x.byte1 x.operand i)
   unfolding operation_for instruction_of
-  is_push i case e = ap fields_in e ∙ (rw (case, operation_for, instruction_of))
+  is_push i case e = rw (e, case, operation_for, instruction_of)
 
-  pub is_get : (k w : ℕ) → item ≡ Get k → w ≡ word_of (words_in c) k → r ≡ record { opcode = 1; byte1 = 0; operand = w; number = 0 } → Is
+  pub is_get : (k w : ℕ) → item ≡ Get k → w ≡ word_of (words_in c) k → x ≡ alone o.Get → Is (fields (number_of x.opcode) x.byte1 w x.number)
   unfolding operation_for instruction_of
-  is_get k w case word e = ap fields_in e ∙ (rw (case, word, operation_for, instruction_of))
+  is_get k w case word e = rw (e, case, word, operation_for, instruction_of)
 
-  pub is_add : item ≡ Add → r ≡ record { opcode = 2; byte1 = 0; operand = 0; number = 0 } → Is
+  pub is_add : item ≡ Add → x ≡ alone o.Add → Is (fields_in x)
   unfolding operation_for instruction_of
-  is_add case e = ap fields_in e ∙ (rw (case, operation_for, instruction_of))
+  is_add case e = rw (e, case, operation_for, instruction_of)
 
-  pub is_ifnot : item ≡ Ifnot → r ≡ record { opcode = 3; byte1 = 0; operand = last; number = 0 } → Is
+  pub is_ifnot : item ≡ Ifnot → x ≡ alone o.Ifnot → Is (fields (number_of x.opcode) x.byte1 last x.number)
   unfolding operation_for instruction_of
-  is_ifnot case e = ap fields_in e ∙ (rw (case, operation_for, instruction_of))
+  is_ifnot case e = rw (e, case, operation_for, instruction_of)
 
-  pub is_jump : item ≡ Jump → r ≡ record { opcode = 4; byte1 = 0; operand = beyond; number = 0 } → Is
+  pub is_jump : item ≡ Jump → x ≡ alone o.Jump → Is (fields (number_of x.opcode) x.byte1 beyond x.number)
   unfolding operation_for instruction_of
-  is_jump case e = ap fields_in e ∙ (rw (case, operation_for, instruction_of))
+  is_jump case e = rw (e, case, operation_for, instruction_of)
 
-  pub is_leaf_tag : item ≡ LeafTag → r ≡ record { opcode = 7; byte1 = 0; operand = 0; number = 0 } → Is
+  pub is_leaf_tag : item ≡ LeafTag → x ≡ alone o.LeafTag → Is (fields_in x)
   unfolding operation_for instruction_of
-  is_leaf_tag case e = ap fields_in e ∙ (rw (case, operation_for, instruction_of))
+  is_leaf_tag case e = rw (e, case, operation_for, instruction_of)
 
-  pub is_node_tag : item ≡ NodeTag → r ≡ record { opcode = 8; byte1 = 0; operand = 0; number = 0 } → Is
+  pub is_node_tag : item ≡ NodeTag → x ≡ alone o.NodeTag → Is (fields_in x)
   unfolding operation_for instruction_of
-  is_node_tag case e = ap fields_in e ∙ (rw (case, operation_for, instruction_of))
+  is_node_tag case e = rw (e, case, operation_for, instruction_of)
 
-  pub is_write_number : item ≡ WriteNumber → r ≡ record { opcode = 9; byte1 = 0; operand = 0; number = 0 } → Is
+  pub is_write_number : item ≡ WriteNumber → x ≡ alone o.WriteNumber → Is (fields_in x)
   unfolding operation_for instruction_of
-  is_write_number case e = ap fields_in e ∙ (rw (case, operation_for, instruction_of))
+  is_write_number case e = rw (e, case, operation_for, instruction_of)
 
-  pub is_read_tag : item ≡ ReadTag → r ≡ record { opcode = 10; byte1 = 0; operand = last; number = 0 } → Is
+  pub is_read_tag : item ≡ ReadTag → x ≡ alone o.ReadTag → Is (fields (number_of x.opcode) x.byte1 last x.number)
   unfolding operation_for instruction_of
-  is_read_tag case e = ap fields_in e ∙ (rw (case, operation_for, instruction_of))
+  is_read_tag case e = rw (e, case, operation_for, instruction_of)
 
-  pub is_read_number : item ≡ ReadNumber → r ≡ record { opcode = 11; byte1 = 0; operand = 0; number = 0 } → Is
+  pub is_read_number : item ≡ ReadNumber → x ≡ alone o.ReadNumber → Is (fields_in x)
   unfolding operation_for instruction_of
-  is_read_number case e = ap fields_in e ∙ (rw (case, operation_for, instruction_of))
+  is_read_number case e = rw (e, case, operation_for, instruction_of)
 
-  pub is_call : (b n entry : ℕ) → item ≡ Call b → n ≡ arity_in s b → entry ≡ entries_in entries b → r ≡ record { opcode = 12; byte1 = n; operand = entry; number = 0 } → Is
+  pub is_call : (b n entry : ℕ) → item ≡ Call b → n ≡ arity_in s b → entry ≡ entries_in entries b → x ≡ alone o.Call → Is (fields (number_of x.opcode) n entry x.number)
   unfolding operation_for instruction_of
-  is_call b n entry case many is e = ap fields_in e ∙ (rw (case, many, is, operation_for, instruction_of))
+  is_call b n entry case many is e = rw (e, case, many, is, operation_for, instruction_of)
 
-  pub is_end : (opcode : ℕ) → item ≡ End → opcode ≡ opcode_of_end c.tree → r ≡ record { opcode = opcode; byte1 = 0; operand = 0; number = 0 } → Is
+  pub is_end : (opcode : Opcode) → item ≡ End → opcode ≡ end_opcode c.tree → x ≡ alone opcode → Is (fields_in x)
   unfolding operation_for instruction_of end_of
-  is_end opcode case is e = ap fields_in e ∙ (rw (case, operation_for, is) (ended c.tree))
+  is_end opcode case is e = rw (e, case, operation_for, is) (ended c.tree)
     where
-      ended : (tree : Bool) → fields (opcode_of_end tree) 0 0 0 ≡ instruction_of (end_of (sort_of tree))
+      ended : (tree : Bool) → fields (number_of (end_opcode tree)) 0 0 0 ≡ instruction_of (end_of (sort_of tree))
       ended true = refl
       ended false = refl
 

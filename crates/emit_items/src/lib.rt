@@ -3,149 +3,100 @@
 
 ghost use Rattle.std.specs.Prelude.{[], ◌∷◌, ◌≡◌};
 ghost use Rattle.records.specs.Inner.Read.{item_of, row};
-ghost use Rattle.emit_items.specs.Inner.Operations.{fields_in, instruction_for, operations_for, put_all, opcode_of_end};
+ghost use Rattle.instruction.specs.Inner.Opcodes.{fields_in};
+ghost use Rattle.emit_items.specs.Inner.Operations.{instruction_for, operations_for, put_all, end_opcode};
 
 use code_scope::Scope;
+use instruction::{Instruction, Opcode};
 use records::{Item, Items};
 
-const PUSH: u8 = 0;
+// The opcode of "end": slide where a number is expected, drop where a tree is.
+fn end_opcode(tree: bool) -> Opcode
+    ensures { result ≡ end_opcode tree }
+{
+    if tree { Opcode::Drop } else { Opcode::Slide }
+}
 
-const GET: u8 = 1;
-
-const ADD: u8 = 2;
-
-const IFNOT: u8 = 3;
-
-const JUMP: u8 = 4;
-
-const SLIDE: u8 = 5;
-
-const DROP: u8 = 6;
-
-const LEAF_TAG: u8 = 7;
-
-const NODE_TAG: u8 = 8;
-
-const WRITE_NUMBER: u8 = 9;
-
-const READ_TAG: u8 = 10;
-
-const READ_NUMBER: u8 = 11;
-
-const CALL: u8 = 12;
-
-// The addresses that items refer to: where the last part begins, and what comes after the whole
-// expression.
+// What items are emitted with: the program's records, the entries of its functions, what is known
+// where the items stand, and the addresses that they refer to: where the last part begins, and what
+// comes after the whole expression.
 #[derive(Clone, Copy)]
-pub struct Labels {
+pub struct Emitter<'a> {
+    pub flat: &'a [u8],
+    pub entries: &'a [u16],
+    pub scope: Scope,
     pub last: usize,
     pub beyond: usize,
 }
 
-// The fields of an instruction.
-#[derive(Clone, Copy)]
-struct Instruction {
-    opcode: u8,
-    byte1: u8,
-    operand: usize,
-    number: u32,
-}
-
-// The opcode of "end": slide where a number is expected, drop where a tree is.
-fn end_opcode(tree: bool) -> u8
-    ensures { result ≡ opcode_of_end tree }
-{
-    if tree {
-        return DROP;
-    }
-    SLIDE
-}
-
-// An instruction with these fields.
-fn fields(opcode: u8, byte1: u8, operand: usize, number: u32) -> Instruction
-    ensures { result ≡ record
-        { opcode = opcode; byte1 = byte1; operand = operand; number = number } }
-{
-    Instruction {
-        opcode: opcode,
-        byte1: byte1,
-        operand: operand,
-        number: number,
-    }
-}
-
-// The instruction of an item, with the entries of the functions and the addresses that items refer
-// to.
-fn instruction_of(
-    flat: &[u8],
-    entries: &[u16],
-    item: Item,
-    scope: Scope,
-    labels: Labels,
-) -> Instruction
-    ensures { fields_in result ≡ instruction_for flat.now entries.now scope
-        labels.last labels.beyond (item_of item) }
-{
-    match item {
-        Item::Push(i) => fields(PUSH, 0, 0, i),
-        Item::Get(a) => fields(GET, 0, code_scope::word_of(scope, a) as usize, 0),
-        Item::Add => fields(ADD, 0, 0, 0),
-        Item::Ifnot => fields(IFNOT, 0, labels.last, 0),
-        Item::Jump => fields(JUMP, 0, labels.beyond, 0),
-        Item::End => fields(end_opcode(scope.tree), 0, 0, 0),
-        Item::LeafTag => fields(LEAF_TAG, 0, 0, 0),
-        Item::NodeTag => fields(NODE_TAG, 0, 0, 0),
-        Item::WriteNumber => fields(WRITE_NUMBER, 0, 0, 0),
-        Item::ReadTag => fields(READ_TAG, 0, labels.last, 0),
-        Item::ReadNumber => fields(READ_NUMBER, 0, 0, 0),
-        Item::Call(b) => {
-            let arguments = signatures::parameters(flat, b);
-            fields(CALL, arguments, template::entry_of(entries, b) as usize, 0)
+impl Emitter<'_> {
+    // The instruction of an item.
+    #[tactic(auto, using(crate::proofs::Operations::item_ways))]
+    fn instruction_of(&self, item: Item) -> Instruction
+        ensures { fields_in result ≡ instruction_for self.now.flat.now self.now.entries.now
+            self.now.scope self.now.last self.now.beyond (item_of item) }
+    {
+        match item {
+            Item::Push(i) => Instruction {
+                number: i,
+                ..Opcode::Push.alone()
+            },
+            Item::Get(a) => Instruction {
+                operand: self.scope.word_of(a) as usize,
+                ..Opcode::Get.alone()
+            },
+            Item::Add => Opcode::Add.alone(),
+            Item::Ifnot => Instruction {
+                operand: self.last,
+                ..Opcode::Ifnot.alone()
+            },
+            Item::Jump => Instruction {
+                operand: self.beyond,
+                ..Opcode::Jump.alone()
+            },
+            Item::End => end_opcode(self.scope.tree).alone(),
+            Item::LeafTag => Opcode::LeafTag.alone(),
+            Item::NodeTag => Opcode::NodeTag.alone(),
+            Item::WriteNumber => Opcode::WriteNumber.alone(),
+            Item::ReadTag => Instruction {
+                operand: self.last,
+                ..Opcode::ReadTag.alone()
+            },
+            Item::ReadNumber => Opcode::ReadNumber.alone(),
+            Item::Call(b) => Instruction {
+                byte1: signatures::parameters(self.flat, b),
+                operand: template::entry_of(self.entries, b) as usize,
+                ..Opcode::Call.alone()
+            },
         }
     }
-}
 
-// Emits one item at an address, or nothing where it does not fit.
-fn emit_item(
-    flat: &[u8],
-    entries: &[u16],
-    code: &mut [u8],
-    address: usize,
-    item: Item,
-    scope: Scope,
-    labels: Labels,
-)
-    ensures { code.new ≡ put_all code.old address (operations_for
-        flat.now entries.now scope labels.last labels.beyond
-        (item_of item ∷ [])) }
-{
-    let x = instruction_of(flat, entries, item, scope, labels);
-    instruction::write_instruction(code, address, x.opcode, x.byte1, x.operand, x.number);
-}
-
-// Emits items from an address on, each where it fits.
-pub fn emit_items(
-    flat: &[u8],
-    entries: &[u16],
-    code: &mut [u8],
-    address: usize,
-    items: Items,
-    scope: Scope,
-    labels: Labels,
-)
-    ensures { code.new ≡ put_all code.old address (operations_for
-        flat.now entries.now scope labels.last labels.beyond
-        (row items)) }
-{
-    if code.len() <= address {
-        return;
+    // Emits one item at an address, or nothing where it does not fit.
+    fn emit_one(&self, code: &mut [u8], address: usize, item: Item)
+        ensures { code.new ≡ put_all code.old address (operations_for
+            self.now.flat.now self.now.entries.now self.now.scope self.now.last self.now.beyond
+            (item_of item ∷ [])) }
+    {
+        self.instruction_of(item).write_at(code, address);
     }
-    match items {
-        Items::None => {}
-        Items::One(x) => emit_item(flat, entries, code, address, x, scope, labels),
-        Items::Two(x, y) => {
-            emit_item(flat, entries, code, address, x, scope, labels);
-            emit_item(flat, entries, code, address + 1, y, scope, labels);
+
+    // Emits items from an address on, each where it fits.
+    #[tactic(auto, using(crate::proofs::Operations::items_ways))]
+    pub fn emit(&self, code: &mut [u8], address: usize, items: Items)
+        ensures { code.new ≡ put_all code.old address (operations_for
+            self.now.flat.now self.now.entries.now self.now.scope self.now.last self.now.beyond
+            (row items)) }
+    {
+        if code.len() <= address {
+            return;
+        }
+        match items {
+            Items::None => {}
+            Items::One(x) => self.emit_one(code, address, x),
+            Items::Two(x, y) => {
+                self.emit_one(code, address, x);
+                self.emit_one(code, address + 1, y);
+            }
         }
     }
 }

@@ -15,7 +15,7 @@ pub fn pack(flat: &[u8], file: &mut [u8], answer: &mut [u64]) -> u32
         file.old file.new answer.old answer.new result }
 {
     if !answers::has_room(answer) {
-        return refusal::number_of(Refusal::SpaceTooShort);
+        return u32::from(Refusal::SpaceTooShort);
     }
     let filled = files::write_file(flat, file);
     answers::report(filled, answer)
@@ -28,7 +28,7 @@ pub fn unpack(file: &[u8], flat: &mut [u8], answer: &mut [u64]) -> u32
         flat.old flat.new answer.old answer.new result }
 {
     if !answers::has_room(answer) {
-        return refusal::number_of(Refusal::SpaceTooShort);
+        return u32::from(Refusal::SpaceTooShort);
     }
     let filled = files::read_file(file, flat);
     answers::report(filled, answer)

@@ -11,56 +11,54 @@ use Rattle.formats.specs.Blocks.{flat_in, file_of, program_records, read_file, w
 use Rattle.formats.specs.Inner.Blocks.{most_bytes, program_into}
 use Rattle.formats.proofs.Results.{then_done, then_refused, Value, passed_is, refused_is}
 use Rattle.formats.proofs.Files.{within_room, within_short}
-use Rattle.refusal.specs.declared.Refusal.{Refusal}
+use Rattle.std.specs.Prelude.{Result as Answer, Ok, Err}
+use Rattle.refusal.specs.declared.Refused.{Refused}
 use Rattle.refusal.specs.declared.Refusal.TheVariants.{SpaceTooShort}
-use Rattle.refusal.specs.declared.Verdict.{Verdict}
-use Rattle.refusal.specs.declared.Verdict.TheVariants as verdict_is
 use Rattle.refusal.specs.Inner.Numbers.{number}
 use Rattle.refusal.specs.Inner.Verdicts.{verdict_result}
 use Rattle.refusal.specs.Inner.FilledBuffer.{FilledBuffer}
-use Rattle.refusal.specs.declared.Filled.{Filled}
-use Rattle.refusal.specs.declared.Filled.TheVariants.{Written, Refused}
 use Rattle.refusal.proofs.FilledBuffer.{put_refused, put_done}
 use Rattle.block_reader.proofs.Taken.{not_taken, taken_out, taken_inside}
 
 -- ---- the rows header to prefix form
 
 -- what the rows refuse is no program
-rows_refuse : (r : List ℕ) (rows : Verdict) (why : Refusal) (position : ℕ) → verdict_result rows ≡ verdict (read_program r) → rows ≡ verdict_is.Refused why position
-    → read_program r ≡ refusal (number why) position
-rows_refuse r rows why position reported is = refused_is (read_program r) (number why) position (sym reported ∙ ap verdict_result is)
+rows_refuse : (r : List ℕ) (rows : Answer (Unit {0}) Refused) (e : Refused) → verdict_result rows ≡ verdict (read_program r) → rows ≡ Err e
+    → read_program r ≡ refusal (number e.why) e.position
+rows_refuse r rows e reported is = refused_is (read_program r) (number e.why) e.position (sym reported ∙ ap verdict_result is)
 
 -- what they pass is one
-rows_pass : (r : List ℕ) (rows : Verdict) → verdict_result rows ≡ verdict (read_program r) → rows ≡ verdict_is.Passed → Value (read_program r)
+rows_pass : (r : List ℕ) (rows : Answer (Unit {0}) Refused) → verdict_result rows ≡ verdict (read_program r) → rows ≡ Ok tt → Value (read_program r)
 rows_pass r rows reported is = passed_is (read_program r) (sym reported ∙ ap verdict_result is)
 
-module _ (r before : List ℕ) (rows : Verdict) (reported : verdict_result rows ≡ verdict (read_program r)) where
+module _ (r before : List ℕ) (rows : Answer (Unit {0}) Refused) (reported : verdict_result rows ≡ verdict (read_program r)) where
   -- ---- `put_program`
 
-  pub program_refused : (why : Refusal) (position : ℕ) → rows ≡ verdict_is.Refused why position → FilledBuffer (program_into (length before) r) before before (Refused why position)
+  pub program_refused : (e : Refused) → rows ≡ Err e → FilledBuffer (program_into (length before) r) before before (Err e)
   unfolding program_into program_records
-  program_refused why position is =
-      put_refused _ before why position (then_refused (in_room (length before)) (ap (on_value (λ program. r)) (rows_refuse r rows why position reported is)))
+  program_refused e is =
+      put_refused _ before e (then_refused (in_room (length before)) (ap (on_value (λ program. r)) (rows_refuse r rows e reported is)))
 
   -- flat records that are a program go into the buffer where it has room
-  into : rows ≡ verdict_is.Passed → program_into (length before) r ≡ in_room (length before) r
+  into : rows ≡ Ok tt → program_into (length before) r ≡ in_room (length before) r
   unfolding program_into program_records
   into is = then_done (in_room (length before)) (ap (on_value (λ program. r)) (rows_pass r rows reported is).is)
 
-  pub program_short : rows ≡ verdict_is.Passed → length before < length r → FilledBuffer (program_into (length before) r) before before (Refused SpaceTooShort 0)
-  program_short is short = put_refused _ before SpaceTooShort 0 (into is ∙ within_short (length before) r short)
+  pub program_short : rows ≡ Ok tt → length before < length r → (e : Refused) → e ≡ record { why = SpaceTooShort; position = 0 }
+      → FilledBuffer (program_into (length before) r) before before (Err e)
+  program_short is short e why = rw why (put_refused _ before _ (into is ∙ within_short (length before) r short))
 
-  pub program_put : (after : List ℕ) → rows ≡ verdict_is.Passed → length r ≤ length before → after ≡ written before 0 r → FilledBuffer (program_into (length before) r) before after (Written (length r))
+  pub program_put : (after : List ℕ) → rows ≡ Ok tt → length r ≤ length before → after ≡ written before 0 r → FilledBuffer (program_into (length before) r) before after (Ok (length r))
   program_put after is room wrote = put_done _ before after r (length r) (into is ∙ within_room (length before) r room) refl wrote
 
   -- ---- `write_file`
 
-  pub file_refused : (why : Refusal) (position : ℕ) → rows ≡ verdict_is.Refused why position → FilledBuffer (write_into (length before) r) before before (Refused why position)
+  pub file_refused : (e : Refused) → rows ≡ Err e → FilledBuffer (write_into (length before) r) before before (Err e)
   unfolding write_into write_file
-  file_refused why position is =
-      put_refused _ before why position (then_refused (in_room (length before)) (ap (on_value (λ program. file_of r)) (rows_refuse r rows why position reported is)))
+  file_refused e is =
+      put_refused _ before e (then_refused (in_room (length before)) (ap (on_value (λ program. file_of r)) (rows_refuse r rows e reported is)))
 
-  pub file_put : (after : List ℕ) (filled : Filled) → rows ≡ verdict_is.Passed → FilledBuffer (in_room (length before) (file_of r)) before after filled → FilledBuffer (write_into (length before) r) before after filled
+  pub file_put : (after : List ℕ) (filled : Answer ℕ Refused) → rows ≡ Ok tt → FilledBuffer (in_room (length before) (file_of r)) before after filled → FilledBuffer (write_into (length before) r) before after filled
   unfolding write_into write_file
   file_put after filled is put = rw (then_done (in_room (length before)) (ap (on_value (λ program. file_of r)) (rows_pass r rows reported is).is)) put
 
@@ -70,13 +68,13 @@ pub ruleset write_ways = (file_refused, file_put)
 
 -- ---- `read_file`
 
-module _ (s space : List ℕ) (size : length space ≡ most_bytes) (after : List ℕ) (taken : Filled) (put : FilledBuffer (flat_in s) space after taken) where
-  pub read_refused : (before : List ℕ) (why : Refusal) (position : ℕ) → taken ≡ Refused why position → FilledBuffer (read_into (length before) s) before before (Refused why position)
+module _ (s space : List ℕ) (size : length space ≡ most_bytes) (after : List ℕ) (taken : Answer ℕ Refused) (put : FilledBuffer (flat_in s) space after taken) where
+  pub read_refused : (before : List ℕ) (e : Refused) → taken ≡ Err e → FilledBuffer (read_into (length before) s) before before (Err e)
   unfolding read_into read_file
-  read_refused before why position is =
-      put_refused _ before why position (then_refused (in_room (length before)) (then_refused program_records (not_taken s space size after taken put why position is)))
+  read_refused before e is =
+      put_refused _ before e (then_refused (in_room (length before)) (then_refused program_records (not_taken s space size after taken put e is)))
 
-  pub read_put : (before last : List ℕ) (bytes : ℕ) (filled : Filled) → taken ≡ Written bytes → FilledBuffer (program_into (length before) (take bytes after)) before last filled
+  pub read_put : (before last : List ℕ) (bytes : ℕ) (filled : Answer ℕ Refused) → taken ≡ Ok bytes → FilledBuffer (program_into (length before) (take bytes after)) before last filled
       → FilledBuffer (read_into (length before) s) before last filled
   unfolding read_into read_file program_into
   read_put before last bytes filled is p =

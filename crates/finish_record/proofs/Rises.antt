@@ -1,5 +1,5 @@
 -- A record is finished: a law for each way out of the functions.
-use Prim.Native.Nat.{ℕ, suc, ◌+◌, ◌-◌, ◌*◌, ◌/◌, ◌%◌, ◌≤◌, ◌<◌}
+use Prim.Native.Nat.{ℕ, suc, ◌+◌, ◌-◌, ◌*◌, ◌%◌}
 use mathlib.Core.Bool.{Bool, true, false, ◌&&◌}
 use mathlib.Core.List.{List}
 use mathlib.Core.Logic.{◌≢◌}
@@ -7,29 +7,23 @@ use mathlib.Core.Path.{◌≡◌, refl, sym, ap, ◌∙◌}
 use native.Mathlib.Numerals.{add-one}
 use native.Mathlib.Decide.{dec_le}
 use native.Mathlib.Omega.{arith}
-use borrow.Author.Tests.{eq-eqb, ne_eqb, lt-ltb, le-ltb}
-use lib.Dec.{eqb, ltb}
-use lib.ListN.{length, get_or, set}
+use borrow.Author.Tests.{eq-eqb, ne_eqb}
+use lib.Dec.{eqb}
+use lib.ListN.{get_or, set}
 use Rattle.formats.specs.Arithmetic.{plus, result_of}
-use Rattle.formats.specs.Tokens.{node_tag}
 use Rattle.stepwise.specs.Inner.Rows.{whole, kept, added, tested, passed, labelled, followed}
-use Rattle.stepwise.specs.Inner.Steps.{tree_at, role_at, parent_at, slot_at, after_at, frame_words, on_right, known_after}
+use Rattle.stepwise.specs.Inner.Steps.{role_at, parent_at, slot_at, after_at, frame_words, on_right, known_after}
 use Rattle.stepwise.proofs.Steps.{closes_first, closes_waiting, computes_result, computes_none, rises_whole, rises_kept, rises_added, rises_zero, rises_other, rises_on}
 use Rattle.stepwise.proofs.Steps.{follows_passed, follows_labelled, follows_followed, follows_last}
-use Rattle.words.proofs.Bytes.{byte_cut}
-use Rattle.numbers.specs.declared.Sum.{Sum}
-use Rattle.numbers.specs.declared.Sum.TheVariants.{Word, OutOfRange}
+use Rattle.std.specs.Prelude.{Option, Some, None}
 use Rattle.numbers.specs.Inner.Sums.{word_in}
 use Rattle.stages.specs.declared.Stage.{Stage}
-use Rattle.stages.specs.Inner.Stages.{to_begin, is_finished, to_open, has_ended, is_broken, state_of, staged, stage_of, words_of, returns_of}
+use Rattle.stages.specs.declared.Mode.TheVariants.{Begin, Finished, Open, Ended, Broken}
+use Rattle.stages.specs.Inner.Stages.{state_of, staged, stage_of, words_of, returns_of}
 use Rattle.stages.proofs.Stages.{reach_begin, reach_finished, reach_ended, reach_broken, put_begin, put_open}
 use Rattle.finish_record.specs.Inner.Rises.{Knows, Closes, Adds, Picks, Follows, Rises}
 
--- ---- `return_at`
-
-pub ruleset words = (byte_cut)
-
--- ---- `on_right`, `known_after`
+-- ---- `known_after`
 
 -- both tests hold, or one does not
 both_true : {a b : Bool} → a ≡ true → b ≡ true → (a && b) ≡ true
@@ -41,46 +35,6 @@ first_false a b e = rw e
 then_false : (a b : Bool) → b ≡ false → (a && b) ≡ false
 then_false true b e = e
 then_false false b e = refl
-
-module _ (T input : List ℕ) (r own code : ℕ) (is : code ≡ tree_at T r) where
-  -- the tests after the first and the second
-  abbrev deeper : Bool
-  deeper = ltb own (length input) && eqb (get_or input own 0) node_tag
-
-  pub right_odd : code % 2 ≢ 0 → false ≡ on_right T input r own
-  unfolding on_right
-  right_odd h = sym (rw (on_right, ← is) (first_false (eqb (code % 2) 0) _ (ne_eqb _ _ h)))
-
-  pub right_own : code ≡ 0 → false ≡ on_right T input r own
-  unfolding on_right
-  right_own e =
-      sym (rw (on_right, ← is) (then_false (eqb (code % 2) 0) _ (first_false (ltb 0 code) _ (le-ltb 0 code (omega arith)))))
-
-  module _ (outer : ℕ) (inner : outer ≡ tree_at T ((code - 1) / 2)) where
-    pub right_deeper : outer ≢ 0 → false ≡ on_right T input r own
-    unfolding on_right
-    right_deeper h =
-        sym
-        (rw (on_right, ← is, ← inner)
-        (then_false (eqb (code % 2) 0) _ (then_false (ltb 0 code) _ (first_false (eqb outer 0) deeper (ne_eqb _ _ h)))))
-
-    pub right_past : length input ≤ own → false ≡ on_right T input r own
-    unfolding on_right
-    right_past h =
-        sym
-        (rw (on_right, ← is, ← inner)
-        (then_false (eqb (code % 2) 0) _ (then_false (ltb 0 code) _ (then_false (eqb outer 0) deeper (first_false (ltb own (length input)) _ (le-ltb _ _ h))))))
-
-    pub right_tag : code % 2 ≡ 0 → code ≢ 0 → outer ≡ 0 → own < length input → eqb (get_or input own 0) node_tag ≡ on_right T input r own
-    unfolding on_right
-    right_tag even some none there =
-        let first : eqb (code % 2) 0 ≡ true = eq-eqb _ _ even in
-        let second : ltb 0 code ≡ true = lt-ltb 0 code (omega arith) in
-        let third : eqb outer 0 ≡ true = eq-eqb _ _ none in
-        let fourth : ltb own (length input) ≡ true = lt-ltb _ _ there in
-        sym (rw (on_right, ← is, ← inner, first, second, third, fourth))
-
-pub ruleset rights = (right_odd, right_own, right_deeper, right_past, right_tag)
 
 module _ (T input : List ℕ) (r own : ℕ) (s : Stage) where
   pub knows_other : s.known ≢ s.tree → Knows T input r own s s.known
@@ -116,7 +70,7 @@ pub ruleset knowing = (knows_other, knows_node, knows_still)
 -- ---- `close`
 
 module _ (T input returns : List ℕ) (s : Stage) where
-  pub close_first : (r : Stage) → s.calls ≡ 0 → r ≡ staged s has_ended 0 s.number → Closes T input returns s r
+  pub close_first : (r : Stage) → s.calls ≡ 0 → r ≡ staged s Ended 0 s.number → Closes T input returns s r
   close_first r none e =
       rw e
       (record { is = λ values. rw (closes_first T input s.number (state_of values returns s) none) (reach_ended values returns s s.number) })
@@ -129,7 +83,7 @@ module _ (T input returns : List ℕ) (s : Stage) where
       → Knows T input (a % 65536) b s k
       → Closes T input returns s
       (record {
-        mode = is_finished;
+        mode = Finished;
         node = a % 65536;
         number = s.number;
         calls = s.calls - 1;
@@ -159,7 +113,7 @@ module _ (l : List ℕ) (base slot f : ℕ) (is : f ≡ slot) where
 
 pub ruleset slots = (slot_put)
 
-module _ (T values : List ℕ) (s r : Stage) (f left parent : ℕ) (sum : Sum) (slot : f ≡ slot_at T s.node)
+module _ (T values : List ℕ) (s r : Stage) (f left parent : ℕ) (sum : Option ℕ) (slot : f ≡ slot_at T s.node)
     (word : left ≡ get_or values (frame_words * s.calls + f) 0)
     (above : parent ≡ parent_at T s.node)
     (is_sum : word_in sum ≡ result_of plus left s.number)
@@ -168,7 +122,7 @@ module _ (T values : List ℕ) (s r : Stage) (f left parent : ℕ) (sum : Sum) (
     kept_word : left ≡ get_or values (frame_words * s.calls + slot_at T s.node) 0
     kept_word = word ∙ ap (λ j. get_or values (frame_words * s.calls + j) 0) slot
 
-    pub adds_word : (w : ℕ) → sum ≡ Word w → r ≡ staged s is_finished parent w → Adds T values s r
+    pub adds_word : (w : ℕ) → sum ≡ Some w → r ≡ staged s Finished parent w → Adds T values s r
     adds_word w case e =
         rw (e, above)
         (record {
@@ -180,7 +134,7 @@ module _ (T values : List ℕ) (s r : Stage) (f left parent : ℕ) (sum : Sum) (
               (reach_finished values returns s (parent_at T s.node) w);
         })
 
-    pub adds_none : sum ≡ OutOfRange → r ≡ staged s is_broken parent 0 → Adds T values s r
+    pub adds_none : sum ≡ None → r ≡ staged s Broken parent 0 → Adds T values s r
     adds_none case e =
         rw (e, above)
         (record {
@@ -208,7 +162,7 @@ pub ruleset picks = (pick_zero, pick_other)
 -- ---- `follow`, `rise`
 
 module _ (T values : List ℕ) (s : Stage) (k : ℕ) (role : k ≡ role_at T s.node) where
-  pub follow_passed : (p : ℕ) (r : Stage) → k ≡ passed → p ≡ parent_at T s.node → r ≡ staged s is_finished p s.number → Follows T values values s r
+  pub follow_passed : (p : ℕ) (r : Stage) → k ≡ passed → p ≡ parent_at T s.node → r ≡ staged s Finished p s.number → Follows T values values s r
   follow_passed p r is ep e =
       rw (e, ep)
       (record {
@@ -216,7 +170,7 @@ module _ (T values : List ℕ) (s : Stage) (k : ℕ) (role : k ≡ role_at T s.n
             rw (follows_passed T s.node s.number (state_of values returns s) (sym role ∙ is)) (reach_finished values returns s (parent_at T s.node) s.number);
       })
 
-  pub follow_labelled : (p : ℕ) (r : Stage) → k ≡ labelled → p ≡ parent_at T s.node → r ≡ staged s is_finished p 0 → Follows T values values s r
+  pub follow_labelled : (p : ℕ) (r : Stage) → k ≡ labelled → p ≡ parent_at T s.node → r ≡ staged s Finished p 0 → Follows T values values s r
   follow_labelled p r is ep e =
       rw (e, ep)
       (record {
@@ -224,7 +178,7 @@ module _ (T values : List ℕ) (s : Stage) (k : ℕ) (role : k ≡ role_at T s.n
             rw (follows_labelled T s.node s.number (state_of values returns s) (sym role ∙ is)) (reach_finished values returns s (parent_at T s.node) 0);
       })
 
-  pub follow_followed : (b : ℕ) (r : Stage) → k ≡ followed → b ≡ after_at T s.node → r ≡ staged s to_begin b 0 → Follows T values values s r
+  pub follow_followed : (b : ℕ) (r : Stage) → k ≡ followed → b ≡ after_at T s.node → r ≡ staged s Begin b 0 → Follows T values values s r
   follow_followed b r is eb e =
       rw (e, eb)
       (record {
@@ -239,7 +193,7 @@ module _ (T values : List ℕ) (s : Stage) (k : ℕ) (role : k ≡ role_at T s.n
       → k ≢ followed
       → p ≡ parent_at T s.node
       → values' ≡ set values (frame_words * s.calls + slot_at T s.node) s.number
-      → r ≡ staged s to_open p 0
+      → r ≡ staged s Open p 0
       → Follows T values values' s r
   follow_last p values' r a b c ep put e =
       rw (e, ep, put)
@@ -259,7 +213,7 @@ module _ (T values : List ℕ) (s : Stage) (k : ℕ) (role : k ≡ role_at T s.n
         → k ≡ kept
         → values' ≡ set values (frame_words * s.calls + slot_at T s.node) s.number
         → b ≡ after_at T s.node
-        → r ≡ staged s to_begin b 0
+        → r ≡ staged s Begin b 0
         → Rises T input values values' returns s r
     rise_kept b values' r is put eb e =
         rw (e, eb, put)
@@ -273,7 +227,7 @@ module _ (T values : List ℕ) (s : Stage) (k : ℕ) (role : k ≡ role_at T s.n
     rise_added r is adds =
         record { is = rw (rises_added T input s.node s.number (state_of values returns s) (sym role ∙ is)) (adds.is returns) }
 
-    pub rise_tested : (b : ℕ) (r : Stage) → k ≡ tested → Picks T s b → r ≡ staged s to_begin b 0 → Rises T input values values returns s r
+    pub rise_tested : (b : ℕ) (r : Stage) → k ≡ tested → Picks T s b → r ≡ staged s Begin b 0 → Rises T input values values returns s r
     rise_tested b r is picks e =
         let at : role_at T s.node ≡ tested = sym role ∙ is in
         rw e

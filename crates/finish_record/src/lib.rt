@@ -8,81 +8,59 @@ ghost use Rattle.finish_record.specs.Inner.Rises.{Knows, Closes, Adds, Picks, Fo
 use frames::{
     ADDED, AFTER, FOLLOWED, KEPT, LABELLED, PARENT, PASSED, ROLE, SLOT, TESTED, TREE, WHOLE,
 };
-use numbers::Sum;
-use stages::{BEGIN, BROKEN, ENDED, FINISHED, OPEN, Stage};
-
-const NODE_TAG: u8 = 2;
-
-// A return word; 0 where there is none.
-fn return_at(returns: &[u64], i: usize) -> u64
-    ensures { result ≡ get_or returns.now i 0 }
-{
-    if i < returns.len() {
-        return returns[i];
-    }
-    0
-}
+use stages::{Mode, Stage};
+use tree::NODE_TAG;
 
 // Whether the Call at record r is on the right tree of a node that is its frame's own tree, at
 // offset `own`.
+#[tactic(auto, unfolding(stepwise::specs::Inner::Steps::on_right))]
 fn on_right(table: &[u16], input: &[u8], r: u16, own: usize) -> bool
     ensures { result ≡ on_right table.now input.now r own }
 {
     let code = frames::field(table, r, TREE);
-    if code % 2 != 0 {
-        return false;
-    }
-    if code == 0 {
-        return false;
-    }
-    if frames::field(table, (code - 1) / 2, TREE) != 0 {
-        return false;
-    }
-    if input.len() <= own {
-        return false;
-    }
-    input[own] == NODE_TAG
+    code % 2 == 0
+        && 0 < code
+        && frames::field(table, (code - 1) / 2, TREE) == 0
+        && own < input.len()
+        && input[own] == NODE_TAG
 }
 
 // The offset of the tree whose end is known after the call closes that the Call at record r opened.
 // `own` is the offset of the frame's own tree. Where the call was on the right tree of a node, both
 // end at the same offset: so with the end of that tree the node's end is known.
+#[tactic(auto, using(crate::proofs::Rises::knowing))]
 fn known_after(table: &[u16], input: &[u8], r: u16, own: usize, s: Stage) -> usize
     ensures { Knows table.now input.now r own s result }
 {
-    if s.known != s.tree {
-        return s.known;
+    if s.known == s.tree && on_right(table, input, r, own) {
+        own
+    } else {
+        s.known
     }
-    if on_right(table, input, r, own) {
-        return own;
-    }
-    s.known
 }
 
 // A call closes: the call that waits goes on with its number. Where none waits, the run has ended.
+#[tactic(auto, using(crate::proofs::Rises::closes))]
 fn close(table: &[u16], input: &[u8], returns: &[u64], s: Stage) -> Stage
     ensures { Closes table.now input.now returns.now s result }
 {
     if s.calls == 0 {
-        return stages::staged_at(s, ENDED, 0, s.number);
+        return s.at(Mode::Ended, 0, s.number);
     }
     let n = s.calls - 1;
     let i = 2 * (n as usize);
-    let r = (return_at(returns, i) % 65536) as u16;
-    let own = return_at(returns, i + 1) as usize;
+    let r = (returns.get(i).copied().unwrap_or(0) % 65536) as u16;
+    let own = returns.get(i + 1).copied().unwrap_or(0) as usize;
     Stage {
-        mode: FINISHED,
-        node: r,
-        number: s.number,
         calls: n,
         tree: own,
         known: known_after(table, input, r, own, s),
-        end: s.end,
-        written: s.written,
+        ..s.at(Mode::Finished, r, s.number)
     }
 }
 
 // Puts the number of a record that is finished on its word.
+#[tactic(auto, using(crate::proofs::Rises::slots))]
 fn keep(table: &[u16], values: &mut [u32], s: Stage)
     ensures { values.new ≡ set values.old
         (frame_words * s.calls + slot_at table.now s.node) s.number }
@@ -97,43 +75,47 @@ fn keep(table: &[u16], values: &mut [u32], s: Stage)
 
 // The sum of the number kept and the number of a record that is finished: Add's record is finished
 // with it, or Add has no result.
+#[tactic(auto, using(crate::proofs::Rises::additions))]
 fn add_kept(table: &[u16], values: &[u32], s: Stage) -> Stage
     ensures { Adds table.now values.now s result }
 {
     let left = frames::frame_word(values, s.calls, frames::field(table, s.node, SLOT));
     let parent = frames::field(table, s.node, PARENT);
     match numbers::sum_of(left, s.number) {
-        Sum::Word(sum) => stages::staged_at(s, FINISHED, parent, sum),
-        Sum::OutOfRange => stages::staged_at(s, BROKEN, parent, 0),
+        Some(sum) => s.at(Mode::Finished, parent, sum),
+        None => s.at(Mode::Broken, parent, 0),
     }
 }
 
 // The record of the part that IfZero takes: the zero part is after the test, the other part after
 // that.
+#[tactic(auto, using(crate::proofs::Rises::picks))]
 fn picked(table: &[u16], s: Stage) -> u16
     ensures { Picks table.now s result }
 {
     let zero_part = frames::field(table, s.node, AFTER);
     if s.number == 0 {
-        return zero_part;
+        zero_part
+    } else {
+        frames::field(table, zero_part, AFTER)
     }
-    frames::field(table, zero_part, AFTER)
 }
 
 // The next stage after a part with one of the other roles: its value is its record's; it is the
 // label of a leaf; it is Node's left tree, and the next part begins; or it is the last argument,
 // and the call opens.
+#[tactic(auto, using(crate::proofs::Rises::followings))]
 fn follow(table: &[u16], values: &mut [u32], s: Stage) -> Stage
     ensures { Follows table.now values.old values.new s result }
 {
     let parent = frames::field(table, s.node, PARENT);
     match frames::field(table, s.node, ROLE) {
-        PASSED => stages::staged_at(s, FINISHED, parent, s.number),
-        LABELLED => stages::staged_at(s, FINISHED, parent, 0),
-        FOLLOWED => stages::staged_at(s, BEGIN, frames::field(table, s.node, AFTER), 0),
+        PASSED => s.at(Mode::Finished, parent, s.number),
+        LABELLED => s.at(Mode::Finished, parent, 0),
+        FOLLOWED => s.at(Mode::Begin, frames::field(table, s.node, AFTER), 0),
         _ => {
             keep(table, values, s);
-            stages::staged_at(s, OPEN, parent, 0)
+            s.at(Mode::Open, parent, 0)
         }
     }
 }
@@ -149,10 +131,10 @@ pub fn rise(table: &[u16], input: &[u8], values: &mut [u32], returns: &[u64], s:
         WHOLE => close(table, input, returns, s),
         KEPT => {
             keep(table, values, s);
-            stages::staged_at(s, BEGIN, frames::field(table, s.node, AFTER), 0)
+            s.at(Mode::Begin, frames::field(table, s.node, AFTER), 0)
         }
         ADDED => add_kept(table, values, s),
-        TESTED => stages::staged_at(s, BEGIN, picked(table, s), 0),
+        TESTED => s.at(Mode::Begin, picked(table, s), 0),
         _ => follow(table, values, s),
     }
 }

@@ -1,13 +1,13 @@
 -- The row "functions": a law for each way out of its functions.
 use Prim.Native.Nat.{ℕ, zero, suc, ◌+◌, ◌-◌, ◌*◌, ◌≤◌, ◌<◌}
-use mathlib.Core.Bool.{Bool, true, false, not, ◌&&◌, and-false}
+use mathlib.Core.Bool.{Bool, true, false, not, ◌&&◌}
 use mathlib.Core.List.{List}
 use mathlib.Core.Logic.{◌≢◌}
 use mathlib.Core.Path.{◌≡◌, refl, sym, ap, ap₂, ◌∙◌}
 use native.Mathlib.Nat.{add_assoc, add-zero, zero-add, sub-zero}
 use native.Mathlib.Numerals.{add-one}
 use native.Mathlib.Omega.{arith}
-use borrow.Author.Tests.{not-true, not-false, le-leb, lt-leb, eq-eqb, ne_eqb}
+use borrow.Author.Tests.{leb-true, leb-false, not-true, not-false, eq-eqb, ne_eqb}
 use lib.Dec.{leb, eqb}
 use Rattle.formats.specs.Numbers.{number_at}
 use Rattle.formats.specs.Refusals.{function_field}
@@ -20,9 +20,9 @@ use Rattle.formats.proofs.Results.{then_done, then_refused, each_inv, each_none,
 use Rattle.formats.proofs.Rows.{function_read}
 use Rattle.refusal.specs.Inner.Numbers.{number}
 use Rattle.refusal.specs.Inner.Verdicts.{verdict_result}
-use Rattle.refusal.specs.declared.Verdict.{Verdict}
-use Rattle.refusal.specs.declared.Verdict.TheVariants.{Passed, Refused}
-use Rattle.refusal.specs.declared.Refusal.{Refusal}
+use Rattle.refusal.specs.declared.Refusal.TheVariants.{FunctionField}
+use Rattle.refusal.specs.declared.Refused.{Refused}
+use Rattle.std.specs.Prelude.{Result as Answer, Ok, Err}
 use Rattle.functions.specs.Inner.Counts.{counts_from}
 
 -- ---- `most_parameters`
@@ -80,39 +80,19 @@ module _ (s : List ℕ) (j : ℕ) where
       let position : record_bytes * (1 + j) ≡ record_bytes * suc j = omega arith in
       cc
 
-  -- what is known of its record at each way out
-  module _ (x : ℕ) (ex : x ≡ sort_in s j) where
-    pub wrong_sort : 1 < x → Says false
-    wrong_sort h = wrong_sort_from _ j x _ _ _ h ∙ sym (ap verdict (function_is x _ _ _ ex refl refl refl))
+  -- the tests of all its fields decide
+  fields_decide :
+      (fits : Bool)
+      → fits ≡ (leb (sort_in s j) 1 && (leb (arity_in s j) (most_parameters j) && (leb 1 (count_in s j) && eqb (number_at 4 s (record_bytes * (1 + j) + 4)) 0)))
+      → Says fits
+  fields_decide fits e = by_sort (leb (sort_in s j) 1) refl
+    where
+      own : (answer : Bool) → value_if answer function_field (suc j) tt ≡ verdict (function_from (header_in s).edition j (fields (sort_in s j) (arity_in s j) (count_in s j) (number_at 4 s (record_bytes * (1 + j) + 4)))) → Says answer
+      own answer h = h ∙ sym (ap verdict (function_is _ _ _ _ refl refl refl refl))
 
-    module _ (a : ℕ) (ea : a ≡ arity_in s j) (right : x ≤ 1) where
-      -- where the sort is right, the other fields decide
-      others_decide :
-          (n i : ℕ) (test : Bool)
-          → n ≡ count_in s j
-          → i ≡ number_at 4 s (record_bytes * (1 + j) + 4)
-          → (leb a (most_parameters j) && (leb 1 n && eqb i 0)) ≡ test
-          → Says test
-      others_decide n i test en ei e =
-          ap (λ t. value_if t function_field (suc j) tt) (sym e) ∙ right_sort _ j x a n i right ∙ sym (ap verdict (function_is x a n i ex ea en ei))
-
-      pub many_parameters : (most : ℕ) → most ≡ most_parameters j → most < a → Says false
-      many_parameters most em h = others_decide _ _ false refl refl (simp (← em, lt-leb _ _ h))
-
-      module _ (n : ℕ) (en : n ≡ count_in s j) where
-        pub no_count : n ≡ 0 → Says false
-        no_count z = others_decide n _ false en refl (simp (lt-leb 1 n (omega arith), and-false))
-
-        pub rest_decides :
-            (i most : ℕ)
-            → i ≡ number_at 4 s (record_bytes * (1 + j) + 4)
-            → most ≡ most_parameters j
-            → a ≤ most
-            → n ≢ 0
-            → Says (eqb i 0)
-        rest_decides i most ei em few h = others_decide n i (eqb i 0) en ei (simp (← em, le-leb _ _ few, le-leb 1 n (omega arith)))
-
-pub ruleset function_fields = (wrong_sort, many_parameters, no_count, rest_decides)
+      by_sort : (right : Bool) → leb (sort_in s j) 1 ≡ right → Says fits
+      by_sort true h = own fits (simp (e, h) (right_sort _ j (sort_in s j) _ _ _ (leb-true _ _ h)))
+      by_sort false h = own fits (simp (e, h) (wrong_sort_from _ j (sort_in s j) _ _ _ (leb-false _ _ h)))
 
 -- ---- `count_sum`
 
@@ -159,15 +139,18 @@ module _ (s : List ℕ) (functions : ℕ) where
   fields_none = record { left = simp sub-zero }
 
   module _ (j : ℕ) (more : j < functions) (p : Passing (function_in s) (verdict (each (function_in s) functions 0)) functions j)
-      (fits : Bool) (reported : value_if fits function_field (suc j) tt ≡ verdict (function_in s j))
+      (fits : Bool)
+      (tested : fits ≡ (leb (sort_in s j) 1 && (leb (arity_in s j) (most_parameters j) && (leb 1 (count_in s j) && eqb (number_at 4 s (record_bytes * (1 + j) + 4)) 0))))
     where
       pub fields_more : not fits ≡ false → Passing (function_in s) (verdict (each (function_in s) functions 0)) functions (j + 1)
-      fields_more u = pass_more _ _ functions j more p (sym (test_holds fits function_field (suc j) _ reported (not-false fits u)))
+      fields_more u = pass_more _ _ functions j more p (sym (test_holds fits function_field (suc j) _ (fields_decide s j fits tested) (not-false fits u)))
 
-      pub fields_refused : not fits ≡ true → refusal function_field (j + 1) ≡ verdict (each (function_in s) functions 0)
-      fields_refused u =
-          ap (refusal function_field) (add-one j)
-          ∙ pass_refused _ _ functions j function_field (suc j) more p (sym (test_fails fits function_field (suc j) _ reported (not-true fits u)))
+      pub fields_refused : (r : Refused) → r ≡ record { why = FunctionField; position = j + 1 } → not fits ≡ true
+          → refusal (number r.why) r.position ≡ verdict (each (function_in s) functions 0)
+      fields_refused r at u =
+          rw at
+          (ap (refusal function_field) (add-one j)
+          ∙ pass_refused _ _ functions j function_field (suc j) more p (sym (test_fails fits function_field (suc j) _ (fields_decide s j fits tested) (not-true fits u))))
 
 pub ruleset fields_checked = (fields_none, fields_more, fields_refused, pass_all)
 
@@ -189,15 +172,15 @@ module _ (s : List ℕ) (functions nodes : ℕ) (ef : functions ≡ (header_in s
   unfolding function_row header_in record_at function_in
   row_is = rw (ef, en)
 
-  module _ (read : Verdict) (reported : verdict_result read ≡ verdict (each (function_in s) functions 0)) where
-    pub row_field : (why : Refusal) (position : ℕ) → read ≡ Refused why position → refusal (number why) position ≡ verdict (function_row (header_in s) s)
-    row_field why position case =
-        sym (ap verdict (row_is ∙ then_refused _ (refused_is (each (function_in s) functions 0) (number why) position (sym reported ∙ ap verdict_result case))))
+  module _ (read : Answer (Unit {0}) Refused) (reported : verdict_result read ≡ verdict (each (function_in s) functions 0)) where
+    pub row_field : (r : Refused) → read ≡ Err r → refusal (number r.why) r.position ≡ verdict (function_row (header_in s) s)
+    row_field r case =
+        sym (ap verdict (row_is ∙ then_refused _ (refused_is (each (function_in s) functions 0) (number r.why) r.position (sym reported ∙ ap verdict_result case))))
 
     -- the sum of the counts decides
     sum_decides :
         (sum : ℕ)
-        → read ≡ Passed
+        → read ≡ Ok tt
         → sum ≡ counts_from functions s 0
         → value_if (eqb sum nodes) function_field functions tt ≡ verdict (function_row (header_in s) s)
     sum_decides sum case es =
@@ -206,10 +189,11 @@ module _ (s : List ℕ) (functions nodes : ℕ) (ef : functions ≡ (header_in s
         ∙ check_said (eqb (sum_of_counts v.value) nodes) function_field functions v.value
         ∙ sym (ap verdict (row_is ∙ then_done _ v.is))
 
-    pub row_passed : (sum : ℕ) → read ≡ Passed → sum ≡ counts_from functions s 0 → sum ≡ nodes → done tt ≡ verdict (function_row (header_in s) s)
+    pub row_passed : (sum : ℕ) → read ≡ Ok tt → sum ≡ counts_from functions s 0 → sum ≡ nodes → done tt ≡ verdict (function_row (header_in s) s)
     row_passed sum case es e = test_holds (eqb sum nodes) function_field functions _ (sum_decides sum case es) (eq-eqb sum nodes e)
 
-    pub row_sum : (sum : ℕ) → read ≡ Passed → sum ≡ counts_from functions s 0 → sum ≢ nodes → refusal function_field functions ≡ verdict (function_row (header_in s) s)
-    row_sum sum case es n = test_fails (eqb sum nodes) function_field functions _ (sum_decides sum case es) (ne_eqb sum nodes n)
+    pub row_sum : (sum : ℕ) → read ≡ Ok tt → sum ≡ counts_from functions s 0 → sum ≢ nodes → (r : Refused) → r ≡ record { why = FunctionField; position = functions }
+        → refusal (number r.why) r.position ≡ verdict (function_row (header_in s) s)
+    row_sum sum case es n r at = rw at (test_fails (eqb sum nodes) function_field functions _ (sum_decides sum case es) (ne_eqb sum nodes n))
 
 pub ruleset function_said = (row_field, row_passed, row_sum)

@@ -3,37 +3,80 @@
 #![tactic(auto)]
 
 ghost use Rattle.std.specs.Prelude.{◌*◌, ◌≡◌};
-ghost use Rattle.formats.specs.Records.{record_bytes, fields, bytes_of_record};
+ghost use Rattle.formats.specs.Records.{record_bytes, bytes_of_record};
 ghost use Rattle.formats.specs.Written.{written};
+ghost use Rattle.instruction.specs.Inner.Opcodes.{number_of, fields_in};
 
-const INSTRUCTION_BYTES: usize = 8;
+// The bytes of an instruction.
+pub const INSTRUCTION_BYTES: usize = 8;
 
-// Writes an instruction at an address, or nothing where the buffer has no 8 bytes there. Of the
-// operand the low 16 bits are written.
-pub fn write_instruction(
-    code: &mut [u8],
-    address: usize,
-    opcode: u8,
-    byte1: u8,
-    operand: usize,
-    number: u32,
-)
-    ensures { code.new ≡ written code.old (record_bytes * address)
-        (bytes_of_record (fields opcode byte1 operand number)) }
-{
-    if code.len() / INSTRUCTION_BYTES <= address {
-        return;
+// The opcodes of 01, Opcodes, in the order of their numbers.
+#[derive(Clone, Copy, Debug, PartialEq, Eq)]
+pub enum Opcode {
+    Push,
+    Get,
+    Add,
+    Ifnot,
+    Jump,
+    Slide,
+    Drop,
+    LeafTag,
+    NodeTag,
+    WriteNumber,
+    ReadTag,
+    ReadNumber,
+    Call,
+    Return,
+}
+
+// The number of an opcode: 0 to 13.
+impl From<Opcode> for u8 {
+    ghost from_gives = { λ opcode n. n ≡ number_of opcode };
+
+    fn from(opcode: Opcode) -> u8 {
+        opcode as u8
     }
-    let p = INSTRUCTION_BYTES * address;
-    let n1 = number / 256;
-    let n2 = n1 / 256;
-    let n3 = n2 / 256;
-    code[p] = opcode;
-    code[p + 1] = byte1;
-    code[p + 2] = (operand % 256) as u8;
-    code[p + 3] = (operand / 256 % 256) as u8;
-    code[p + 4] = (number % 256) as u8;
-    code[p + 5] = (n1 % 256) as u8;
-    code[p + 6] = (n2 % 256) as u8;
-    code[p + 7] = (n3 % 256) as u8;
+}
+
+// The fields of an instruction.
+#[derive(Clone, Copy, Debug, PartialEq, Eq)]
+pub struct Instruction {
+    pub opcode: Opcode,
+    pub byte1: u8,
+    pub operand: usize,
+    pub number: u32,
+}
+
+impl Opcode {
+    // The instruction of this opcode with no operand. Unused fields are zero.
+    pub fn alone(self) -> Instruction
+        ensures { result ≡ record
+            { opcode = self; byte1 = 0; operand = 0; number = 0 } }
+    {
+        Instruction {
+            opcode: self,
+            byte1: 0,
+            operand: 0,
+            number: 0,
+        }
+    }
+}
+
+impl Instruction {
+    // Writes this instruction at an address, or nothing where the buffer has no 8 bytes there. Of
+    // the operand the low 16 bits are written.
+    pub fn write_at(self, code: &mut [u8], address: usize)
+        ensures { code.new ≡ written code.old (record_bytes * address)
+            (bytes_of_record (fields_in self)) }
+    {
+        if code.len() / INSTRUCTION_BYTES <= address {
+            return;
+        }
+        let opcode = u8::from(self.opcode);
+        let start = INSTRUCTION_BYTES * address;
+        let [o0, o1] = ((self.operand % 65536) as u16).to_le_bytes();
+        let [n0, n1, n2, n3] = self.number.to_le_bytes();
+        let bytes = [opcode, self.byte1, o0, o1, n0, n1, n2, n3];
+        code[start..start + INSTRUCTION_BYTES].copy_from_slice(&bytes);
+    }
 }

@@ -1,17 +1,16 @@
--- A number with its sign: its magnitude, and its text.
-use Prim.Native.Nat.{ℕ, suc, ◌+◌, ◌-◌, ◌≤◌, ◌<◌}
+-- A number with its sign: its text.
+use Prim.Native.Nat.{ℕ, ◌+◌, ◌≤◌, ◌<◌}
 use mathlib.Core.Bool.{true, false}
 use mathlib.Core.List.{List, [], ◌∷◌, ◌++◌}
-use mathlib.Core.Path.{◌≡◌, refl, sym, ap, subst, ◌∙◌}
+use mathlib.Core.Path.{◌≡◌, refl, sym, ap, ◌∙◌}
 use native.Mathlib.Omega.{arith}
-use lib.Dec.{T}
-use lib.IntN.{ℤ, pos, negsuc, nat_abs, ◌-ℤ◌}
+use lib.IntN.{ℤ, pos, negsuc, nat_abs}
 use lib.ListN.{length}
-use lib.Signed.{lt_z, non_neg, mag}
-use mir.Syntax.{w32, w64}
-use mir.Val.{Fits, SFits, to_z, of_z}
-use mir.Facts.{to_z-of_z, Fits-of_lt}
-use borrow.Author.Tests.{ltb-true, le-ltb}
+use lib.Signed.{lt_z}
+use mir.Syntax.{w32}
+use mir.Val.{SFits, to_z, of_z}
+use mir.Facts.{to_z-of_z}
+use borrow.Author.Tests.{ltb-true}
 use Rattle.formats.specs.Characters.{newline, minus}
 use Rattle.translation.specs.ListingText.{field, signed_field}
 use Rattle.listing.specs.PrintedText.{Puts}
@@ -21,60 +20,9 @@ use Rattle.listing.proofs.Fields.{put_both, put_length}
 abbrev read : ℤ → ℤ
 read n = to_z w32 (of_z w32 n)
 
--- ---- `magnitude`
-
--- -1 - n, where n is below 0
-flipped : (n : ℤ) → lt_z n (pos 0) ≡ true → negsuc 0 -ℤ n ≡ pos (mag n)
-flipped (pos k) h = absurd (omega (arith, ltb-true k 0 h))
-flipped (negsuc k) h =
-    let one : 1 ≤ suc k = omega arith in
-    let less : suc k - 1 ≡ k = omega arith in
-    rw (le-ltb (suc k) 1 one) (ap pos less)
-
--- the magnitude on either side of 0
-below : (n : ℤ) → lt_z n (pos 0) ≡ true → mag n + 1 ≡ nat_abs n
-below (pos k) h = absurd (omega (arith, ltb-true k 0 h))
-below (negsuc k) h = omega arith
-
-above : (n : ℤ) → lt_z n (pos 0) ≡ false → n ≡ pos (nat_abs n)
-above (pos k) h = refl
-above (negsuc k) h = let z : ◌≡◌ {A = ℕ} 0 1 = cc in absurd (omega arith)
-
-same_size : (n : ℤ) → lt_z n (pos 0) ≡ false → nat_abs n ≡ mag n
-same_size (pos k) h = refl
-same_size (negsuc k) h = let z : ◌≡◌ {A = ℕ} 0 1 = cc in absurd (omega arith)
-
 module _ (n : ℤ) (fits : SFits w32 n) where
   as_read : (t : _) → lt_z (read n) (pos 0) ≡ t → lt_z n (pos 0) ≡ t
   as_read t h = ap (λ z. lt_z z (pos 0)) (sym (to_z-of_z fits)) ∙ h
-
-  module _ (h : lt_z (read n) (pos 0) ≡ true) where
-    raw : negsuc 0 -ℤ read n ≡ pos (mag n)
-    raw = ap (λ z. negsuc 0 -ℤ z) (to_z-of_z fits) ∙ flipped n (as_read true h)
-
-    pub flip_fits : SFits w32 (negsuc 0 -ℤ read n)
-    flip_fits = subst (SFits w32) (sym raw) (record { sfits = fits.sfits })
-
-    again : read (negsuc 0 -ℤ read n) ≡ pos (mag n)
-    again = to_z-of_z flip_fits ∙ raw
-
-    pub flip_cast : T (non_neg (read (negsuc 0 -ℤ read n))) × Fits w64 (nat_abs (read (negsuc 0 -ℤ read n)))
-    flip_cast = subst (λ z. T (non_neg z) × Fits w64 (nat_abs z)) (sym again) (tt, Fits-of_lt (omega (arith, fits.sfits)))
-
-    pub flip_sum : Fits w64 (nat_abs (read (negsuc 0 -ℤ read n)) + 1)
-    flip_sum = subst (λ z. Fits w64 (nat_abs z + 1)) (sym again) (Fits-of_lt (omega (arith, fits.sfits)))
-
-    pub magnitude_below : nat_abs (read (negsuc 0 -ℤ read n)) + 1 ≡ nat_abs n
-    magnitude_below = ap (λ z. nat_abs z + 1) again ∙ below n (as_read true h)
-
-  module _ (h : lt_z (read n) (pos 0) ≡ false) where
-    pub plain_cast : T (non_neg (read n)) × Fits w64 (nat_abs (read n))
-    plain_cast =
-        subst (λ z. T (non_neg z) × Fits w64 (nat_abs z)) (sym (to_z-of_z fits ∙ above n (as_read false h)))
-        (tt, Fits-of_lt (omega (arith, fits.sfits, same_size n (as_read false h))))
-
-    pub magnitude_above : nat_abs (read n) ≡ nat_abs n
-    magnitude_above = ap nat_abs (to_z-of_z fits)
 
 -- ---- `put_signed`
 

@@ -14,8 +14,8 @@ longest_line = 31
 abbrev pub most_text : ℕ
 most_text = 10 + longest_line * most_instructions
 
--- These bytes are put into a buffer from offset p on, the rest is untouched, and the offset after
--- them is answered, which is within the buffer.
+-- These bytes are put into a buffer from offset p on, the rest is untouched, and r is the offset
+-- after them, which is within the buffer.
 pub record Puts (before after : List ℕ) (p : ℕ) (bytes : List ℕ) (r : ℕ) : Type 0 where
   pub buffer : after ≡ written before p bytes
   pub end : r ≡ p + length bytes

@@ -2,8 +2,8 @@
 // one proved function of the bytes that it is lent: `put_listing`.
 #![tactic(auto)]
 
-ghost use Rattle.std.specs.Prelude.{◌+◌, ◌*◌, ◌≤◌, ◌<◌, [], ◌∷◌, ◌≡◌, nat_abs, length, take, true};
-ghost use Rattle.std.specs.Io.KnownBytes.{Consumes, Appends};
+ghost use Rattle.std.specs.Prelude.{◌+◌, ◌*◌, ◌≤◌, ◌<◌, [], ◌∷◌, ◌≡◌, length, take};
+ghost use Rattle.std.specs.Io.KnownBytes.{Consumes};
 ghost use Rattle.formats.specs.Records.{record_at};
 ghost use Rattle.formats.specs.Results.{done};
 ghost use Rattle.translation.specs.Listing.{line_of, lines_from, refused_listing, instructions_in, listing_of, listing};
@@ -12,10 +12,8 @@ ghost use Rattle.translation.specs.ListingText.{field, signed_field, line_text, 
 ghost use Rattle.listing.specs.PrintedText.{longest_line, most_text, Puts};
 ghost use Rattle.listing.specs.Inner.Shown.{most_code, shown};
 
-use refusal::Filled;
+use instruction::INSTRUCTION_BYTES;
 use std::io::{Read, Write};
-
-const INSTRUCTION_BYTES: usize = 8;
 
 // 17 blocks of 512 bytes, and one byte more, to see that a file is too long.
 const INPUT_BYTES: usize = 8705;
@@ -48,137 +46,147 @@ fn line_at(code: &[u8], k: usize) -> Line
     let number = numbers::signed(words32::read32(code, p + 4));
     Line {
         address: k,
-        opcode: opcode,
-        byte1: byte1,
-        operand: operand,
-        number: number,
+        opcode,
+        byte1,
+        operand,
+        number,
     }
 }
 
-// Puts a byte at an offset, and answers the offset after it, as all that follow do.
-fn put_byte(out: &mut [u8], at: usize, byte: u8) -> usize
-    requires { at < length out.old }
-    ensures { Puts out.old out.new at (byte ∷ []) result }
-{
-    out[at] = byte;
-    at + 1
+// The text as far as it is put: its bytes from the start on, and how many they are.
+#[derive(Drop)]
+struct Text {
+    bytes: [u8; TEXT_BYTES],
+    len: usize,
 }
 
-// Puts a number in decimal.
-fn put_number(out: &mut [u8], at: usize, n: usize) -> usize
-    requires { at + length (decimal n) ≤ length out.old }
-    ensures { Puts out.old out.new at (decimal n) result }
-{
-    if n < 10 {
-        return put_byte(out, at, b'0' + (n as u8));
+impl Text {
+    // What is put.
+    fn as_bytes(&self) -> &[u8]
+        requires { self.now.len ≤ length self.now.bytes }
+        ensures { result.now ≡ take self.now.len self.now.bytes }
+    {
+        &self.bytes[..self.len]
     }
-    let last = put_number(out, at, n / 10);
-    put_byte(out, last, b'0' + ((n % 10) as u8))
-}
 
-// Puts a number and the character after it.
-fn put_field(out: &mut [u8], at: usize, n: usize, after: u8) -> usize
-    requires { at + length (field n after) ≤ length out.old }
-    ensures { Puts out.old out.new at (field n after) result }
-{
-    let last = put_number(out, at, n);
-    put_byte(out, last, after)
-}
-
-// A number without its sign. -1 - n always fits, -n does not.
-fn magnitude(n: i32) -> usize
-    ensures { result ≡ nat_abs n }
-{
-    if n < 0 {
-        return ((-1 - n) as usize) + 1;
+    // Puts a byte after those that are there, as all that follow do.
+    fn put_byte(&mut self, byte: u8)
+        requires { self.old.len < length self.old.bytes }
+        ensures { Puts self.old.bytes self.new.bytes self.old.len (byte ∷ []) self.new.len }
+    {
+        self.bytes[self.len] = byte;
+        self.len += 1;
     }
-    n as usize
-}
 
-// Puts a number with its sign, and a newline.
-fn put_signed(out: &mut [u8], at: usize, n: i32) -> usize
-    requires { at + length (signed_field n) ≤ length out.old }
-    ensures { Puts out.old out.new at (signed_field n) result }
-{
-    let digits = magnitude(n);
-    if n < 0 {
-        let first = put_byte(out, at, b'-');
-        return put_field(out, first, digits, b'\n');
+    // Puts a word.
+    fn put_word(&mut self, word: &[u8])
+        requires { self.old.len + length word.now ≤ length self.old.bytes }
+        ensures { Puts self.old.bytes self.new.bytes self.old.len word.now self.new.len }
+    {
+        writing::write_bytes(&mut self.bytes, self.len, word);
+        self.len += word.len();
     }
-    put_field(out, at, digits, b'\n')
-}
 
-// Puts a line.
-fn put_line(out: &mut [u8], at: usize, l: Line) -> usize
-    requires { at + length (line_text (shown l)) ≤ length out.old }
-    ensures { Puts out.old out.new at (line_text (shown l)) result }
-{
-    let opcode = put_field(out, at, l.address, b' ');
-    let byte1 = put_field(out, opcode, l.opcode as usize, b' ');
-    let operand = put_field(out, byte1, l.byte1 as usize, b' ');
-    let number = put_field(out, operand, l.operand as usize, b' ');
-    put_signed(out, number, l.number)
-}
-
-// Puts the lines of code.
-fn put_lines(out: &mut [u8], at: usize, code: &[u8]) -> usize
-    requires { (length code.now ≤ most_code) ×
-        (at + longest_line * instructions_in code.now ≤ length out.old) }
-    ensures { Puts out.old out.new at
-        (lines_text (lines_from code.now (instructions_in code.now) 0)) result }
-{
-    let count = code.len() / INSTRUCTION_BYTES;
-    let mut last = at;
-    let mut k = 0;
-    while k < count {
-        last = put_line(out, last, line_at(code, k));
-        k = k + 1;
+    // Puts a number in decimal. (`write!` would need a writer of our own over the rest of the
+    // buffer, and a proof that what it prints is `decimal`: no plainer than this.)
+    fn put_number(&mut self, n: usize)
+        requires { self.old.len + length (decimal n) ≤ length self.old.bytes }
+        ensures { Puts self.old.bytes self.new.bytes self.old.len (decimal n) self.new.len }
+    {
+        if n < 10 {
+            return self.put_byte(b'0' + (n as u8));
+        }
+        self.put_number(n / 10);
+        self.put_byte(b'0' + ((n % 10) as u8));
     }
-    last
-}
 
-// Puts the one line of a refusal.
-fn put_refusal(out: &mut [u8], number: usize, position: usize) -> usize
-    requires { most_text ≤ length out.old }
-    ensures { Puts out.old out.new 0
-        (text (refused_listing number position)) result }
-{
-    writing::write_bytes(out, 0, b"refused ");
-    let last = put_field(out, 8, number, b' ');
-    put_field(out, last, position, b'\n')
-}
+    // Puts a number and the character after it.
+    fn put_field(&mut self, n: usize, after: u8)
+        requires { self.old.len + length (field n after) ≤ length self.old.bytes }
+        ensures { Puts self.old.bytes self.new.bytes self.old.len (field n after) self.new.len }
+    {
+        self.put_number(n);
+        self.put_byte(after);
+    }
 
-// Puts the listing of code: the heading, and the lines.
-fn put_code(out: &mut [u8], code: &[u8]) -> usize
-    requires { (most_text ≤ length out.old) × (length code.now ≤ most_code) }
-    ensures { Puts out.old out.new 0
-        (text (listing_of (done code.now))) result }
-{
-    writing::write_bytes(out, 0, b"code ");
-    let last = put_field(out, 5, code.len() / INSTRUCTION_BYTES, b'\n');
-    put_lines(out, last, code)
-}
+    // Puts a number with its sign, and a newline.
+    fn put_signed(&mut self, n: i32)
+        requires { self.old.len + length (signed_field n) ≤ length self.old.bytes }
+        ensures { Puts self.old.bytes self.new.bytes self.old.len (signed_field n) self.new.len }
+    {
+        let digits = n.unsigned_abs() as usize;
+        if n < 0 {
+            self.put_byte(b'-');
+            return self.put_field(digits, b'\n');
+        }
+        self.put_field(digits, b'\n');
+    }
 
-// Puts the listing of a program file.
-fn put_listing(out: &mut [u8], file: &[u8]) -> usize
-    requires { most_text ≤ length out.old }
-    ensures { Puts out.old out.new 0
-        (text (listing file.now)) result }
-{
-    let mut code = [0u8; CODE_BYTES];
-    let filled = translate::translate_file(file, &mut code);
-    match filled {
-        Filled::Refused(why, position) => put_refusal(
-            out,
-            refusal::number_of(why) as usize,
-            position,
-        ),
-        Filled::Written(bytes) => put_code(out, &code[..bytes]),
+    // Puts a line.
+    fn put_line(&mut self, l: Line)
+        requires { self.old.len + length (line_text (shown l)) ≤ length self.old.bytes }
+        ensures { Puts self.old.bytes self.new.bytes self.old.len
+            (line_text (shown l)) self.new.len }
+    {
+        self.put_field(l.address, b' ');
+        self.put_field(l.opcode as usize, b' ');
+        self.put_field(l.byte1 as usize, b' ');
+        self.put_field(l.operand as usize, b' ');
+        self.put_signed(l.number);
+    }
+
+    // Puts the lines of code.
+    fn put_lines(&mut self, code: &[u8])
+        requires { (length code.now ≤ most_code) ×
+            (self.old.len + longest_line * instructions_in code.now ≤ length self.old.bytes) }
+        ensures { Puts self.old.bytes self.new.bytes self.old.len
+            (lines_text (lines_from code.now (instructions_in code.now) 0)) self.new.len }
+    {
+        for k in 0..code.len() / INSTRUCTION_BYTES {
+            self.put_line(line_at(code, k));
+        }
+    }
+
+    // Puts the one line of a refusal.
+    fn put_refusal(&mut self, number: usize, position: usize)
+        requires { self.old.len + most_text ≤ length self.old.bytes }
+        ensures { Puts self.old.bytes self.new.bytes self.old.len
+            (text (refused_listing number position)) self.new.len }
+    {
+        self.put_word(b"refused ");
+        self.put_field(number, b' ');
+        self.put_field(position, b'\n');
+    }
+
+    // Puts the listing of code: the heading, and the lines.
+    fn put_code(&mut self, code: &[u8])
+        requires { (self.old.len + most_text ≤ length self.old.bytes) ×
+            (length code.now ≤ most_code) }
+        ensures { Puts self.old.bytes self.new.bytes self.old.len
+            (text (listing_of (done code.now))) self.new.len }
+    {
+        self.put_word(b"code ");
+        self.put_field(code.len() / INSTRUCTION_BYTES, b'\n');
+        self.put_lines(code);
+    }
+
+    // Puts the listing of a program file.
+    fn put_listing(&mut self, file: &[u8])
+        requires { self.old.len + most_text ≤ length self.old.bytes }
+        ensures { Puts self.old.bytes self.new.bytes self.old.len
+            (text (listing file.now)) self.new.len }
+    {
+        let mut code = [0u8; CODE_BYTES];
+        match translate::translate_file(file, &mut code) {
+            Ok(bytes) => self.put_code(&code[..bytes]),
+            Err(refused) => self.put_refusal(u32::from(refused.why) as usize, refused.position),
+        }
     }
 }
 
 // Reads until the buffer is full, the input ends or a read fails, and answers how many bytes it put
-// at the start of the buffer. A failed read is taken for the end of the input.
+// at the start of the buffer. A failed read is taken for the end of the input. (The library's
+// `read_exact` says nothing of an input that is shorter, and `read_to_end` needs a heap.)
 fn read_full<R: Read>(input: &mut R, buffer: &mut [u8]) -> usize
     ensures inside { result ≤ length buffer.new }
     ensures count { result ≡ length (take result buffer.new) }
@@ -196,27 +204,14 @@ fn read_full<R: Read>(input: &mut R, buffer: &mut [u8]) -> usize
     done
 }
 
-// Writes all of the text and answers true, or stops at the first write that takes nothing or fails
-// and answers false, when some of the text may have been written.
-fn write_all<W: Write>(output: &mut W, text: &[u8]) -> bool
-    ensures { result ≡ true →
-        Appends (W.contents output.old) (W.contents output.new) text.now }
-{
-    let mut done = 0;
-    while done < text.len() {
-        match output.write(&text[done..]) {
-            Ok(0) => return false,
-            Ok(n) => done += n,
-            Err(_) => return false,
-        }
-    }
-    true
-}
-
 fn main(rt: HostRuntime) {
     let mut file = [0u8; INPUT_BYTES];
     let bytes = read_full(&mut rt.stdin(), &mut file);
-    let mut out = [0u8; TEXT_BYTES];
-    let last = put_listing(&mut out, &file[..bytes]);
-    write_all(&mut rt.stdout(), &out[..last]);
+    let mut text = Text {
+        bytes: [0u8; TEXT_BYTES],
+        len: 0,
+    };
+    text.put_listing(&file[..bytes]);
+    // A failed write is not told: there is nowhere to tell it.
+    let _ = rt.stdout().write_all(text.as_bytes());
 }

@@ -1,25 +1,48 @@
-// The stream run: instruction after instruction, over any code buffer.
+// The stream run: instruction after instruction, over any code buffer (`perform`), and over the
+// code of a checked program (`run_checked`). That code is never refused with 19, so its loop makes
+// no test for it: not whether an address holds an instruction, whether an opcode is above 13 or a
+// return byte above 1, whether words are missing or surplus. What performs an opcode is written
+// once for both loops, and TESTED says whether it makes those tests.
 #![tactic(auto)]
 
-ghost use Rattle.std.specs.Prelude.{◌+◌, ◌*◌, ◌≤◌, ◌<◌, ◌≡◌, length};
-ghost use Rattle.formats.specs.Numbers.{number_at};
+ghost use Rattle.std.specs.Prelude.{◌+◌, ◌*◌, ◌≤◌, ◌<◌, ◌≡◌, ◌-◌, ◌↔◌, false, [], length, slice_index, IsTrue};
 ghost use Rattle.formats.specs.Records.{record_at};
 ghost use Rattle.meaning.specs.Instructions.{instruction_bytes, Push, Get, Add, Ifnot, Slide, Drop, WriteNumber, ReadTag, ReadNumber, Call, Return};
-ghost use Rattle.meaning.specs.Running.{value_words, return_words, none_done, stream_run};
-ghost use Rattle.machine_state.specs.Inner.States.{Sound, Going, Lent, limit_of, next_to, left};
-ghost use Rattle.operations.specs.Inner.Effects.{OnNumbers, OnValues, WritesTag, OnOutput, FromInput, OnInput, OnReturns, FromReturns, Performs, Steps};
-ghost use Rattle.machine_state.specs.Inner.Answers.{run_answer, Performed};
+ghost use Rattle.meaning.specs.Running.{value_words, return_words, stream_run};
+ghost use Rattle.machine_state.specs.Inner.States.{Sound, Going, Lent, limit_of, stopped_by, next_to, jump_to, left};
+ghost use Rattle.machine_state.specs.declared.Stop.TheVariants.{CannotPerform};
+ghost use Rattle.operations.specs.Inner.Effects.{OnNumbers, OnValues, WritesTag, OnOutput, FromInput, OnInput, OnReturns, FromReturns, Steps};
+ghost use Rattle.operations.specs.Inner.Checked.{NeverCannot, Able, Words, Room, ReturnByte, Fuelled, Turns};
+ghost use Rattle.meaning.specs.CannotPerform.{last_opcode};
+ghost use Rattle.machine_state.specs.Inner.Answers.{Performed};
 
+use instruction::INSTRUCTION_BYTES;
 use machine_state::{
-    Answer, CANNOT_PERFORM, ENDED, GOES_ON, INPUT_ENDED, INSTRUCTION_BYTES, LABEL_BYTES, LEAF_TAG,
-    MOST_SAVED, Machine, NODE_TAG, NOT_A_TAG, OUT_OF_RANGE, OUTPUT_FULL, RETURN_WORDS,
-    TOO_MANY_CALLS, VALUE_WORDS,
+    Answer, MOST_SAVED, Machine, NUMBER, OPERAND, RETURN_WORDS, Stop, VALUE_WORDS,
 };
-use numbers::Sum;
-use refusal::{Refusal, Verdict};
+use refusal::Refusal;
+use tree::{LABEL_BYTES, LEAF_TAG, NODE_TAG};
 
 // The most instructions that code has: from this address on none is performed.
 const MOST_INSTRUCTIONS: usize = 4128;
+
+// A run begins with no words, at address 0.
+const START: Machine = Machine {
+    stop: Stop::GoesOn,
+    address: 0,
+    top: 0,
+    base: 0,
+    saved: 0,
+    read: 0,
+    written: 0,
+};
+
+// Code that is never refused with 19, whatever it reads and however long its output is.
+#[derive(Clone, Copy)]
+pub struct CheckedCode<'a> {
+    pub code: &'a [u8],
+    pub ghost never_19: { NeverCannot code.now },
+}
 
 // The bytes of the instruction at an address that holds one.
 fn fetch(code: &[u8], address: usize) -> &[u8]
@@ -31,198 +54,305 @@ fn fetch(code: &[u8], address: usize) -> &[u8]
     &code[p..p + INSTRUCTION_BYTES]
 }
 
-// The operand in the bytes of an instruction.
-fn operand_of(i: &[u8]) -> u16
-    requires { instruction_bytes ≤ length i.now }
-    ensures { result ≡ number_at 2 i.now 2 }
-{
-    words::word16(i[2], i[3])
-}
-
-// The number in the bytes of an instruction.
-fn number_of(i: &[u8]) -> u32
-    requires { instruction_bytes ≤ length i.now }
-    ensures { result ≡ number_at 4 i.now 4 }
-{
-    words32::word32(i[4], i[5], i[6], i[7])
-}
+// Each function below asks what its own step needs of the machine and of the lent words, in clauses
+// of its own: no two ask the same.
 
 // The machine at the next address, with its frame's words up to `top`.
 fn next(s: Machine, top: usize) -> Machine
     requires { Sound s }
     ensures { result ≡ next_to top s }
 {
-    let mut r = s;
-    r.address = s.address + 1;
-    r.top = top;
-    r
+    Machine {
+        address: s.address + 1,
+        top,
+        ..s
+    }
 }
 
-// 0 push: a number is the new top word. `get` uses it too.
-fn push(s: Machine, number: u32, values: &mut [u32]) -> Machine
+// The three tests for 19 within an instruction, which only the loop of any code makes: they fail in
+// the code of a checked program.
+
+// Whether fewer words stand above the frame's base.
+fn lacks<const TESTED: bool>(s: Machine, words: usize) -> bool
     requires sound { Sound s }
-    requires value_words_in_bounds { value_words ≤ length values.old }
-    ensures { OnValues (Push number) values.old values.new s result }
+    requires words { TESTED ≡ false → Words words s }
+    ensures { IsTrue result ↔ (s.top - s.base < words) }
 {
-    let top = s.top;
-    if VALUE_WORDS <= top {
-        return machine_state::stopped(s, CANNOT_PERFORM);
+    TESTED && s.top - s.base < words
+}
+
+// Whether there is no room for a word more.
+fn is_full<const TESTED: bool>(s: Machine) -> bool
+    requires { TESTED ≡ false → Room s }
+    ensures { IsTrue result ↔ (value_words ≤ s.top) }
+{
+    TESTED && VALUE_WORDS <= s.top
+}
+
+// Whether a return is to keep more than one word.
+fn keeps_more<const TESTED: bool>(kept: u8) -> bool
+    requires { TESTED ≡ false → ReturnByte kept }
+    ensures { IsTrue result ↔ (1 < kept) }
+{
+    TESTED && 1 < kept
+}
+
+// Each function of an opcode is given the fuel that is left, and stops the machine with 14 where
+// there is none, before it changes anything. The loop of any code, which looks at the fuel itself,
+// gives 1.
+
+// A word is put on top of the frame's words, where there is room.
+fn put(s: Machine, word: u32, values: &mut [u32; VALUE_WORDS]) -> Machine
+    requires sound { Sound s }
+    requires room { Room s }
+    ensures { OnValues (Push word) values.old values.new s result }
+{
+    values[s.top] = word;
+    next(s, s.top + 1)
+}
+
+// 0 push: a number is the new top word.
+fn push<const TESTED: bool>(
+    s: Machine,
+    fuel: u64,
+    number: u32,
+    values: &mut [u32; VALUE_WORDS],
+) -> Machine
+    requires sound { Sound s }
+    requires room { TESTED ≡ false → Room s }
+    ensures { Fuelled fuel values.old values.new s result
+        (OnValues (Push number) values.old values.new s result) }
+{
+    if fuel == 0 {
+        return s.stopped(Stop::FuelUsedUp);
     }
-    values[top] = number;
-    next(s, top + 1)
+    if is_full::<TESTED>(s) {
+        return s.stopped(Stop::CannotPerform);
+    }
+    put(s, number, values)
 }
 
 // 1 get: pushes the word that stands k above the base.
-fn get(s: Machine, k: u16, values: &mut [u32]) -> Machine
+fn get<const TESTED: bool>(
+    s: Machine,
+    fuel: u64,
+    k: u16,
+    values: &mut [u32; VALUE_WORDS],
+) -> Machine
     requires sound { Sound s }
-    requires value_words_in_bounds { value_words ≤ length values.old }
-    ensures { OnValues (Get k) values.old values.new s result }
+    requires room { TESTED ≡ false → Room s }
+    requires words { TESTED ≡ false → Words (k + 1) s }
+    ensures { Fuelled fuel values.old values.new s result
+        (OnValues (Get k) values.old values.new s result) }
 {
-    let base = s.base;
-    let top = s.top;
-    let k = k as usize;
-    if top - base <= k {
-        return machine_state::stopped(s, CANNOT_PERFORM);
+    if fuel == 0 {
+        return s.stopped(Stop::FuelUsedUp);
     }
-    let word = values[base + k];
-    push(s, word, values)
+    let k = k as usize;
+    if lacks::<TESTED>(s, k + 1) {
+        return s.stopped(Stop::CannotPerform);
+    }
+    if is_full::<TESTED>(s) {
+        return s.stopped(Stop::CannotPerform);
+    }
+    put(s, values[s.base + k], values)
 }
 
 // 2 add: replaces the two top words by their sum, if it is in range.
-fn add(s: Machine, values: &mut [u32]) -> Machine
+fn add<const TESTED: bool>(s: Machine, fuel: u64, values: &mut [u32; VALUE_WORDS]) -> Machine
     requires sound { Sound s }
-    requires value_words_in_bounds { value_words ≤ length values.old }
-    ensures { OnValues Add values.old values.new s result }
+    requires words { TESTED ≡ false → Words 2 s }
+    ensures { Fuelled fuel values.old values.new s result
+        (OnValues Add values.old values.new s result) }
 {
-    let top = s.top;
-    if top - s.base < 2 {
-        return machine_state::stopped(s, CANNOT_PERFORM);
+    if fuel == 0 {
+        return s.stopped(Stop::FuelUsedUp);
     }
+    if lacks::<TESTED>(s, 2) {
+        return s.stopped(Stop::CannotPerform);
+    }
+    let top = s.top;
     match numbers::sum_of(values[top - 2], values[top - 1]) {
-        Sum::Word(word) => {
+        Some(word) => {
             values[top - 2] = word;
             next(s, top - 1)
         }
-        Sum::OutOfRange => machine_state::stopped(s, OUT_OF_RANGE),
+        None => s.stopped(Stop::OutOfRange),
     }
 }
 
 // 3 ifnot: takes the top word, and goes to the address if the word is not 0.
-fn ifnot(s: Machine, address: u16, values: &[u32]) -> Machine
+fn ifnot<const TESTED: bool>(
+    s: Machine,
+    fuel: u64,
+    address: u16,
+    values: &[u32; VALUE_WORDS],
+) -> Machine
     requires sound { Sound s }
-    requires value_words_in_bounds { value_words ≤ length values.now }
-    ensures { OnValues (Ifnot address) values.now values.now s result }
+    requires words { TESTED ≡ false → Words 1 s }
+    ensures { Fuelled fuel values.now values.now s result
+        (OnValues (Ifnot address) values.now values.now s result) }
 {
-    let top = s.top;
-    if top <= s.base {
-        return machine_state::stopped(s, CANNOT_PERFORM);
+    if fuel == 0 {
+        return s.stopped(Stop::FuelUsedUp);
     }
-    let mut r = next(s, top - 1);
-    if values[top - 1] != 0 {
-        r.address = address as usize;
+    if lacks::<TESTED>(s, 1) {
+        return s.stopped(Stop::CannotPerform);
     }
-    r
+    let top = s.top - 1;
+    if values[top] != 0 {
+        next(s, top).jump(address)
+    } else {
+        next(s, top)
+    }
+}
+
+// 4 jump.
+fn jump(s: Machine, fuel: u64, address: u16) -> Machine
+    ensures { Fuelled fuel [] [] s result (result ≡ jump_to address s) }
+{
+    if fuel == 0 {
+        return s.stopped(Stop::FuelUsedUp);
+    }
+    s.jump(address)
 }
 
 // 5 slide: removes the word under the top.
-fn slide(s: Machine, values: &mut [u32]) -> Machine
+fn slide<const TESTED: bool>(s: Machine, fuel: u64, values: &mut [u32; VALUE_WORDS]) -> Machine
     requires sound { Sound s }
-    requires value_words_in_bounds { value_words ≤ length values.old }
-    ensures { OnValues Slide values.old values.new s result }
+    requires words { TESTED ≡ false → Words 2 s }
+    ensures { Fuelled fuel values.old values.new s result
+        (OnValues Slide values.old values.new s result) }
 {
-    let top = s.top;
-    if top - s.base < 2 {
-        return machine_state::stopped(s, CANNOT_PERFORM);
+    if fuel == 0 {
+        return s.stopped(Stop::FuelUsedUp);
     }
+    if lacks::<TESTED>(s, 2) {
+        return s.stopped(Stop::CannotPerform);
+    }
+    let top = s.top;
     values[top - 2] = values[top - 1];
     next(s, top - 1)
 }
 
 // 6 drop: removes the top word.
-fn drop(s: Machine) -> Machine
-    requires { Sound s }
-    ensures { OnNumbers Drop s result }
+fn drop<const TESTED: bool>(s: Machine, fuel: u64) -> Machine
+    requires sound { Sound s }
+    requires words { TESTED ≡ false → Words 1 s }
+    ensures { Fuelled fuel [] [] s result (OnNumbers Drop s result) }
 {
-    let top = s.top;
-    if top <= s.base {
-        return machine_state::stopped(s, CANNOT_PERFORM);
+    if fuel == 0 {
+        return s.stopped(Stop::FuelUsedUp);
     }
-    next(s, top - 1)
+    if lacks::<TESTED>(s, 1) {
+        return s.stopped(Stop::CannotPerform);
+    }
+    next(s, s.top - 1)
 }
 
 // 7 leaf tag and 8 node tag: writes the tag.
-fn write_tag(s: Machine, tag: u8, output: &mut [u8]) -> Machine
+fn write_tag(s: Machine, fuel: u64, tag: u8, output: &mut [u8]) -> Machine
     requires { Sound s }
-    ensures { WritesTag tag output.old output.new s result }
+    ensures { Fuelled fuel output.old output.new s result
+        (WritesTag tag output.old output.new s result) }
 {
+    if fuel == 0 {
+        return s.stopped(Stop::FuelUsedUp);
+    }
     let written = s.written;
     if output.len() <= written {
-        return machine_state::stopped(s, OUTPUT_FULL);
+        return s.stopped(Stop::OutputFull);
     }
     output[written] = tag;
-    let mut r = next(s, s.top);
-    r.written = written + 1;
-    r
+    Machine {
+        written: written + 1,
+        ..next(s, s.top)
+    }
 }
 
 // 9 write number: takes the top word, and writes its four bytes.
-fn write_number(s: Machine, values: &[u32], output: &mut [u8]) -> Machine
+fn write_number<const TESTED: bool>(
+    s: Machine,
+    fuel: u64,
+    values: &[u32; VALUE_WORDS],
+    output: &mut [u8],
+) -> Machine
     requires sound { Sound s }
-    requires value_words_in_bounds { value_words ≤ length values.now }
+    requires words { TESTED ≡ false → Words 1 s }
     requires written_in_bounds { s.written ≤ length output.old }
-    ensures { OnOutput WriteNumber values.now output.old
-        output.new s result }
+    ensures { Fuelled fuel output.old output.new s result
+        (OnOutput WriteNumber values.now output.old output.new s
+        result) }
 {
+    if fuel == 0 {
+        return s.stopped(Stop::FuelUsedUp);
+    }
+    if lacks::<TESTED>(s, 1) {
+        return s.stopped(Stop::CannotPerform);
+    }
     let top = s.top;
     let written = s.written;
-    if top <= s.base {
-        return machine_state::stopped(s, CANNOT_PERFORM);
-    }
     if output.len() - written < LABEL_BYTES {
-        return machine_state::stopped(s, OUTPUT_FULL);
+        return s.stopped(Stop::OutputFull);
     }
     words32::write32(output, written, values[top - 1]);
-    let mut r = next(s, top - 1);
-    r.written = written + LABEL_BYTES;
-    r
+    Machine {
+        written: written + LABEL_BYTES,
+        ..next(s, top - 1)
+    }
 }
 
 // 10 read tag: a leaf goes on, a node goes to the address.
-fn read_tag(s: Machine, address: u16, input: &[u8]) -> Machine
+fn read_tag(s: Machine, fuel: u64, address: u16, input: &[u8]) -> Machine
     requires { Sound s }
-    ensures { OnInput (ReadTag address) input.now s result }
+    ensures { Fuelled fuel [] [] s result (OnInput (ReadTag address) input.now s
+        result) }
 {
+    if fuel == 0 {
+        return s.stopped(Stop::FuelUsedUp);
+    }
     let read = s.read;
     if input.len() <= read {
-        return machine_state::stopped(s, INPUT_ENDED);
+        return s.stopped(Stop::InputEnded);
     }
     let tag = input[read];
-    let mut r = next(s, s.top);
-    r.read = read + 1;
+    let r = Machine {
+        read: read + 1,
+        ..next(s, s.top)
+    };
     if tag == LEAF_TAG {
         return r;
     }
     if tag == NODE_TAG {
-        return machine_state::jump(r, address);
+        return r.jump(address);
     }
-    machine_state::stopped(s, NOT_A_TAG)
+    s.stopped(Stop::NotATag)
 }
 
 // 11 read number: pushes a label.
-fn read_number(s: Machine, values: &mut [u32], input: &[u8]) -> Machine
+fn read_number<const TESTED: bool>(
+    s: Machine,
+    fuel: u64,
+    values: &mut [u32; VALUE_WORDS],
+    input: &[u8],
+) -> Machine
     requires sound { Sound s }
-    requires value_words_in_bounds { value_words ≤ length values.old }
+    requires room { TESTED ≡ false → Room s }
     requires read_in_bounds { s.read ≤ length input.now }
-    ensures { FromInput ReadNumber input.now values.old
-        values.new s result }
+    ensures { Fuelled fuel values.old values.new s result
+        (FromInput ReadNumber input.now values.old values.new s
+        result) }
 {
+    if fuel == 0 {
+        return s.stopped(Stop::FuelUsedUp);
+    }
+    if is_full::<TESTED>(s) {
+        return s.stopped(Stop::CannotPerform);
+    }
     let top = s.top;
     let read = s.read;
-    if VALUE_WORDS <= top {
-        return machine_state::stopped(s, CANNOT_PERFORM);
-    }
     if input.len() - read < LABEL_BYTES {
-        return machine_state::stopped(s, INPUT_ENDED);
+        return s.stopped(Stop::InputEnded);
     }
     values[top] = words32::word32(
         input[read],
@@ -230,109 +360,157 @@ fn read_number(s: Machine, values: &mut [u32], input: &[u8]) -> Machine
         input[read + 2],
         input[read + 3],
     );
-    let mut r = next(s, top + 1);
-    r.read = read + LABEL_BYTES;
-    r
+    Machine {
+        read: read + LABEL_BYTES,
+        ..next(s, top + 1)
+    }
 }
 
 // 12 call: the arguments are the new frame's first words.
-fn call(s: Machine, entry: u16, arguments: u8, returns: &mut [u64]) -> Machine
+fn call<const TESTED: bool>(
+    s: Machine,
+    fuel: u64,
+    entry: u16,
+    arguments: u8,
+    returns: &mut [u64; RETURN_WORDS],
+) -> Machine
     requires sound { Sound s }
-    requires return_words_in_bounds { return_words ≤ length returns.old }
-    ensures { OnReturns (Call entry arguments) returns.old returns.new s
-        result }
+    requires words { TESTED ≡ false → Words arguments s }
+    ensures { Fuelled fuel returns.old returns.new s result
+        (OnReturns (Call entry arguments) returns.old returns.new s result) }
 {
-    let arguments = arguments as usize;
-    let saved = s.saved;
-    if s.top - s.base < arguments {
-        return machine_state::stopped(s, CANNOT_PERFORM);
+    if fuel == 0 {
+        return s.stopped(Stop::FuelUsedUp);
     }
+    let arguments = arguments as usize;
+    if lacks::<TESTED>(s, arguments) {
+        return s.stopped(Stop::CannotPerform);
+    }
+    let saved = s.saved;
     if MOST_SAVED <= saved {
-        return machine_state::stopped(s, TOO_MANY_CALLS);
+        return s.stopped(Stop::TooManyCalls);
     }
     returns[saved] = (s.address + 1) as u64;
     returns[saved + 1] = s.base as u64;
-    let mut r = machine_state::jump(s, entry);
-    r.base = s.top - arguments;
-    r.saved = saved + 2;
-    r
+    Machine {
+        base: s.top - arguments,
+        saved: saved + 2,
+        ..s.jump(entry)
+    }
 }
 
 // Leaves the frame, with its words cut down to `top`. Where it is the first frame, the run has
 // ended.
-fn leave(s: Machine, top: usize, returns: &[u64]) -> Machine
+fn leave(s: Machine, top: usize, returns: &[u64; RETURN_WORDS]) -> Machine
     requires { s.saved ≤ length returns.now }
     ensures { result ≡ left returns.now top s }
 {
     let saved = s.saved;
-    let mut r = s;
-    r.top = top;
     if saved < 2 {
-        r.stop = ENDED;
-        return r;
+        return Machine {
+            stop: Stop::Ended,
+            top,
+            ..s
+        };
     }
-    r.address = returns[saved - 2] as usize;
-    r.base = returns[saved - 1] as usize;
-    r.saved = saved - 2;
-    r
+    Machine {
+        address: returns[saved - 2] as usize,
+        base: returns[saved - 1] as usize,
+        saved: saved - 2,
+        top,
+        ..s
+    }
 }
 
 // 13 return, with no word or one word kept.
-fn give_back(s: Machine, kept: u8, values: &mut [u32], returns: &[u64]) -> Machine
+fn give_back<const TESTED: bool>(
+    s: Machine,
+    fuel: u64,
+    kept: u8,
+    values: &mut [u32; VALUE_WORDS],
+    returns: &[u64; RETURN_WORDS],
+) -> Machine
     requires sound { Sound s }
-    requires value_words_in_bounds { value_words ≤ length values.old }
+    requires return_byte { TESTED ≡ false → ReturnByte kept }
+    requires words { TESTED ≡ false → Words kept s }
     requires saved_in_bounds { s.saved ≤ length returns.now }
-    ensures { FromReturns (Return kept) returns.now values.old
-        values.new s result }
+    ensures { Fuelled fuel values.old values.new s result
+        (FromReturns (Return kept) returns.now values.old
+        values.new s result) }
 {
+    if fuel == 0 {
+        return s.stopped(Stop::FuelUsedUp);
+    }
     let base = s.base;
-    let top = s.top;
     if kept == 0 {
         return leave(s, base, returns);
     }
-    if kept != 1 {
-        return machine_state::stopped(s, CANNOT_PERFORM);
+    if keeps_more::<TESTED>(kept) {
+        return s.stopped(Stop::CannotPerform);
     }
-    if top <= base {
-        return machine_state::stopped(s, CANNOT_PERFORM);
+    if lacks::<TESTED>(s, 1) {
+        return s.stopped(Stop::CannotPerform);
     }
-    values[base] = values[top - 1];
+    values[base] = values[s.top - 1];
     leave(s, base + 1, returns)
 }
 
-// One instruction performed, by its opcode: an arm reads only the fields that it uses.
-fn step(
+// No operation: an opcode above 13.
+fn no_operation(s: Machine, fuel: u64) -> Machine
+    ensures { Fuelled fuel [] [] s result (result ≡ stopped_by CannotPerform s) }
+{
+    if fuel == 0 {
+        return s.stopped(Stop::FuelUsedUp);
+    }
+    s.stopped(Stop::CannotPerform)
+}
+
+// The opcode in the bytes of an instruction. A checked program has none above 13: the mask spares
+// its loop the test of the range.
+fn opcode_of<const TESTED: bool>(i: &[u8]) -> u8
+    requires instruction_bytes_in_bounds { instruction_bytes ≤ length i.now }
+    requires low { TESTED ≡ false → slice_index i.now 0 ≤ last_opcode }
+    ensures { result ≡ slice_index i.now 0 }
+{
+    if TESTED { i[0] } else { i[0] % 16 }
+}
+
+// One instruction performed, by its opcode, if any of the fuel is left: an arm reads only the
+// fields that it uses. Every number under the mask has an arm.
+fn step<const TESTED: bool>(
     s: Machine,
+    fuel: u64,
     i: &[u8],
     input: &[u8],
     output: &mut [u8],
-    values: &mut [u32],
-    returns: &mut [u64],
+    values: &mut [u32; VALUE_WORDS],
+    returns: &mut [u64; RETURN_WORDS],
 ) -> Machine
     requires sound { Sound s }
     requires instruction_bytes_in_bounds { instruction_bytes ≤ length i.now }
     requires lent { Lent s input.now output.old values.old returns.old }
-    ensures { Performs (record_at i.now 0) input.now
+    requires able { TESTED ≡ false → Able (record_at i.now 0) s }
+    ensures { Turns fuel (record_at i.now 0) input.now
         values.old returns.old output.old values.new
         returns.new output.new s result }
 {
-    let opcode = i[0];
-    match opcode {
-        0 => push(s, number_of(i), values),
-        1 => get(s, operand_of(i), values),
-        2 => add(s, values),
-        3 => ifnot(s, operand_of(i), values),
-        4 => machine_state::jump(s, operand_of(i)),
-        5 => slide(s, values),
-        6 => drop(s),
-        7 => write_tag(s, LEAF_TAG, output),
-        8 => write_tag(s, NODE_TAG, output),
-        9 => write_number(s, values, output),
-        10 => read_tag(s, operand_of(i), input),
-        11 => read_number(s, values, input),
-        12 => call(s, operand_of(i), i[1], returns),
-        13 => give_back(s, i[1], values, returns),
-        _ => machine_state::stopped(s, CANNOT_PERFORM),
+    match opcode_of::<TESTED>(i) {
+        0 => push::<TESTED>(s, fuel, words32::read32(i, NUMBER), values),
+        1 => get::<TESTED>(s, fuel, words::read16(i, OPERAND), values),
+        2 => add::<TESTED>(s, fuel, values),
+        3 => ifnot::<TESTED>(s, fuel, words::read16(i, OPERAND), values),
+        4 => jump(s, fuel, words::read16(i, OPERAND)),
+        5 => slide::<TESTED>(s, fuel, values),
+        6 => drop::<TESTED>(s, fuel),
+        7 => write_tag(s, fuel, LEAF_TAG, output),
+        8 => write_tag(s, fuel, NODE_TAG, output),
+        9 => write_number::<TESTED>(s, fuel, values, output),
+        10 => read_tag(s, fuel, words::read16(i, OPERAND), input),
+        11 => read_number::<TESTED>(s, fuel, values, input),
+        12 => call::<TESTED>(s, fuel, words::read16(i, OPERAND), i[1], returns),
+        13 => give_back::<TESTED>(s, fuel, i[1], values, returns),
+        14 => no_operation(s, fuel),
+        _ => no_operation(s, fuel),
     }
 }
 
@@ -340,22 +518,18 @@ fn step(
 fn limit(bytes: usize) -> usize
     ensures { result ≡ limit_of bytes }
 {
-    let whole = bytes / INSTRUCTION_BYTES;
-    if MOST_INSTRUCTIONS < whole {
-        return MOST_INSTRUCTIONS;
-    }
-    whole
+    MOST_INSTRUCTIONS.min(bytes / INSTRUCTION_BYTES)
 }
 
-// One step: the instruction at the address is performed, if it holds one.
+// One step of any code: the instruction at the address is performed, if it holds one.
 fn turn(
     s: Machine,
     limit: usize,
     code: &[u8],
     input: &[u8],
     output: &mut [u8],
-    values: &mut [u32],
-    returns: &mut [u64],
+    values: &mut [u32; VALUE_WORDS],
+    returns: &mut [u64; RETURN_WORDS],
 ) -> Machine
     requires going { Going s }
     requires limit_value { limit ≡ limit_of (length code.now) }
@@ -364,68 +538,68 @@ fn turn(
         returns.old output.old values.new returns.new
         output.new s result }
 {
-    let address = s.address;
-    if limit <= address {
-        return machine_state::stopped(s, CANNOT_PERFORM);
+    if limit <= s.address {
+        return s.stopped(Stop::CannotPerform);
     }
-    step(s, fetch(code, address), input, output, values, returns)
+    step::<true>(s, 1, fetch(code, s.address), input, output, values, returns)
 }
 
-// The answer where work words are missing.
-fn too_short() -> Answer
-    ensures { run_answer result ≡ none_done }
-{
-    Answer {
-        verdict: Verdict::Refused(Refusal::SpaceTooShort, 0),
-        units: 0,
-        read: 0,
-        written: 0,
-        number: 0,
-    }
-}
-
-// Instruction after instruction, from address 0, until one stops the run or the fuel is used up.
-fn run(
+// The stream run of any code in the work words that a run uses: instruction after instruction, from
+// address 0, until one stops the run or the fuel is used up.
+fn perform_in(
     fuel: u64,
     output: &mut [u8],
-    values: &mut [u32],
-    returns: &mut [u64],
+    values: &mut [u32; VALUE_WORDS],
+    returns: &mut [u64; RETURN_WORDS],
     code: &[u8],
     input: &[u8],
 ) -> Answer
-    requires value_words_in_bounds { value_words ≤ length values.old }
-    requires return_words_in_bounds { return_words ≤ length returns.old }
     ensures { Performed (stream_run code.now input.now
         output.old fuel (length values.old) (length returns.old))
         output.new values.old values.new returns.old
         returns.new result }
 {
     let limit = limit(code.len());
-    let mut s = Machine {
-        stop: GOES_ON,
-        address: 0,
-        top: 0,
-        base: 0,
-        saved: 0,
-        read: 0,
-        written: 0,
-    };
+    let mut s = START;
     for units in 0..fuel {
         s = turn(s, limit, code, input, output, values, returns);
-        if s.stop != GOES_ON {
-            return machine_state::report(s, units, values);
+        match s.stop {
+            Stop::GoesOn => {}
+            _ => return s.report(units, values),
         }
     }
-    Answer {
-        verdict: Verdict::Refused(Refusal::FuelUsedUp, s.read),
-        units: fuel,
-        read: s.read,
-        written: s.written,
-        number: 0,
+    s.stopped(Stop::FuelUsedUp).report(fuel, values)
+}
+
+// The same of code that is never refused with 19. What is left of the fuel is compared with 0 at
+// each instruction, before anything is changed or refused (docs/DECISIONS.md).
+fn run_checked_in(
+    fuel: u64,
+    output: &mut [u8],
+    values: &mut [u32; VALUE_WORDS],
+    returns: &mut [u64; RETURN_WORDS],
+    code: CheckedCode<'_>,
+    input: &[u8],
+) -> Answer
+    ensures { Performed (stream_run code.entry.code.now input.now
+        output.old fuel (length values.old) (length returns.old))
+        output.new values.old values.new returns.old
+        returns.new result }
+{
+    let mut s = START;
+    let mut units = 0;
+    loop {
+        let i = fetch(code.code, s.address);
+        s = step::<false>(s, fuel - units, i, input, output, values, returns);
+        match s.stop {
+            Stop::GoesOn => {}
+            _ => return s.report(units, values),
+        }
+        units = units + 1;
     }
 }
 
-// The stream run of any code: 13 first, where work words are missing, then the run.
+// The stream run of any code: 13 first, where work words are missing.
 pub fn perform(
     fuel: u64,
     output: &mut [u8],
@@ -439,11 +613,34 @@ pub fn perform(
         output.new values.old values.new returns.old
         returns.new result }
 {
-    if values.len() < VALUE_WORDS {
-        return too_short();
-    }
-    if returns.len() < RETURN_WORDS {
-        return too_short();
-    }
-    run(fuel, output, values, returns, code, input)
+    let Some(values) = values.first_chunk_mut::<VALUE_WORDS>() else {
+        return Answer::refused(Refusal::SpaceTooShort.at(0));
+    };
+    let Some(returns) = returns.first_chunk_mut::<RETURN_WORDS>() else {
+        return Answer::refused(Refusal::SpaceTooShort.at(0));
+    };
+    perform_in(fuel, output, values, returns, code, input)
+}
+
+// The same of code that is never refused with 19.
+pub fn run_checked(
+    fuel: u64,
+    output: &mut [u8],
+    values: &mut [u32],
+    returns: &mut [u64],
+    code: CheckedCode<'_>,
+    input: &[u8],
+) -> Answer
+    ensures { Performed (stream_run code.entry.code.now input.now
+        output.old fuel (length values.old) (length returns.old))
+        output.new values.old values.new returns.old
+        returns.new result }
+{
+    let Some(values) = values.first_chunk_mut::<VALUE_WORDS>() else {
+        return Answer::refused(Refusal::SpaceTooShort.at(0));
+    };
+    let Some(returns) = returns.first_chunk_mut::<RETURN_WORDS>() else {
+        return Answer::refused(Refusal::SpaceTooShort.at(0));
+    };
+    run_checked_in(fuel, output, values, returns, code, input)
 }

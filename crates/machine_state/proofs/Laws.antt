@@ -1,58 +1,55 @@
 -- The answer of a run that stops: a law for each way out of its functions.
-use Rattle.std.proofs.Common.{◌≡◌, ℕ, zero, suc, ◌+◌, ◌-◌, ◌%◌, ◌^◌, ◌<◌, ◌≤◌, ◌≢◌, List, [], ◌∷◌, length, get_or, sym, refl, ap, ◌∙◌, arith, eq-eqb, ne_eqb, le-leb}
-use native.Mathlib.Decide.{dec_le, ℕ_discrete}
-use borrow.Author.Tests.{lt-leb}
-use Rattle.formats.specs.Refusals.{fuel_used_up, input_ended, not_a_tag, output_full, too_many_calls, cannot_perform, out_of_range}
-use Rattle.formats.specs.Results.{refusal}
+use Rattle.std.proofs.Common.{◌≡◌, ℕ, suc, ◌+◌, ◌-◌, ◌%◌, ◌^◌, ◌<◌, ◌≤◌, ◌≢◌, Bool, true, false, List, ◌∷◌, get_or, Ok, Err, sym, refl, ap, ◌∙◌, arith}
+use mathlib.Core.Logic.{◌⊎◌, inl, inr}
+use Rattle.std.proofs.lemmas.Option.{unwrap_or-slice_get}
 use Rattle.refusal.specs.Inner.Numbers.{number}
 use Rattle.refusal.specs.declared.Refusal.{Refusal}
-use Rattle.refusal.specs.declared.Refusal.TheVariants.{FuelUsedUp}
-use Rattle.refusal.specs.declared.Verdict.TheVariants.{Passed, Refused}
+use Rattle.refusal.specs.declared.Refused.{Refused}
 use Rattle.meaning.specs.Performing.{number_kept}
-use Rattle.meaning.specs.Running.{Answer as Due}
 use Rattle.machine_state.specs.declared.Machine.{Machine}
 use Rattle.machine_state.specs.declared.Answer.{Answer}
-use Rattle.machine_state.specs.Inner.States.{words_from, frame_of, has_ended}
-use Rattle.machine_state.specs.Inner.Answers.{run_answer, refusal_number, due_at, Reports, in_64_bits, due_checked, ReportsChecked}
+use Rattle.machine_state.specs.declared.Stop.{Stop}
+use Rattle.machine_state.specs.declared.Stop.TheVariants.{GoesOn, Ended, FuelUsedUp, InputEnded, NotATag, OutputFull, TooManyCalls, CannotPerform, OutOfRange}
+use Rattle.machine_state.specs.Inner.States.{words_from, frame_of, goes_on, has_ended, refusal_number}
+use Rattle.machine_state.specs.Inner.Answers.{run_answer, due_at, Reports, in_64_bits}
 
--- ---- `refusal_of`
+-- ---- what a stop is not
 
-module _ (stop : ℕ) where
-  pub named_input : stop ≡ input_ended → input_ended ≡ refusal_number stop
-  unfolding refusal_number
-  named_input e = sym (ap refusal_number e)
+pub stops : (k : Stop) → k ≢ GoesOn → goes_on k ≡ false
+stops GoesOn h = absurd (h refl)
+stops Ended h = refl
+stops FuelUsedUp h = refl
+stops InputEnded h = refl
+stops NotATag h = refl
+stops OutputFull h = refl
+stops TooManyCalls h = refl
+stops CannotPerform h = refl
+stops OutOfRange h = refl
 
-  pub named_tag : stop ≡ not_a_tag → not_a_tag ≡ refusal_number stop
-  unfolding refusal_number
-  named_tag e = sym (ap refusal_number e)
+pub not_ended : (k : Stop) → k ≢ Ended → has_ended k ≡ false
+not_ended GoesOn h = refl
+not_ended Ended h = absurd (h refl)
+not_ended FuelUsedUp h = refl
+not_ended InputEnded h = refl
+not_ended NotATag h = refl
+not_ended OutputFull h = refl
+not_ended TooManyCalls h = refl
+not_ended CannotPerform h = refl
+not_ended OutOfRange h = refl
 
-  pub named_output : stop ≡ output_full → output_full ≡ refusal_number stop
-  unfolding refusal_number
-  named_output e = sym (ap refusal_number e)
+no_end : (k : Stop) → has_ended k ≡ false → k ≢ Ended
+no_end k h e = let wrong : true ≡ false = sym (ap has_ended e) ∙ h in cc
 
-  pub named_calls : stop ≡ too_many_calls → too_many_calls ≡ refusal_number stop
-  unfolding refusal_number
-  named_calls e = sym (ap refusal_number e)
-
-  pub named_range : stop ≡ out_of_range → out_of_range ≡ refusal_number stop
-  unfolding refusal_number
-  named_range e = sym (ap refusal_number e)
-
-  pub named_rest :
-      stop ≢ input_ended
-      → stop ≢ not_a_tag
-      → stop ≢ output_full
-      → stop ≢ too_many_calls
-      → stop ≢ out_of_range
-      → cannot_perform ≡ refusal_number stop
-  unfolding refusal_number
-  named_rest a b c d f =
-      elim (dec_le input_ended stop) [
-        | no low ↦ let few : stop < input_ended = omega arith in sym (simp (refusal_number, lt-leb _ _ few, ne_eqb stop out_of_range f))
-        | yes low ↦ let many : too_many_calls < stop = omega arith in sym (simp (refusal_number, le-leb _ _ low, lt-leb _ _ many, ne_eqb stop out_of_range f))
-      ]
-
-pub ruleset named = (named_input, named_tag, named_output, named_calls, named_range, named_rest)
+pub ended_or : (k : Stop) → (k ≡ Ended) ⊎ (k ≢ Ended)
+ended_or GoesOn = inr (no_end GoesOn refl)
+ended_or Ended = inl refl
+ended_or FuelUsedUp = inr (no_end FuelUsedUp refl)
+ended_or InputEnded = inr (no_end InputEnded refl)
+ended_or NotATag = inr (no_end NotATag refl)
+ended_or OutputFull = inr (no_end OutputFull refl)
+ended_or TooManyCalls = inr (no_end TooManyCalls refl)
+ended_or CannotPerform = inr (no_end CannotPerform refl)
+ended_or OutOfRange = inr (no_end OutOfRange refl)
 
 -- ---- `number_kept`
 
@@ -67,12 +64,6 @@ words_top values base top h =
     let there : base + (top - 1 - base) ≡ top - 1 = omega arith in
     ap (words_from values base) one_more ∙ ap (λ i. get_or values i 0 ∷ words_from values base (top - 1 - base)) there
 
--- past the end of the words there is 0
-past_end : (values : List ℕ) (k : ℕ) → length values ≤ k → get_or values k 0 ≡ 0
-past_end [] k h = refl
-past_end (x ∷ values) zero h = absurd (omega arith)
-past_end (x ∷ values) (suc k) h = past_end values k (omega arith)
-
 module _ (values : List ℕ) (s : Machine) where
   pub kept_none : s.top ≤ s.base → 0 ≡ number_kept (frame_of values s)
   unfolding words_from number_kept
@@ -82,31 +73,29 @@ module _ (values : List ℕ) (s : Machine) where
   unfolding number_kept
   kept_top some = sym (ap number_kept (words_top values s.base s.top some))
 
-  pub kept_past : s.base < s.top → length values < s.top → 0 ≡ number_kept (frame_of values s)
-  kept_past some few = sym (past_end values (s.top - 1) (omega arith)) ∙ kept_top some
-
-pub ruleset kept = (kept_none, kept_past, kept_top)
+pub ruleset kept = (kept_none, kept_top, unwrap_or-slice_get)
 
 -- ---- `report`
 
 module _ (values : List ℕ) (units : ℕ) (s : Machine) where
   pub wrapped_ended :
       (number more : ℕ)
-      → s.stop ≡ has_ended
+      → s.stop ≡ Ended
       → number ≡ number_kept (frame_of values s)
       → more ≡ (units + 1) % 2 ^ 64
-      → run_answer (record { verdict = Passed; units = more; read = s.read; written = s.written; number = number }) ≡ in_64_bits (due_at values units s)
+      → run_answer (record { verdict = Ok tt; units = more; read = s.read; written = s.written; number = number }) ≡ in_64_bits (due_at values units s)
   unfolding due_at
-  wrapped_ended number more e is counted = rw (due_at, eq-eqb _ _ e, is, counted) refl
+  wrapped_ended number more e is counted = rw (due_at, e, is, counted) refl
 
   pub wrapped_refused :
-      (why : Refusal)
-      → s.stop ≢ has_ended
+      (r : Refused) (why : Refusal)
+      → s.stop ≢ Ended
       → units < 2 ^ 64
       → number why ≡ refusal_number s.stop
-      → run_answer (record { verdict = Refused why s.read; units = units; read = s.read; written = s.written; number = 0 }) ≡ in_64_bits (due_at values units s)
+      → r ≡ record { why = why; position = s.read }
+      → run_answer (record { verdict = Err r; units = units; read = s.read; written = s.written; number = 0 }) ≡ in_64_bits (due_at values units s)
   unfolding due_at
-  wrapped_refused why h wide is = let fits : units % 2 ^ 64 ≡ units = omega arith in rw (due_at, ne_eqb _ _ h, is, fits) refl
+  wrapped_refused r why h wide is at = let fits : units % 2 ^ 64 ≡ units = omega arith in rw (due_at, not_ended _ h, at, is, fits) refl
 
   -- where the unit of the last return does not wrap, nothing is cut off
   due_fits : units + 1 < 2 ^ 64 → in_64_bits (due_at values units s) ≡ due_at values units s
@@ -114,54 +103,13 @@ module _ (values : List ℕ) (units : ℕ) (s : Machine) where
   due_fits wide =
       let one_more : (units + 1) % 2 ^ 64 ≡ units + 1 = omega arith in
       let none_more : units % 2 ^ 64 ≡ units = omega arith in
-      elim (ℕ_discrete s.stop has_ended) [
-        | yes e ↦ rw (due_at, eq-eqb _ _ e, one_more) refl
-        | no h ↦ rw (due_at, ne_eqb _ _ h, none_more) refl
-      ]
+      by (has_ended s.stop) refl one_more none_more
+    where
+      by : (t : Bool) → has_ended s.stop ≡ t → (units + 1) % 2 ^ 64 ≡ units + 1 → units % 2 ^ 64 ≡ units → in_64_bits (due_at values units s) ≡ due_at values units s
+      by true e one none = rw (due_at, e, one) refl
+      by false e one none = rw (due_at, e, none) refl
 
   pub reports_whole : (r : Answer) → run_answer r ≡ in_64_bits (due_at values units s) → units + 1 < 2 ^ 64 → Reports values units s r
   reports_whole r is wide = record { reports = is ∙ due_fits wide }
 
 pub ruleset reported = (wrapped_ended, wrapped_refused, reports_whole)
-
--- ---- `report_checked`
-
-module _ (values : List ℕ) (units : ℕ) (s : Machine) (r : Answer) (reported : run_answer r ≡ in_64_bits (due_at values units s)) where
-  pub checked_unfuelled :
-      s.stop ≡ fuel_used_up
-      → ReportsChecked values units s (record { verdict = Refused FuelUsedUp s.read; units = r.units; read = r.read; written = r.written; number = r.number })
-  unfolding due_at due_checked
-  checked_unfuelled e =
-      let no_end : s.stop ≢ has_ended = λ ended. absurd (omega arith) in
-      let plain : run_answer r
-      ≡ record { outcome = refusal (refusal_number s.stop) s.read; units = units % 2 ^ 64; bytes_read = s.read; bytes_written = s.written; number = 0 } =
-      reported ∙ rw (due_at, ne_eqb _ _ no_end) refl in
-      let units_are : r.units ≡ units % 2 ^ 64 = ap (λ (q : Due). q.units) plain in
-      let read_is : r.read ≡ s.read = ap (λ (q : Due). q.bytes_read) plain in
-      let written_is : r.written ≡ s.written = ap (λ (q : Due). q.bytes_written) plain in
-      let none_kept : r.number ≡ 0 = ap (λ (q : Due). q.number) plain in
-      record { reports = rw (due_checked, eq-eqb _ _ e, units_are, read_is, written_is, none_kept) refl }
-
-  pub checked_else : s.stop ≢ fuel_used_up → ReportsChecked values units s r
-  unfolding due_checked
-  checked_else h = record { reports = rw (due_checked, ne_eqb _ _ h) reported }
-
-pub ruleset reported_checked = (checked_unfuelled, checked_else)
-
--- ---- what the loop of checked code takes from it
-
-module _ (values : List ℕ) (units : ℕ) (s : Machine) (r : Answer) (t : ReportsChecked values units s r) where
-  -- no fuel is left
-  pub unfuelled_is :
-      s.stop ≡ fuel_used_up
-      → units < 2 ^ 64
-      → run_answer r ≡ record { outcome = refusal fuel_used_up s.read; units = units; bytes_read = s.read; bytes_written = s.written; number = 0 }
-  unfolding due_checked
-  unfuelled_is e wide = let fits : units % 2 ^ 64 ≡ units = omega arith in t.reports ∙ rw (due_checked, eq-eqb _ _ e, fits) refl
-
-  -- every other stop is answered as that of any code
-  pub stop_is : s.stop ≢ fuel_used_up → units + 1 < 2 ^ 64 → Reports values units s r
-  unfolding due_checked
-  stop_is h wide =
-      let plain : in_64_bits (due_checked values units s) ≡ in_64_bits (due_at values units s) = rw (due_checked, ne_eqb _ _ h) refl in
-      record { reports = t.reports ∙ plain ∙ due_fits values units s wide }

@@ -15,10 +15,9 @@ use Rattle.formats.specs.Measures.{first_measures}
 use Rattle.formats.specs.Results.{Result, on_value}
 use Rattle.formats.proofs.Endings.{end_within}
 use Rattle.formats.proofs.Measures.{first-end}
-use Rattle.refusal.specs.declared.Refusal.{Refusal}
+use Rattle.std.specs.Prelude.{Result as Answer, Ok, Err}
+use Rattle.refusal.specs.declared.Refused.{Refused}
 use Rattle.tree.specs.declared.Measures.{Measures}
-use Rattle.tree.specs.declared.TreeAnswer.{TreeAnswer}
-use Rattle.tree.specs.declared.TreeAnswer.TheVariants as tree_is
 use Rattle.tree.specs.Inner.TreeResults.{measured, tree_result}
 use Rattle.stepwise.specs.Inner.Steps.{State, Found, the_own, the_left, the_right, the_known, tree_at}
 use Rattle.named_trees.specs.Inner.Offsets.{after_tree, part_at, offset_within, tree_offset}
@@ -56,24 +55,24 @@ module _ (input : List ℕ) (known end p j : ℕ) where
             let unlike : suc p ≢ known = λ e. other (add-one p ∙ e) in
             simp (part_at, lt-leb _ _ there, ne_eqb _ _ odd, ne_eqb _ _ unlike)
 
-        module _ (found : TreeAnswer) (read : tree_result found ≡ first_measures after) where
+        module _ (found : Answer Measures Refused) (read : tree_result found ≡ first_measures after) where
           -- The end among what the reader measured.
-          abbrev found_end : TreeAnswer → Result ℕ
+          abbrev found_end : Answer Measures Refused → Result ℕ
           found_end a = on_value (λ m. m.bytes) (tree_result a)
 
           by_end : part_at input known end p j ≡ after_tree (suc p) (found_end found)
           by_end = part_sought ∙ ap (after_tree (suc p)) (ap first_end (sym after_is) ∙ sym (first-end after) ∙ ap (on_value (λ m. m.bytes)) (sym read))
 
-          pub part_broken : (why : Refusal) (q : ℕ) → found ≡ tree_is.Refused why q → 0 ≡ part_at input known end p j
+          pub part_broken : (r : Refused) → found ≡ Err r → 0 ≡ part_at input known end p j
           unfolding after_tree
-          part_broken why q e = sym (by_end ∙ ap (λ a. after_tree (suc p) (found_end a)) e)
+          part_broken r e = sym (by_end ∙ ap (λ a. after_tree (suc p) (found_end a)) e)
 
-          pub part_right : (m : Measures) → found ≡ tree_is.Tree m → p + 1 + m.bytes ≡ part_at input known end p j
+          pub part_right : (m : Measures) → found ≡ Ok m → p + 1 + m.bytes ≡ part_at input known end p j
           unfolding after_tree
           part_right m e = ap (λ q. q + m.bytes) (add-one p) ∙ sym (by_end ∙ ap (λ a. after_tree (suc p) (found_end a)) e)
 
           -- a tree ends within its bytes
-          pub part_within : (m : Measures) → found ≡ tree_is.Tree m → m.bytes ≤ length after
+          pub part_within : (m : Measures) → found ≡ Ok m → m.bytes ≤ length after
           part_within m e = end_within after (measured m) (sym read ∙ ap tree_result e)
 
 pub ruleset parts = (part_past, part_left, part_known, part_broken, part_right)

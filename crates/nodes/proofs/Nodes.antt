@@ -11,15 +11,13 @@ use Rattle.formats.specs.Rows.{node_row}
 use Rattle.formats.specs.Inner.Fields.{header_in, arity_in, node_in}
 use Rattle.formats.proofs.Results.{by_result, done_injective, done_not, Passing, pass_more, pass_refused, pass_all}
 use Rattle.refusal.specs.Inner.Numbers.{number}
-use Rattle.refusal.specs.declared.Refusal.{Refusal}
+use Rattle.refusal.specs.declared.Refused.{Refused}
+use Rattle.std.specs.Prelude.{Result as Answer, Ok, Err}
 use Rattle.records.specs.Inner.Read.{Shape, described, listed, shape_of}
 use Rattle.records.specs.declared.Part.{Part}
 use Rattle.records.specs.declared.Parts.{Parts}
 use Rattle.records.specs.declared.Parts.TheVariants.{None, One, Two, Three, Arguments}
-use Rattle.records.specs.declared.Record.{Record}
-use Rattle.records.specs.declared.Template.{Template}
-use Rattle.records.specs.declared.RecordRead.{RecordRead}
-use Rattle.records.specs.declared.RecordRead.TheVariants.{Read, Refused}
+use Rattle.records.specs.declared.Described.{Described}
 use Rattle.nodes.specs.Inner.Parts.{parts_in}
 
 -- ---- `node-row`
@@ -42,17 +40,17 @@ module _ (s : List ℕ) where
       record { left = ap₂ (λ n k. verdict (each (node_in s) n k)) count position }
 
   module _ (all : Result (Unit {0})) (end k : ℕ) (more : k < end) (p : Passing (node_in s) all end k)
-      (found : RecordRead) (reported : described found ≡ on_value shape_of (node_in s k))
+      (found : Answer Described Refused) (reported : described found ≡ on_value shape_of (node_in s k))
     where
       -- the verdict on the node is that of the record read
       node_said : verdict (node_in s k) ≡ verdict (described found)
       node_said = sym (ap verdict reported ∙ value_said shape_of (node_in s k))
 
-      pub nodes_more : (node : Record) (parts : Parts) (template : Template) → found ≡ Read node parts template → Passing (node_in s) all end (k + 1)
-      nodes_more node parts template case = pass_more _ all end k more p (node_said ∙ ap (λ f. verdict (described f)) case)
+      pub nodes_more : (d : Described) → found ≡ Ok d → Passing (node_in s) all end (k + 1)
+      nodes_more d case = pass_more _ all end k more p (node_said ∙ ap (λ f. verdict (described f)) case)
 
-      pub nodes_refused : (why : Refusal) (position : ℕ) → found ≡ Refused why position → refusal (number why) position ≡ all
-      nodes_refused why position case = pass_refused _ all end k (number why) position more p (node_said ∙ ap (λ f. verdict (described f)) case)
+      pub nodes_refused : (r : Refused) → found ≡ Err r → refusal (number r.why) r.position ≡ all
+      nodes_refused r case = pass_refused _ all end k (number r.why) r.position more p (node_said ∙ ap (λ f. verdict (described f)) case)
 
 pub ruleset nodes_checked = (nodes_first, nodes_more, nodes_refused, pass_all)
 
@@ -83,18 +81,18 @@ pub ruleset parts_counted = (count_none, count_one, count_two, count_three, coun
 
 -- ---- `parts_at`
 
-module _ (s : List ℕ) (k : ℕ) (found : RecordRead) (reported : described found ≡ on_value shape_of (node_in s k)) where
-  pub parts_read : (node : Record) (parts : Parts) (template : Template) (n : ℕ) → found ≡ Read node parts template → n ≡ part_count (arity_in s) (listed parts) → n ≡ parts_in s k
+module _ (s : List ℕ) (k : ℕ) (found : Answer Described Refused) (reported : described found ≡ on_value shape_of (node_in s k)) where
+  pub parts_read : (d : Described) (n : ℕ) → found ≡ Ok d → n ≡ part_count (arity_in s) (listed d.parts) → n ≡ parts_in s k
   unfolding parts_in
-  parts_read node parts template n case e = by_result (node_in s k)
+  parts_read d n case e = by_result (node_in s k)
       (λ kind h.
       let same = done_injective (ap described (sym case) ∙ reported ∙ ap (on_value shape_of) h) in
       e ∙ ap (λ (shape : Shape). part_count (arity_in s) shape.parts) same ∙ sym (rw (h, parts_in)))
       (λ m q h. done_not (sym reported ∙ ap described case) (ap (on_value shape_of) h))
 
-  pub parts_refused : (why : Refusal) (position : ℕ) → found ≡ Refused why position → 0 ≡ parts_in s k
+  pub parts_refused : (r : Refused) → found ≡ Err r → 0 ≡ parts_in s k
   unfolding parts_in
-  parts_refused why position case = by_result (node_in s k)
+  parts_refused r case = by_result (node_in s k)
       (λ kind h. done_not (ap (on_value shape_of) h) (sym reported ∙ ap described case))
       (λ m q h. sym (rw (h, parts_in)))
 

@@ -1,3 +1,2 @@
 -- The laws of a word's sign, and of the sum of two words.
-pub mod Sign
 pub mod Sums

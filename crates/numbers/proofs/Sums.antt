@@ -1,78 +1,106 @@
--- What the comparison in `sum_of` says. With A and B the numbers of two words and 2^31 more each,
--- the extended words add up to A + B - 2^32, modulo 2^64.
-use Rattle.std.proofs.Common.{◌≡◌, ℕ, ◌+◌, ◌%◌, ◌^◌, ◌<◌, ◌≤◌, ◌⊎◌, sym, ap, ◌∙◌, inl, inr, mod-lt, arith, lit<, w32, Fits}
+-- The number that a word stands for, and the exact sum of two such numbers as `result_of` has it: a
+-- number that fits 32 bits has its word, and another has none.
+use Rattle.std.proofs.Common.{◌≡◌, ℕ, suc, ◌+◌, ◌-◌, ◌%◌, ◌^◌, ◌<◌, ◌≤◌, Bool, true, false, ltb, ℤ, pos, negsuc, ◌+ℤ◌, refl, sym, ap, ap₂, ◌∙◌, arith, mod-lt, lit<, w32, w64, Fits, SFits, to_z, of_z, to_z-of_z, lt-ltb, le-ltb}
 use mathlib.Core.Option.{none, some}
+use mir.Val.{sel}
+use mir.Facts.{sfits_to_z}
 use native.Mathlib.Decide.{dec_lt}
-use Rattle.formats.specs.Arithmetic.{plus, result_of}
-use Rattle.formats.proofs.Arithmetic.{biased, sum_inside, sum_outside}
-use Rattle.numbers.specs.Inner.Sums.{extended_of}
+use Rattle.std.proofs.lemmas.Int.{of_z-to_z, ints, fits_signed_from_abs, wrapping_add-bits, int_wrap_fits}
+use Rattle.formats.specs.Numbers.{signed32}
+use Rattle.formats.specs.Arithmetic.{plus, word_for, unbounded, result_of}
 
--- A with 2^31 taken off, modulo 2^64
-data Lowered (A x : ℕ) : Type 0 where
-  wrapped : A < 2147483648 → x ≡ A + 18446744071562067968 → Lowered A x
-  plain : 2147483648 ≤ A → x + 2147483648 ≡ A → Lowered A x
-
-lowered : (A x : ℕ) → A < 4294967296 → x ≡ (A + 18446744071562067968) % 18446744073709551616 → Lowered A x
-lowered A x small is = by_half (dec_lt A 2147483648)
+-- signed operations read this number off a word
+pub signed_is : (w : ℕ) → to_z w32 w ≡ signed32 w
+unfolding signed32
+signed_is w = picked (ltb w (2 ^ 31)) (pos w) (negsuc (2 ^ 32 - suc w))
   where
-    by_half : Dec (A < 2147483648) → Lowered A x
-    by_half (yes less) = wrapped less (omega arith)
-    by_half (no more) = plain (omega arith) (omega arith)
+    picked : (b : Bool) (x y : ℤ) → sel b x y ≡ elim b [ true ↦ x | false ↦ y ]
+    picked true x y = refl
+    picked false x y = refl
 
--- the sum of two such, with 2^31 added, is A + B with 2^31 taken off
-tested :
-    (A B x y test : ℕ)
-    → A < 4294967296
-    → B < 4294967296
-    → Lowered A x
-    → Lowered B y
-    → test ≡ ((x + y) % 18446744073709551616 + 2147483648) % 18446744073709551616
-    → Lowered (A + B) test
-tested A B x y test small few h k is = by_sum (dec_lt (A + B) 2147483648) h k
+-- the word for a number that fits ..
+word_there : (z : ℤ) → SFits w32 z → some (of_z w32 z) ≡ word_for z
+unfolding word_for
+word_there (pos n) fits = sym (simp (word_for, lt-ltb n (2 ^ 31) fits.sfits))
+word_there (negsuc n) fits = sym (simp (word_for, lt-ltb n (2 ^ 31) fits.sfits))
+
+-- .. and for another
+large : (n : ℕ) → ¬ (n < 2 ^ 31) → 2 ^ 31 ≤ n
+large n out = by_half (dec_lt n (2 ^ 31))
   where
-    by_sum : Dec (A + B < 2147483648) → Lowered A x → Lowered B y → Lowered (A + B) test
-    by_sum (yes less) (wrapped low x_is) (wrapped under y_is) = wrapped less (omega arith)
-    by_sum (yes less) (wrapped low x_is) (plain over y_is) = wrapped less (omega arith)
-    by_sum (yes less) (plain high x_is) (wrapped under y_is) = wrapped less (omega arith)
-    by_sum (yes less) (plain high x_is) (plain over y_is) = absurd (omega arith)
-    by_sum (no more) (wrapped low x_is) (wrapped under y_is) = plain (omega arith) (omega arith)
-    by_sum (no more) (wrapped low x_is) (plain over y_is) = plain (omega arith) (omega arith)
-    by_sum (no more) (plain high x_is) (wrapped under y_is) = plain (omega arith) (omega arith)
-    by_sum (no more) (plain high x_is) (plain over y_is) = plain (omega arith) (omega arith)
+    by_half : Dec (n < 2 ^ 31) → 2 ^ 31 ≤ n
+    by_half (yes small) = absurd (out small)
+    by_half (no most) = omega arith
 
--- so a comparison with 2^32 - 1 says whether A + B lies from 2^31 to 2^32 + 2^31 - 1
-above_range : {S test : ℕ} → Lowered S test → 4294967295 < test → (S < 2147483648) ⊎ (6442450944 ≤ S)
-above_range (wrapped less e) above = inl less
-above_range (plain more e) above = inr (omega arith)
+word_missing : (z : ℤ) → ¬ (SFits w32 z) → none ≡ word_for z
+unfolding word_for
+word_missing (pos n) out = sym (simp (word_for, le-ltb n (2 ^ 31) (large n (λ small. out (record { sfits = small })))))
+word_missing (negsuc n) out = sym (simp (word_for, le-ltb n (2 ^ 31) (large n (λ small. out (record { sfits = small })))))
 
-in_range : {S test : ℕ} → Lowered S test → test ≤ 4294967295 → (2147483648 ≤ S) × (S < 6442450944)
-in_range (wrapped less e) most = absurd (omega arith)
-in_range (plain more e) most = (more, omega arith)
+-- In 64 bits the sum of two such numbers is exact. 2^31 is added to it, modulo 2^64.
+sum_fits : (x y : ℤ) → SFits w32 x → SFits w32 y → SFits w64 (x +ℤ y)
+sum_fits x y fx fy = fits_signed_from_abs w64 (x +ℤ y) (omega (arith, ints, fx.sfits, fy.sfits))
 
--- which is where the exact sum is in range
+raised_fits : (x y : ℤ) → SFits w32 x → SFits w32 y → SFits w64 (x +ℤ y +ℤ pos 2147483648)
+raised_fits x y fx fy = fits_signed_from_abs w64 (x +ℤ y +ℤ pos 2147483648) (omega (arith, ints, fx.sfits, fy.sfits))
+
+above_range : (z : ℤ) → SFits w64 (z +ℤ pos 2147483648) → 4294967295 < of_z w64 (z +ℤ pos 2147483648) → ¬ (SFits w32 z)
+above_range z f above fits = absurd (omega (arith, ints, f.sfits, fits.sfits))
+
+-- as far below -1 as n, and 2^31 more
+raised_low : (n test : ℕ) → test ≡ of_z w64 (negsuc n +ℤ pos 2147483648) → n < 9223372036854775808 → test ≤ 4294967295 → n < 2147483648
+raised_low n test is small most = grind (arith, ints)
+
+in_range : (z : ℤ) → SFits w64 (z +ℤ pos 2147483648) → SFits w64 z → of_z w64 (z +ℤ pos 2147483648) ≤ 4294967295 → SFits w32 z
+in_range (pos n) f g most = record { sfits = omega (arith, f.sfits) }
+in_range (negsuc n) f g most = record { sfits = raised_low n _ refl g.sfits most }
+
+-- what a call or a sum of 64 bits is given, written to its bits and read off them
+abbrev read64 : ℤ → ℤ
+read64 z = to_z w64 (of_z w64 z)
+
+wide : {z : ℤ} → SFits w32 z → SFits w64 z
+wide f = record { sfits = omega (arith, f.sfits) }
+
 module _ (a b : ℕ) (a_fits : Fits w32 a) (b_fits : Fits w32 b) where
-  in_test : (x y test : ℕ) → x ≡ extended_of a → y ≡ extended_of b → test ≡ ((x + y) % 18446744073709551616 + 2147483648) % 18446744073709551616
-      → Lowered (biased a + biased b) test
-  in_test x y test x_is y_is is =
-      let small : biased a < 4294967296 = mod-lt (a + 2147483648) (lit< tt) in
-      let few : biased b < 4294967296 = mod-lt (b + 2147483648) (lit< tt) in
-      tested (biased a) (biased b) x y test small few (lowered (biased a) x small x_is) (lowered (biased b) y few y_is) is
+  abbrev sum : ℤ
+  sum = to_z w32 a +ℤ to_z w32 b
 
-  -- above 2^32 - 1 it is not
-  pub sum_missing :
-      (x y test : ℕ) → x ≡ extended_of a → y ≡ extended_of b → test ≡ ((x + y) % 18446744073709551616 + 2147483648) % 18446744073709551616
-      → 4294967295 < test
-      → none ≡ result_of plus a b
-  sum_missing x y test x_is y_is is above = sym (sum_outside a b (omega (arith, a_fits)) (omega (arith, b_fits)) (above_range (in_test x y test x_is y_is is) above))
+  sum_is : word_for sum ≡ result_of plus a b
+  unfolding result_of unbounded
+  sum_is = ap₂ (λ (x y : ℤ). word_for (x +ℤ y)) (signed_is a) (signed_is b)
 
-  -- and up to there it is
-  pub sum_word :
-      (x y test w : ℕ) → x ≡ extended_of a → y ≡ extended_of b → test ≡ ((x + y) % 18446744073709551616 + 2147483648) % 18446744073709551616
-      → test ≤ 4294967295
-      → w ≡ (a + b) % 2 ^ 32
-      → some w ≡ result_of plus a b
-  sum_word x y test w x_is y_is is most word =
-      let inside = in_range (in_test x y test x_is y_is is) most in
-      ap some word ∙ sym (sum_inside a b (omega (arith, a_fits)) (omega (arith, b_fits)) inside.0 inside.1)
+  raised : SFits w64 (sum +ℤ pos 2147483648)
+  raised = raised_fits (to_z w32 a) (to_z w32 b) (sfits_to_z a_fits) (sfits_to_z b_fits)
+
+  exact : SFits w64 sum
+  exact = sum_fits (to_z w32 a) (to_z w32 b) (sfits_to_z a_fits) (sfits_to_z b_fits)
+
+  -- what is compared
+  test_is : (x y p q : ℤ) → x ≡ to_z w32 a → y ≡ to_z w32 b → p ≡ to_z w32 (of_z w32 x) → q ≡ to_z w32 (of_z w32 y)
+      → of_z w64 (read64 (read64 (read64 p +ℤ read64 q) +ℤ pos 2147483648)) ≡ of_z w64 (sum +ℤ pos 2147483648)
+  test_is x y p q x_is y_is p_is q_is =
+      let left : read64 p ≡ to_z w32 a = ap read64 (p_is ∙ ap (λ (z : ℤ). to_z w32 (of_z w32 z)) x_is ∙ to_z-of_z {w = w32} (sfits_to_z a_fits)) ∙ to_z-of_z {w = w64} (wide (sfits_to_z a_fits)) in
+      let right : read64 q ≡ to_z w32 b = ap read64 (q_is ∙ ap (λ (z : ℤ). to_z w32 (of_z w32 z)) y_is ∙ to_z-of_z {w = w32} (sfits_to_z b_fits)) ∙ to_z-of_z {w = w64} (wide (sfits_to_z b_fits)) in
+      ap₂ (λ (i j : ℤ). of_z w64 (read64 (read64 (i +ℤ j) +ℤ pos 2147483648))) left right
+      ∙ ap (λ (i : ℤ). of_z w64 (read64 (i +ℤ pos 2147483648))) (to_z-of_z {w = w64} exact)
+      ∙ ap (of_z w64) (to_z-of_z {w = w64} raised)
+
+  -- above 2^32 - 1 the sum is out of range
+  pub sum_missing : (x y p q : ℤ) (test : ℕ) → x ≡ to_z w32 a → y ≡ to_z w32 b → p ≡ to_z w32 (of_z w32 x) → q ≡ to_z w32 (of_z w32 y)
+      → test ≡ of_z w64 (read64 (read64 (read64 p +ℤ read64 q) +ℤ pos 2147483648)) → 4294967295 < test → none ≡ result_of plus a b
+  sum_missing x y p q test x_is y_is p_is q_is is above =
+      let t = is ∙ test_is x y p q x_is y_is p_is q_is in
+      word_missing sum (above_range sum raised (rw t at above)) ∙ sum_is
+
+  -- and up to there it is in range
+  pub sum_word : (x y p q : ℤ) (test w : ℕ) → x ≡ to_z w32 a → y ≡ to_z w32 b → p ≡ to_z w32 (of_z w32 x) → q ≡ to_z w32 (of_z w32 y)
+      → test ≡ of_z w64 (read64 (read64 (read64 p +ℤ read64 q) +ℤ pos 2147483648)) → test ≤ 4294967295 → w ≡ (a + b) % 2 ^ 32 → some w ≡ result_of plus a b
+  sum_word x y p q test w x_is y_is p_is q_is is most word =
+      let t = is ∙ test_is x y p q x_is y_is p_is q_is in
+      let fits : SFits w32 sum = in_range sum raised exact (rw t at most) in
+      let low : (a + b) % 2 ^ 32 < 2 ^ 32 = mod-lt (a + b) (lit< tt) in
+      let whole : to_z w32 ((a + b) % 2 ^ 32) ≡ sum = wrapping_add-bits w32 a b a_fits.fits b_fits.fits ∙ int_wrap_fits w32 sum fits in
+      ap some (word ∙ sym (of_z-to_z w32 ((a + b) % 2 ^ 32) low) ∙ ap (of_z w32) whole) ∙ word_there sum fits ∙ sum_is
 
 pub ruleset sum_ways = (sum_missing, sum_word)

@@ -6,23 +6,19 @@ use mathlib.Core.Logic.{◌≢◌}
 use mathlib.Core.Path.{◌≡◌, refl, ap, ap₂, ◌∙◌}
 use native.Mathlib.Numerals.{add-one}
 use native.Mathlib.Omega.{arith}
-use borrow.Author.Tests.{eqb-false, lt-ltb, le-ltb}
+use borrow.Author.Tests.{lt-ltb, le-ltb}
 use lib.Dec.{leb, ltb}
-use lib.ListN.{length, get_or, set, length-set}
+use lib.ListN.{get_or, set, length-set}
 use Rattle.stepwise.specs.Inner.Steps.{State, begin, deep, stuck, operand_at, tree_at, more_at, slot_at, frame_words, record_limit, most_waiting, Found, copied, opening}
 use Rattle.stepwise.proofs.Steps.{opens_deep, opens_frame}
 use Rattle.stepwise.proofs.Words.{copied_length}
-use Rattle.frames.proofs.Laws.{none_put}
 use Rattle.stages.specs.declared.Stage.{Stage}
-use Rattle.stages.specs.Inner.Stages.{to_begin, is_finished, to_open, too_many_open, is_stuck, state_of, staged, stage_of, words_of, returns_of}
+use Rattle.stages.specs.declared.Mode.TheVariants.{Begin, Finished, Open, Deep, Stuck}
+use Rattle.stages.specs.Inner.Stages.{state_of, staged, stage_of, words_of, returns_of}
 use Rattle.stages.proofs.Stages.{reach_deep, reach_stuck}
 use Rattle.named_trees.specs.Inner.Offsets.{tree_offset, named_by}
 use Rattle.named_trees.proofs.Offsets.{found_offset}
 use Rattle.open_call.specs.Inner.Opens.{opened_turn, Opens}
-
--- ---- `put_return`
-
-pub ruleset words = (none_put)
 
 -- ---- `copy`
 
@@ -46,13 +42,7 @@ module _ (values₀ : List ℕ) (calls slot count : ℕ) where
       let there : frame_words * (calls + 1) + n ≡ frame_words * calls + frame_words + n = omega arith in
       record { so_far = rw (add-one n, put, there, is, down, c.so_far); few = omega arith }
 
-  pub copy_done : (values : List ℕ) (n : ℕ) → count ≤ n → Copying values₀ calls slot count values n → values ≡ copied values₀ (frame_words * calls) slot count
-  copy_done values n over c = let all : n ≡ count = omega (arith, c.few) in rw (← all) c.so_far
-
-  pub copy_long : (values : List ℕ) (n : ℕ) → Copying values₀ calls slot count values n → length values ≡ length values₀
-  copy_long values n c = ap length c.so_far ∙ copied_length values₀ (frame_words * calls) slot n
-
-pub ruleset copying = (copy_first, copy_more, copy_done, copy_long)
+pub ruleset copying = (copy_first, copy_more)
 
 -- ---- `pass_arguments`, `save`
 
@@ -79,11 +69,11 @@ module _ (T input : List ℕ) (r : ℕ) (s : State) where
   opened_past past = simp (opened_turn, le-ltb _ _ past)
 
 module _ (T input values returns : List ℕ) (s : Stage) where
-  pub open_past : (r : Stage) → record_limit ≤ s.node → r ≡ staged s is_stuck s.node 0 → Opens T input values values returns returns s r
+  pub open_past : (r : Stage) → record_limit ≤ s.node → r ≡ staged s Stuck s.node 0 → Opens T input values values returns returns s r
   open_past r past e = rw e (record { is = rw (opened_past T input s.node (state_of values returns s) past) (reach_stuck values returns s) })
 
   module _ (few : s.node < record_limit) where
-    pub open_deep : (r : Stage) → most_waiting ≤ s.calls → r ≡ staged s too_many_open s.node 0 → Opens T input values values returns returns s r
+    pub open_deep : (r : Stage) → most_waiting ≤ s.calls → r ≡ staged s Deep s.node 0 → Opens T input values values returns returns s r
     open_deep r full e =
         rw e
         (record {
@@ -96,17 +86,18 @@ module _ (T input values returns : List ℕ) (s : Stage) where
         })
 
     pub open_frame :
-        (q f : ℕ) (values' returns' : List ℕ)
+        (q f : ℕ) (values' returns' : List ℕ) (b : Stage)
         → s.calls < most_waiting
         → q ≡ tree_offset T input s.tree s.known s.end (tree_at T s.node)
         → values' ≡ copied values (frame_words * s.calls) (slot_at T (suc s.node)) (more_at T s.node)
         → returns' ≡ set (set returns (2 * s.calls) s.node) (suc (2 * s.calls)) s.tree
         → f ≡ operand_at T s.node
+        → b ≡ staged s Begin f 0
         → Opens T input values values' returns returns' s
-        (record { mode = to_begin; node = f; number = 0; calls = s.calls + 1; tree = q; known = s.known; end = s.end; written = s.written })
+        (record { mode = b.mode; node = b.node; number = b.number; calls = s.calls + 1; tree = q; known = b.known; end = b.end; written = b.written })
     unfolding stage_of words_of returns_of
-    open_frame q f values' returns' room found passed-on saved ef =
-        rw (passed-on, saved, ef, add-one s.calls)
+    open_frame q f values' returns' b room found passed-on saved ef at =
+        rw (at, passed-on, saved, ef, add-one s.calls)
         (record {
           is =
               rw (opened_in T input s.node (state_of values returns s) few, ← found, opens_frame T q s.node (state_of values returns s) room)
@@ -131,14 +122,14 @@ opened_found T input r p s few found =
 -- a call that has opened leaves no record finished, and no other call to open
 module _ (s : Stage) (r f : ℕ) (t : State) where
   settled_by : (a b : Bool)
-      → ((stage_of s (elim a [ true ↦ elim b [ true ↦ deep r | false ↦ begin f t ] | false ↦ stuck ])).mode ≢ is_finished)
-      × ((stage_of s (elim a [ true ↦ elim b [ true ↦ deep r | false ↦ begin f t ] | false ↦ stuck ])).mode ≢ to_open)
+      → ((stage_of s (elim a [ true ↦ elim b [ true ↦ deep r | false ↦ begin f t ] | false ↦ stuck ])).mode ≢ Finished)
+      × ((stage_of s (elim a [ true ↦ elim b [ true ↦ deep r | false ↦ begin f t ] | false ↦ stuck ])).mode ≢ Open)
   unfolding stage_of
-  settled_by true true = (eqb-false 4 1 refl, eqb-false 4 2 refl)
-  settled_by true false = (eqb-false 0 1 refl, eqb-false 0 2 refl)
-  settled_by false b = (eqb-false 5 1 refl, eqb-false 5 2 refl)
+  settled_by true true = (λ (e : Deep ≡ Finished). cc, λ (e : Deep ≡ Open). cc)
+  settled_by true false = (λ (e : Begin ≡ Finished). cc, λ (e : Begin ≡ Open). cc)
+  settled_by false b = (λ (e : Stuck ≡ Finished). cc, λ (e : Stuck ≡ Open). cc)
 
 pub opened_settled : (T input : List ℕ) (r : ℕ) (t : State) (s : Stage)
-    → ((stage_of s (opened_turn T input r t)).mode ≢ is_finished) × ((stage_of s (opened_turn T input r t)).mode ≢ to_open)
+    → ((stage_of s (opened_turn T input r t)).mode ≢ Finished) × ((stage_of s (opened_turn T input r t)).mode ≢ Open)
 unfolding opened_turn opening
 opened_settled T input r t s = settled_by s r _ _ (ltb r record_limit) (leb most_waiting t.calls)

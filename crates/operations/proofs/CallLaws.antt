@@ -8,27 +8,27 @@ use native.Mathlib.Nat.{le_refl}
 use native.Mathlib.Omega.{arith}
 use native.Mathlib.Numerals.{towards_suc}
 use borrow.Author.Tests.{le-leb, lt-leb, le-ltb, lt-ltb}
-use lib.Dec.{lit<}
 use lib.ListN.{length, get_or, set, take, drop, length-set}
 use Rattle.formats.specs.Refusals.{too_many_calls, cannot_perform}
 use Rattle.meaning.specs.Instructions.{Call, Return}
 use Rattle.meaning.specs.Performing.{Setting, calls_open, ends, open_call, kept, number_kept, leave, operate}
 use Rattle.meaning.specs.Running.{value_words, return_words}
 use Rattle.machine_state.specs.declared.Machine.{Machine}
+use Rattle.machine_state.specs.declared.Stop.TheVariants.{GoesOn, Ended, TooManyCalls, CannotPerform}
 use Rattle.machine_state.proofs.Laws.{words_top}
 use Rattle.machine_state.specs.Inner.States.{words_from, waiting, frame_of, state_of, step_of, Chained, first, above, Held, Sound}
-use Rattle.machine_state.specs.Inner.States.{goes_on, has_ended, stopped_by, jump_to, left}
+use Rattle.machine_state.specs.Inner.States.{stopped_by, jump_to, left}
 use Rattle.operations.specs.Inner.Effects.{Does, OnReturns, FromReturns}
 use Rattle.operations.proofs.Frames.{length_words, words_pushed, words_taken, words_left}
 use Rattle.operations.proofs.Frames.{waiting_kept, waiting_more, chained_more, count_waiting}
-use Rattle.operations.proofs.Effects.{held_as, refused_so, goes_so}
+use Rattle.operations.proofs.Effects.{held_as, names_calls, names_cannot, refused_so, goes_so}
 
 -- ---- `leave`
 
 module _ (returns : List ℕ) (top : ℕ) (s : Machine) where
   pub left_first :
       s.saved < 2
-      → record { stop = has_ended; address = s.address; top = top; base = s.base; saved = s.saved; read = s.read; written = s.written }
+      → record { stop = Ended; address = s.address; top = top; base = s.base; saved = s.saved; read = s.read; written = s.written }
       ≡ left returns top s
   unfolding left
   left_first h = sym (rw (left, lt-ltb s.saved 2 h))
@@ -54,13 +54,13 @@ pub ruleset leaves = (left_first, left_back)
 
 module _ (entry n : ℕ) (returns : List ℕ) (s : Machine) where
   -- 01, Instructions that cannot be performed: "19 .. (.. missing .. words)"
-  pub call_few : (r : Machine) → s.top - s.base < n → r ≡ stopped_by cannot_perform s → OnReturns (Call entry n) returns returns s r
+  pub call_few : (r : Machine) → s.top - s.base < n → r ≡ stopped_by CannotPerform s → OnReturns (Call entry n) returns returns s r
   unfolding operate
   call_few r few e =
       record {
         does =
             λ m values output h.
-            refused_so m _ values returns output s r cannot_perform e (rw (operate, length_words, lt-leb n (s.top - s.base) few)) (lit< tt) h;
+            refused_so m _ values returns output s r CannotPerform cannot_perform e (rw (operate, length_words, lt-leb n (s.top - s.base) few)) names_cannot h;
       }
 
   module _ (there : n ≤ s.top - s.base) where
@@ -71,7 +71,7 @@ module _ (entry n : ℕ) (returns : List ℕ) (s : Machine) where
     calls m values output = rw (operate, length_words, le-leb n (s.top - s.base) there)
 
     -- 01, The table of refusals: "18 a call with 1,024 open"
-    pub call_deep : (r : Machine) → return_words - 2 ≤ s.saved → r ≡ stopped_by too_many_calls s → OnReturns (Call entry n) returns returns s r
+    pub call_deep : (r : Machine) → return_words - 2 ≤ s.saved → r ≡ stopped_by TooManyCalls s → OnReturns (Call entry n) returns returns s r
     unfolding open_call calls_open
     call_deep r deep e =
         record {
@@ -79,7 +79,7 @@ module _ (entry n : ℕ) (returns : List ℕ) (s : Machine) where
               λ m values output h.
               let counted = count_waiting values returns s.base s.saved h.chained in
               let full : m.most_open ≤ suc (length (waiting values returns s.base s.saved)) = omega (arith, h.calls_limit) in
-              refused_so m _ values returns output s r too_many_calls e (calls m values output ∙ rw (open_call, calls_open, le-ltb _ _ full)) (lit< tt) h;
+              refused_so m _ values returns output s r TooManyCalls too_many_calls e (calls m values output ∙ rw (open_call, calls_open, le-ltb _ _ full)) names_calls h;
         }
 
     -- the machine in the new frame, and the return places after the call
@@ -101,7 +101,7 @@ module _ (entry n : ℕ) (returns : List ℕ) (s : Machine) where
     -- the arguments are its words, and the rest of the present frame's words wait
     called :
         (m : Setting) (values output : List ℕ)
-        → s.stop ≡ goes_on
+        → s.stop ≡ GoesOn
         → s.saved < return_words - 2
         → Held m values returns output s
         → Does m (operate m (state_of values returns output s) (Call entry n)) values returns output values returns' output s inside
@@ -180,7 +180,7 @@ cut_to_one values base x fits lent =
 -- A frame cut is left: the first one with its number, another one for the frame that waits.
 module _ (m : Setting) (values values' returns output words : List ℕ) (address top read written top' : ℕ) where
   abbrev at_frame : ℕ → ℕ → Machine
-  at_frame base saved = record { stop = goes_on; address = address; top = top; base = base; saved = saved; read = read; written = written }
+  at_frame base saved = record { stop = GoesOn; address = address; top = top; base = base; saved = saved; read = read; written = written }
 
   left_so :
       (base saved : ℕ)
@@ -205,7 +205,7 @@ module _ (m : Setting) (values values' returns output words : List ℕ) (address
   left_so base saved (above {n = n} under c) cut h =
       let s : Machine = at_frame base (suc (suc n)) in
       let own : ℕ = get_or returns (suc n) 0 in
-      let back : Machine = record { stop = goes_on; address = get_or returns n 0; top = top'; base = own; saved = n; read = read; written = written } in
+      let back : Machine = record { stop = GoesOn; address = get_or returns n 0; top = top'; base = own; saved = n; read = read; written = written } in
       let two_less : suc (suc n) - 2 ≡ n = omega arith in
       let one_less : suc (suc n) - 1 ≡ suc n = omega arith in
       let is_back : left returns top' s ≡ back = sym (left_back returns top' s (omega arith)) ∙ rw (two_less, one_less) in
@@ -230,14 +230,14 @@ module _ (k : ℕ) (returns values : List ℕ) (s r : Machine) where
   -- what a return does where these words can be kept, or none can
   gives :
       (values' words : List ℕ) (top : ℕ)
-      → s.stop ≡ goes_on
+      → s.stop ≡ GoesOn
       → kept k (frame_of values s) ≡ some words
       → Cut values values' s.base top words
       → r ≡ left returns top s
       → FromReturns (Return k) returns values values' s r
   unfolding operate
   gives values' words top going keeps cut e =
-      let same : stopped_by goes_on s ≡ s = ap (λ stop. stopped_by stop s) (sym going) in
+      let same : stopped_by GoesOn s ≡ s = ap (λ stop. stopped_by stop s) (sym going) in
       record {
         does =
             λ m output h.
@@ -247,20 +247,20 @@ module _ (k : ℕ) (returns values : List ℕ) (s r : Machine) where
             rw (e, operate, keeps) (rw same at so);
       }
 
-  gives_none : kept k (frame_of values s) ≡ none → r ≡ stopped_by cannot_perform s → FromReturns (Return k) returns values values s r
+  gives_none : kept k (frame_of values s) ≡ none → r ≡ stopped_by CannotPerform s → FromReturns (Return k) returns values values s r
   unfolding operate
   gives_none missing e =
-      record { does = λ m output h. refused_so m _ values returns output s r cannot_perform e (rw (operate, missing)) (lit< tt) h }
+      record { does = λ m output h. refused_so m _ values returns output s r CannotPerform cannot_perform e (rw (operate, missing)) names_cannot h }
 
   pub return_none : Sound s → k ≡ 0 → r ≡ left returns s.base s → FromReturns (Return k) returns values values s r
   unfolding kept
   return_none sound is e = gives values [] s.base sound.going (rw is) (cut_all values s.base (omega arith)) e
 
-  pub return_more : k ≢ 0 → k ≢ 1 → r ≡ stopped_by cannot_perform s → FromReturns (Return k) returns values values s r
+  pub return_more : k ≢ 0 → k ≢ 1 → r ≡ stopped_by CannotPerform s → FromReturns (Return k) returns values values s r
   return_more h g e = gives_none (kept_more k (frame_of values s) h g) e
 
   -- 01, Instructions that cannot be performed: "19 .. (.. missing .. words)"
-  pub return_empty : k ≡ 1 → s.top ≤ s.base → r ≡ stopped_by cannot_perform s → FromReturns (Return k) returns values values s r
+  pub return_empty : k ≡ 1 → s.top ≤ s.base → r ≡ stopped_by CannotPerform s → FromReturns (Return k) returns values values s r
   unfolding kept words_from
   return_empty is empty e = let no_word : s.top - s.base ≡ 0 = omega arith in gives_none (rw (is, no_word)) e
 

@@ -1,22 +1,19 @@
 -- The run of a checked program's code: a law for each way through its functions. An instruction
 -- that is not refused with 19 has its words, its room and its return byte (`CannotPerform`), which
 -- is what a test would show; and a function does what the one of any code does, once fuel is left.
-use Prim.Native.Nat.{ℕ, ◌+◌, ◌-◌, ◌%◌, ◌≤◌, ◌<◌}
-use mathlib.Core.Bool.{true}
+use Prim.Native.Nat.{ℕ, ◌+◌, ◌-◌, ◌≤◌, ◌<◌}
+use mathlib.Core.Bool.{Bool, true, false}
+use Rattle.std.specs.Prelude.{◌↔◌, IsTrue}
 use mathlib.Core.List.{List, []}
 use mathlib.Core.Logic.{◌≢◌}
 use mathlib.Core.Option.{some}
-use mathlib.Core.Path.{◌≡◌, refl, ap, ◌∙◌}
+use mathlib.Core.Path.{◌≡◌, refl, sym, ap, ◌∙◌}
 use native.Mathlib.Decide.{dec_le}
 use native.Mathlib.Omega.{arith}
-use borrow.Author.Tests.{leb-true}
-use lib.Dec.{leb}
 use lib.ListN.{length, get_or}
 use Rattle.formats.specs.Numbers.{number_at}
 use Rattle.formats.specs.Records.{fields, record_at, nth}
-use Rattle.formats.specs.Refusals.{fuel_used_up}
-use Rattle.formats.specs.Tokens.{leaf_tag, node_tag, label_bytes}
-use Rattle.formats.proofs.Records.{but}
+use Rattle.formats.specs.Tokens.{leaf_tag, node_tag}
 use Rattle.meaning.specs.Instructions.{Instruction, Operation, operations, operation_of}
 use Rattle.meaning.specs.Instructions.{Push, Get, Add, Ifnot, Slide, Drop, WriteNumber, ReadTag, ReadNumber, Call, Return}
 use Rattle.meaning.specs.Performing.{State}
@@ -24,18 +21,18 @@ use Rattle.meaning.specs.Running.{value_words}
 use Rattle.meaning.specs.CannotPerform.{last_opcode, words_needed, words_added, fetched, CannotPerform, no_operation, return_byte, missing_words, surplus_words}
 use Rattle.meaning.proofs.Steps.{one_step}
 use Rattle.machine_state.specs.declared.Machine.{Machine}
+use Rattle.machine_state.specs.declared.Stop.TheVariants.{FuelUsedUp, CannotPerform as Cannot}
 use Rattle.machine_state.specs.Inner.States.{state_of, Sound, stopped_by, jump_to}
 use Rattle.operations.specs.Inner.Effects.{OnNumbers, OnValues, WritesTag, OnOutput, FromInput, OnInput, OnReturns, FromReturns, Performs}
 use Rattle.operations.specs.Inner.Checked.{Able, Words, Room, ReturnByte, Fuelled, Turns}
 use Rattle.operations.proofs.Frames.{length_words, all_standing}
-use Rattle.operations.proofs.StackLaws.{get_found}
-use Rattle.operations.proofs.StepLaws.{placed, pushes, gets, adds, ifnots, jumps, slides, drops, writes_leaf, writes_node, writes_number, reads_tag, reads_number, calls, returned_so}
+use Rattle.operations.proofs.StepLaws.{placed, pushes, gets, adds, ifnots, jumps, slides, drops, writes_leaf, writes_node, writes_number, reads_tag, reads_number, calls, returned_so, names_none}
 
 -- ---- the fuel
 
 module _ (fuel : ℕ) (s r : Machine) (Done : Type 0) where
   -- none is left
-  pub fuel_none : (lent : List ℕ) → fuel ≡ 0 → r ≡ stopped_by fuel_used_up s → Fuelled fuel lent lent s r Done
+  pub fuel_none : (lent : List ℕ) → fuel ≡ 0 → r ≡ stopped_by FuelUsedUp s → Fuelled fuel lent lent s r Done
   fuel_none lent none-left is = record { used_up = λ e. (is, refl); performed = λ some_left. absurd (some_left none-left) }
 
   -- some is
@@ -44,44 +41,59 @@ module _ (fuel : ℕ) (s r : Machine) (Done : Type 0) where
 
 pub ruleset fuelled = (fuel_none, fuel_some)
 
+-- ---- what a test says
+
+module _ (t : Bool) (a b : ℕ) where
+  pub test_below : IsTrue t ↔ (a < b) → t ≡ true → a < b
+  test_below h e = h.0 e
+
+  pub test_not_below : IsTrue t ↔ (a < b) → t ≡ false → b ≤ a
+  test_not_below h e = elim (dec_le b a) [
+    | yes there ↦ there
+    | no missing ↦ let below : a < b = omega arith in let wrong : false ≡ true = sym e ∙ h.1 below in cc
+  ]
+
+  pub test_up_to : IsTrue t ↔ (a ≤ b) → t ≡ true → a ≤ b
+  test_up_to h e = h.0 e
+
+  pub test_above : IsTrue t ↔ (a ≤ b) → t ≡ false → b < a
+  test_above h e = elim (dec_le a b) [
+    | yes there ↦ let wrong : false ≡ true = sym e ∙ h.1 there in cc
+    | no above ↦ omega arith
+  ]
+
+pub ruleset tests = (test_below, test_not_below, test_up_to, test_above)
+
 -- ---- the words that stand, as the laws of the operations ask for them
 
 module _ (s : Machine) where
-  pub words_many : (n : ℕ) → Words n s → n ≤ s.top - s.base
-  words_many n words = omega (arith, words.there)
+  pub no_word : s.top - s.base < 1 → s.top ≤ s.base
+  no_word few = omega arith
 
-  pub words_some : Words 1 s → s.base < s.top
-  words_some words = omega (arith, words.there)
+  pub some_word : 1 ≤ s.top - s.base → s.base < s.top
+  some_word there = omega arith
 
-  -- a return's: no word is kept, or one is
-  pub kept_some : (k : ℕ) → k ≢ 0 → Words k s → s.base < s.top
-  kept_some k some_kept words = omega (arith, words.there)
+module _ (a k : ℕ) where
+  pub at_most : a < k + 1 → a ≤ k
+  at_most h = omega arith
 
-  pub kept_one : (k : ℕ) → k ≢ 0 → ReturnByte k → k ≡ 1
-  kept_one k some_kept byte = omega (arith, byte.few)
+  pub more_than : k + 1 ≤ a → k < a
+  more_than h = omega arith
 
-pub ruleset standing = (words_many, words_some, kept_some, kept_one)
+pub ruleset standing = (no_word, some_word, at_most, more_than)
 
--- ---- `get`
+-- a return's: no word is kept, or one is
+module _ (k : ℕ) where
+  pub kept_more : 1 < k → k ≢ 1
+  kept_more h e = absurd (omega arith)
 
-module _ (fuel k : ℕ) (values values' : List ℕ) (s r : Machine) where
-  -- the word found is pushed
-  pub got :
-      Words (k + 1) s
-      → Fuelled fuel values values' s r (OnValues (Push (get_or values (s.base + k) 0)) values values' s r)
-      → Fuelled fuel values values' s r (OnValues (Get k) values values' s r)
-  got there d =
-      record {
-        used_up = d.used_up;
-        performed = λ some_left. get_found values k s r values' (omega (arith, there.there)) (d.performed some_left);
-      }
+  pub kept_one : k ≢ 0 → k ≤ 1 → k ≡ 1
+  kept_one some_kept few = omega arith
 
--- ---- `read_number`
+  pub kept_words : (s : Machine) → k ≢ 0 → Words k s → Words 1 s
+  kept_words s some_kept words = record { there = omega (arith, words.there) }
 
--- Where fewer bytes are left than a test asks for, which asks for no more than a label has, no
--- label is whole. So a test that asks for too few fails where the bytes are read, and not here.
-pub no_label : (n asked : ℕ) → n < asked → leb asked label_bytes ≡ true → n < label_bytes
-no_label n asked fewer e = omega (arith, fewer, leb-true asked label_bytes e)
+pub ruleset keeping = (kept_more, kept_one)
 
 -- ---- what an instruction has that is not refused with 19
 
@@ -128,7 +140,7 @@ module _ (i : Instruction) (s : Machine) (a : Able i s) where
 
 -- ---- `step`
 
-module _ (i input values returns output : List ℕ) (s r : Machine) (a : Able (record_at i 0) s) where
+module _ (i : List ℕ) where
   abbrev x : ℕ
   x = get_or i 0 0
 
@@ -141,168 +153,164 @@ module _ (i input values returns output : List ℕ) (s r : Machine) (a : Able (r
   abbrev number : ℕ
   number = number_at 4 i 4
 
-  -- an opcode under the mask is the opcode itself
-  opcode_low : x ≤ last_opcode
-  unfolding record_at
-  opcode_low = low_opcode (record_at i 0) s a x b operand number refl
+  module _ (s : Machine) (a : Able (record_at i 0) s) where
+    -- no opcode is above 13
+    pub opcode_low : x ≤ last_opcode
+    unfolding record_at
+    opcode_low = low_opcode (record_at i 0) s a x b operand number refl
 
-  masked : (k : ℕ) → x % 16 ≡ k → x ≡ k
-  masked k e = let low = opcode_low in omega arith
+    -- what the arms' functions ask: by the opcode, the operation and what it needs
+    named : (k : ℕ) → x ≡ k → operation_of (record_at i 0) ≡ nth (operations b operand number) k
+    named k e = placed i k e
 
-  -- what the arms' functions ask: by the opcode, the operation and what it needs
-  named : (k : ℕ) → x % 16 ≡ k → operation_of (record_at i 0) ≡ nth (operations b operand number) k
-  named k e = placed i input values returns output s r k (masked k e)
+    needs : (k : ℕ) (op : Operation) → x ≡ k → nth (operations b operand number) k ≡ some op → s.base + words_needed op ≤ s.top
+    needs k op e is =
+        let there = words-needed (record_at i 0) s a op (named k e ∙ is) in
+        let based = a.held.based in
+        omega arith
 
-  needs : (k : ℕ) (op : Operation) → x % 16 ≡ k → nth (operations b operand number) k ≡ some op → s.base + words_needed op ≤ s.top
-  needs k op e is =
-      let there = words-needed (record_at i 0) s a op (named k e ∙ is) in
-      let based = a.held.based in
-      omega arith
+    frees : (k : ℕ) (op : Operation) → x ≡ k → nth (operations b operand number) k ≡ some op → words_added op ≡ 1 → Room s
+    frees k op e is one =
+        let room = room_for (record_at i 0) s a op (named k e ∙ is) (omega arith) in
+        record { free = omega arith }
 
-  frees : (k : ℕ) (op : Operation) → x % 16 ≡ k → nth (operations b operand number) k ≡ some op → words_added op ≡ 1 → Room s
-  frees k op e is one =
-      let room = room_for (record_at i 0) s a op (named k e ∙ is) (omega arith) in
-      record { free = omega arith }
+    pub push_room : x ≡ 0 → Room s
+    unfolding operations nth words_added
+    push_room e = frees 0 (Push number) e refl refl
 
-  pub push_room : x % 16 ≡ 0 → Room s
-  unfolding operations nth words_added
-  push_room e = frees 0 (Push number) e refl refl
+    pub get_room : x ≡ 1 → Room s
+    unfolding operations nth words_added
+    get_room e = frees 1 (Get operand) e refl refl
 
-  pub get_room : x % 16 ≡ 1 → Room s
-  unfolding operations nth words_added
-  get_room e = frees 1 (Get operand) e refl refl
+    pub get_words : (o : ℕ) → o ≡ operand → x ≡ 1 → Words (o + 1) s
+    unfolding operations nth words_needed
+    get_words o is e = let there = needs 1 (Get operand) e refl in record { there = omega arith }
 
-  pub get_words : (o : ℕ) → o ≡ operand → x % 16 ≡ 1 → Words (o + 1) s
-  unfolding operations nth words_needed
-  get_words o is e = let there = needs 1 (Get operand) e refl in record { there = omega arith }
+    pub add_words : x ≡ 2 → Words 2 s
+    unfolding operations nth words_needed
+    add_words e = record { there = needs 2 Add e refl }
 
-  pub add_words : x % 16 ≡ 2 → Words 2 s
-  unfolding operations nth words_needed
-  add_words e = record { there = needs 2 Add e refl }
+    pub ifnot_words : x ≡ 3 → Words 1 s
+    unfolding operations nth words_needed
+    ifnot_words e = record { there = needs 3 (Ifnot operand) e refl }
 
-  pub ifnot_words : x % 16 ≡ 3 → Words 1 s
-  unfolding operations nth words_needed
-  ifnot_words e = record { there = needs 3 (Ifnot operand) e refl }
+    pub slide_words : x ≡ 5 → Words 2 s
+    unfolding operations nth words_needed
+    slide_words e = record { there = needs 5 Slide e refl }
 
-  pub slide_words : x % 16 ≡ 5 → Words 2 s
-  unfolding operations nth words_needed
-  slide_words e = record { there = needs 5 Slide e refl }
+    pub drop_words : x ≡ 6 → Words 1 s
+    unfolding operations nth words_needed
+    drop_words e = record { there = needs 6 Drop e refl }
 
-  pub drop_words : x % 16 ≡ 6 → Words 1 s
-  unfolding operations nth words_needed
-  drop_words e = record { there = needs 6 Drop e refl }
+    pub written_words : x ≡ 9 → Words 1 s
+    unfolding operations nth words_needed
+    written_words e = record { there = needs 9 WriteNumber e refl }
 
-  pub written_words : x % 16 ≡ 9 → Words 1 s
-  unfolding operations nth words_needed
-  written_words e = record { there = needs 9 WriteNumber e refl }
+    pub label_room : x ≡ 11 → Room s
+    unfolding operations nth words_added
+    label_room e = frees 11 ReadNumber e refl refl
 
-  pub label_room : x % 16 ≡ 11 → Room s
-  unfolding operations nth words_added
-  label_room e = frees 11 ReadNumber e refl refl
+    pub call_words : x ≡ 12 → Words b s
+    unfolding operations nth words_needed
+    call_words e = record { there = needs 12 (Call operand b) e refl }
 
-  pub call_words : x % 16 ≡ 12 → Words b s
-  unfolding operations nth words_needed
-  call_words e = record { there = needs 12 (Call operand b) e refl }
+    pub return_needs : x ≡ 13 → Words b s
+    unfolding operations nth words_needed
+    return_needs e = record { there = needs 13 (Return b) e refl }
 
-  pub return_needs : x % 16 ≡ 13 → Words b s
-  unfolding operations nth words_needed
-  return_needs e = record { there = needs 13 (Return b) e refl }
+    pub return_keeps : x ≡ 13 → ReturnByte b
+    unfolding operations nth
+    return_keeps e = record { few = kept_byte (record_at i 0) s a b (named 13 e) }
 
-  pub return_keeps : x % 16 ≡ 13 → ReturnByte b
-  unfolding operations nth
-  return_keeps e = record { few = kept_byte (record_at i 0) s a b (named 13 e) }
+  module _ (input values returns output : List ℕ) (s r : Machine) where
+    -- the instruction is performed, or no fuel is left
+    module _ (fuel : ℕ) where
+      -- .. with these buffers
+      abbrev pub Turned : (values' returns' output' : List ℕ) → Type 0
+      Turned values' returns' output' = Turns fuel (record_at i 0) input values returns output values' returns' output' s r
 
-  -- the instruction is performed, or no fuel is left
-  module _ (fuel : ℕ) where
-    -- .. with these buffers
-    abbrev pub Turned : (values' returns' output' : List ℕ) → Type 0
-    Turned values' returns' output' = Turns fuel (record_at i 0) input values returns output values' returns' output' s r
+      on_values : {Done : Type 0} (values' : List ℕ) → Fuelled fuel values values' s r Done → (Done → Performs (record_at i 0) input values returns output values' returns output s r) → Turned values' returns output
+      on_values values' d did =
+          record {
+            used_up = λ e. ((d.used_up e).0, (d.used_up e).1, refl, refl);
+            performed = λ h. did (d.performed h);
+          }
 
-    on_values : {Done : Type 0} (values' : List ℕ) → Fuelled fuel values values' s r Done → (Done → Performs (record_at i 0) input values returns output values' returns output s r) → Turned values' returns output
-    on_values values' d did =
-        record {
-          used_up = λ e. ((d.used_up e).0, (d.used_up e).1, refl, refl);
-          performed = λ h. did (d.performed h);
-        }
+      on_returns : {Done : Type 0} (returns' : List ℕ) → Fuelled fuel returns returns' s r Done → (Done → Performs (record_at i 0) input values returns output values returns' output s r) → Turned values returns' output
+      on_returns returns' d did =
+          record {
+            used_up = λ e. ((d.used_up e).0, refl, (d.used_up e).1, refl);
+            performed = λ h. did (d.performed h);
+          }
 
-    on_returns : {Done : Type 0} (returns' : List ℕ) → Fuelled fuel returns returns' s r Done → (Done → Performs (record_at i 0) input values returns output values returns' output s r) → Turned values returns' output
-    on_returns returns' d did =
-        record {
-          used_up = λ e. ((d.used_up e).0, refl, (d.used_up e).1, refl);
-          performed = λ h. did (d.performed h);
-        }
+      on_output : {Done : Type 0} (output' : List ℕ) → Fuelled fuel output output' s r Done → (Done → Performs (record_at i 0) input values returns output values returns output' s r) → Turned values returns output'
+      on_output output' d did =
+          record {
+            used_up = λ e. ((d.used_up e).0, refl, refl, (d.used_up e).1);
+            performed = λ h. did (d.performed h);
+          }
 
-    on_output : {Done : Type 0} (output' : List ℕ) → Fuelled fuel output output' s r Done → (Done → Performs (record_at i 0) input values returns output values returns output' s r) → Turned values returns output'
-    on_output output' d did =
-        record {
-          used_up = λ e. ((d.used_up e).0, refl, refl, (d.used_up e).1);
-          performed = λ h. did (d.performed h);
-        }
+      on_none : {Done : Type 0} → Fuelled fuel [] [] s r Done → (Done → Performs (record_at i 0) input values returns output values returns output s r) → Turned values returns output
+      on_none d did =
+          record {
+            used_up = λ e. ((d.used_up e).0, refl, refl, refl);
+            performed = λ h. did (d.performed h);
+          }
 
-    on_none : {Done : Type 0} → Fuelled fuel [] [] s r Done → (Done → Performs (record_at i 0) input values returns output values returns output s r) → Turned values returns output
-    on_none d did =
-        record {
-          used_up = λ e. ((d.used_up e).0, refl, refl, refl);
-          performed = λ h. did (d.performed h);
-        }
+      pub push_turned : (n : ℕ) (values' : List ℕ) → x ≡ 0 → n ≡ number → Fuelled fuel values values' s r (OnValues (Push n) values values' s r) → Turned values' returns output
+      push_turned n values' e is d = on_values values' d (pushes i input values returns output s r n values' e is)
 
-    pub push_turned : (n : ℕ) (values' : List ℕ) → x % 16 ≡ 0 → n ≡ number → Fuelled fuel values values' s r (OnValues (Push n) values values' s r) → Turned values' returns output
-    push_turned n values' e is d = on_values values' d (pushes i input values returns output s r n values' (masked 0 e) is)
+      pub get_turned : (o : ℕ) (values' : List ℕ) → x ≡ 1 → o ≡ operand → Fuelled fuel values values' s r (OnValues (Get o) values values' s r) → Turned values' returns output
+      get_turned o values' e is d = on_values values' d (gets i input values returns output s r o values' e is)
 
-    pub get_turned : (o : ℕ) (values' : List ℕ) → x % 16 ≡ 1 → o ≡ operand → Fuelled fuel values values' s r (OnValues (Get o) values values' s r) → Turned values' returns output
-    get_turned o values' e is d = on_values values' d (gets i input values returns output s r o values' (masked 1 e) is)
+      pub add_turned : (values' : List ℕ) → x ≡ 2 → Fuelled fuel values values' s r (OnValues Add values values' s r) → Turned values' returns output
+      add_turned values' e d = on_values values' d (adds i input values returns output s r values' e)
 
-    pub add_turned : (values' : List ℕ) → x % 16 ≡ 2 → Fuelled fuel values values' s r (OnValues Add values values' s r) → Turned values' returns output
-    add_turned values' e d = on_values values' d (adds i input values returns output s r values' (masked 2 e))
+      pub ifnot_turned : (o : ℕ) → x ≡ 3 → o ≡ operand → Fuelled fuel values values s r (OnValues (Ifnot o) values values s r) → Turned values returns output
+      ifnot_turned o e is d = on_values values d (ifnots i input values returns output s r o e is)
 
-    pub ifnot_turned : (o : ℕ) → x % 16 ≡ 3 → o ≡ operand → Fuelled fuel values values s r (OnValues (Ifnot o) values values s r) → Turned values returns output
-    ifnot_turned o e is d = on_values values d (ifnots i input values returns output s r o (masked 3 e) is)
+      pub jump_turned : (o : ℕ) → x ≡ 4 → o ≡ operand → Sound s → Fuelled fuel [] [] s r (r ≡ jump_to o s) → Turned values returns output
+      jump_turned o e is sound d = on_none d (jumps i input values returns output s r o e is sound)
 
-    pub jump_turned : (o : ℕ) → x % 16 ≡ 4 → o ≡ operand → Sound s → Fuelled fuel [] [] s r (r ≡ jump_to o s) → Turned values returns output
-    jump_turned o e is sound d = on_none d (jumps i input values returns output s r o (masked 4 e) is sound)
+      pub slide_turned : (values' : List ℕ) → x ≡ 5 → Fuelled fuel values values' s r (OnValues Slide values values' s r) → Turned values' returns output
+      slide_turned values' e d = on_values values' d (slides i input values returns output s r values' e)
 
-    pub slide_turned : (values' : List ℕ) → x % 16 ≡ 5 → Fuelled fuel values values' s r (OnValues Slide values values' s r) → Turned values' returns output
-    slide_turned values' e d = on_values values' d (slides i input values returns output s r values' (masked 5 e))
+      pub drop_turned : x ≡ 6 → Fuelled fuel [] [] s r (OnNumbers Drop s r) → Turned values returns output
+      drop_turned e d = on_none d (drops i input values returns output s r e)
 
-    pub drop_turned : x % 16 ≡ 6 → Fuelled fuel [] [] s r (OnNumbers Drop s r) → Turned values returns output
-    drop_turned e d = on_none d (drops i input values returns output s r (masked 6 e))
+      pub leaf_turned : (output' : List ℕ) → x ≡ 7 → Fuelled fuel output output' s r (WritesTag leaf_tag output output' s r) → Turned values returns output'
+      leaf_turned output' e d = on_output output' d (writes_leaf i input values returns output s r output' e)
 
-    pub leaf_turned : (output' : List ℕ) → x % 16 ≡ 7 → Fuelled fuel output output' s r (WritesTag leaf_tag output output' s r) → Turned values returns output'
-    leaf_turned output' e d = on_output output' d (writes_leaf i input values returns output s r output' (masked 7 e))
+      pub node_turned : (output' : List ℕ) → x ≡ 8 → Fuelled fuel output output' s r (WritesTag node_tag output output' s r) → Turned values returns output'
+      node_turned output' e d = on_output output' d (writes_node i input values returns output s r output' e)
 
-    pub node_turned : (output' : List ℕ) → x % 16 ≡ 8 → Fuelled fuel output output' s r (WritesTag node_tag output output' s r) → Turned values returns output'
-    node_turned output' e d = on_output output' d (writes_node i input values returns output s r output' (masked 8 e))
+      pub written_turned : (output' : List ℕ) → x ≡ 9 → Fuelled fuel output output' s r (OnOutput WriteNumber values output output' s r) → Turned values returns output'
+      written_turned output' e d = on_output output' d (writes_number i input values returns output s r output' e)
 
-    pub written_turned : (output' : List ℕ) → x % 16 ≡ 9 → Fuelled fuel output output' s r (OnOutput WriteNumber values output output' s r) → Turned values returns output'
-    written_turned output' e d = on_output output' d (writes_number i input values returns output s r output' (masked 9 e))
+      pub tag_turned : (o : ℕ) → x ≡ 10 → o ≡ operand → Fuelled fuel [] [] s r (OnInput (ReadTag o) input s r) → Turned values returns output
+      tag_turned o e is d = on_none d (reads_tag i input values returns output s r o e is)
 
-    pub tag_turned : (o : ℕ) → x % 16 ≡ 10 → o ≡ operand → Fuelled fuel [] [] s r (OnInput (ReadTag o) input s r) → Turned values returns output
-    tag_turned o e is d = on_none d (reads_tag i input values returns output s r o (masked 10 e) is)
+      pub label_turned : (values' : List ℕ) → x ≡ 11 → Fuelled fuel values values' s r (FromInput ReadNumber input values values' s r) → Turned values' returns output
+      label_turned values' e d = on_values values' d (reads_number i input values returns output s r values' e)
 
-    pub label_turned : (values' : List ℕ) → x % 16 ≡ 11 → Fuelled fuel values values' s r (FromInput ReadNumber input values values' s r) → Turned values' returns output
-    label_turned values' e d = on_values values' d (reads_number i input values returns output s r values' (masked 11 e))
+      pub call_turned : (o : ℕ) (returns' : List ℕ) → x ≡ 12 → o ≡ operand → Fuelled fuel returns returns' s r (OnReturns (Call o b) returns returns' s r) → Turned values returns' output
+      call_turned o returns' e is d = on_returns returns' d (calls i input values returns output s r o returns' e is)
 
-    pub call_turned : (o : ℕ) (returns' : List ℕ) → x % 16 ≡ 12 → o ≡ operand → Fuelled fuel returns returns' s r (OnReturns (Call o b) returns returns' s r) → Turned values returns' output
-    call_turned o returns' e is d = on_returns returns' d (calls i input values returns output s r o returns' (masked 12 e) is)
+      pub return_turned : (values' : List ℕ) → x ≡ 13 → Fuelled fuel values values' s r (FromReturns (Return b) returns values values' s r) → Turned values' returns output
+      return_turned values' e d = on_values values' d (returned_so i input values returns output s r values' e)
 
-    pub return_turned : (values' : List ℕ) → x % 16 ≡ 13 → Fuelled fuel values values' s r (FromReturns (Return b) returns values values' s r) → Turned values' returns output
-    return_turned values' e d = on_values values' d (returned_so i input values returns output s r values' (masked 13 e))
+      -- no operation
+      pub none_14 : x ≡ 14 → Fuelled fuel [] [] s r (r ≡ stopped_by Cannot s) → Turned values returns output
+      none_14 e d = on_none d (names_none i input values returns output s r
+          (λ z. absurd (omega arith)) (λ z. absurd (omega arith)) (λ z. absurd (omega arith)) (λ z. absurd (omega arith)) (λ z. absurd (omega arith))
+          (λ z. absurd (omega arith)) (λ z. absurd (omega arith)) (λ z. absurd (omega arith)) (λ z. absurd (omega arith)) (λ z. absurd (omega arith))
+          (λ z. absurd (omega arith)) (λ z. absurd (omega arith)) (λ z. absurd (omega arith)) (λ z. absurd (omega arith)))
 
-    -- there is no opcode above 13
-    pub none_14 : (values' returns' output' : List ℕ) → x % 16 ≡ 14 → Turned values' returns' output'
-    none_14 values' returns' output' e = let low = opcode_low in absurd (omega (arith, masked 14 e))
+      pub none_more :
+          x ≢ 0 → x ≢ 1 → x ≢ 2 → x ≢ 3 → x ≢ 4 → x ≢ 5 → x ≢ 6 → x ≢ 7 → x ≢ 8 → x ≢ 9 → x ≢ 10 → x ≢ 11 → x ≢ 12 → x ≢ 13
+          → Fuelled fuel [] [] s r (r ≡ stopped_by Cannot s)
+          → Turned values returns output
+      none_more n0 n1 n2 n3 n4 n5 n6 n7 n8 n9 n10 n11 n12 n13 d =
+          on_none d (names_none i input values returns output s r n0 n1 n2 n3 n4 n5 n6 n7 n8 n9 n10 n11 n12 n13)
 
-    pub none_more :
-        (values' returns' output' : List ℕ)
-        → x % 16 ≢ 0 → x % 16 ≢ 1 → x % 16 ≢ 2 → x % 16 ≢ 3 → x % 16 ≢ 4 → x % 16 ≢ 5 → x % 16 ≢ 6
-        → x % 16 ≢ 7 → x % 16 ≢ 8 → x % 16 ≢ 9 → x % 16 ≢ 10 → x % 16 ≢ 11 → x % 16 ≢ 12 → x % 16 ≢ 13
-        → Turned values' returns' output'
-    none_more values' returns' output' n0 n1 n2 n3 n4 n5 n6 n7 n8 n9 n10 n11 n12 n13 =
-        let y : ℕ = x % 16 in
-        let from_7 : 7 ≤ y = but 6 y (but 5 y (but 4 y (but 3 y (but 2 y (but 1 y (but 0 y (omega arith) n0) n1) n2) n3) n4) n5) n6 in
-        let from_14 : 14 ≤ y = but 13 y (but 12 y (but 11 y (but 10 y (but 9 y (but 8 y (but 7 y from_7 n7) n8) n9) n10) n11) n12) n13 in
-        let own = masked y refl in
-        let low = opcode_low in
-        absurd (omega arith)
-
-pub ruleset asked = (push_room, get_room, get_words, add_words, ifnot_words, slide_words, drop_words, written_words, label_room, call_words, return_needs, return_keeps)
+pub ruleset asked = (push_room, get_room, get_words, add_words, ifnot_words, slide_words, drop_words, written_words, label_room, call_words, return_needs, return_keeps, opcode_low)

@@ -1,7 +1,7 @@
 -- The loop of a checked program's code. Its invariant is that of any code (`Running`): the state is
 -- reached from the start by as many steps as units. So no step is refused with 19 (`Safe`): the
 -- address holds an instruction, which can be performed.
-use Prim.Native.Nat.{ℕ, zero, suc, ◌+◌, ◌-◌, ◌*◌, ◌≤◌, ◌<◌}
+use Prim.Native.Nat.{ℕ, zero, suc, ◌+◌, ◌-◌, ◌*◌, ◌^◌, ◌≤◌, ◌<◌}
 use mathlib.Core.List.{List}
 use mathlib.Core.Logic.{◌≢◌, ◌⊎◌, inl, inr}
 use mathlib.Core.Option.{some}
@@ -12,22 +12,19 @@ use mir.Syntax.{w64}
 use mir.Val.{Fits}
 use lib.ListN.{length}
 use Rattle.formats.specs.Records.{record_at}
-use Rattle.formats.specs.Refusals.{fuel_used_up, cannot_perform}
+use Rattle.formats.specs.Refusals.{cannot_perform}
 use Rattle.meaning.specs.Instructions.{instruction_bytes}
 use Rattle.meaning.specs.Performing.{Setting, State, refuses, perform, step}
-use Rattle.meaning.specs.Running.{refused, Ran, of_code, outcome_of, number_reported, stream_run}
-use Rattle.meaning.specs.StreamRun.{used_up}
-use Rattle.meaning.specs.WorkWords.{before_stream}
-use Rattle.meaning.proofs.WorkWords.{run_refused}
+use Rattle.meaning.specs.Running.{Ran, of_code, stream_run}
 use Rattle.machine_state.specs.declared.Machine.{Machine}
+use Rattle.machine_state.specs.declared.Stop.TheVariants.{GoesOn, FuelUsedUp}
 use Rattle.machine_state.specs.declared.Answer.{Answer}
-use Rattle.machine_state.specs.Inner.States.{state_of, limit_of, goes_on, Sound}
-use Rattle.machine_state.specs.Inner.Answers.{ReportsChecked, Performed}
-use Rattle.machine_state.proofs.Laws.{unfuelled_is, stop_is}
+use Rattle.machine_state.specs.Inner.States.{state_of, limit_of, Sound}
+use Rattle.machine_state.specs.Inner.Answers.{run_answer, in_64_bits, due_at, Reports, Performed}
 use Rattle.operations.specs.Inner.Effects.{Does, Steps}
 use Rattle.operations.specs.Inner.Checked.{Safe, Able, Turns}
 use Rattle.operations.proofs.StepLaws.{there, not_there, steps_none, turns_there}
-use Rattle.operations.proofs.RunLaws.{Running, stops_here, turned_on, turned_not_14, turned_stops}
+use Rattle.operations.proofs.RunLaws.{Running, stops_unfuelled, turned_on, turned_stops}
 
 -- ---- after an instruction, or none
 
@@ -49,34 +46,26 @@ module _ (code input : List ℕ) (fuel : ℕ) (output₀ values₀ returns₀ ou
   did more = (d.performed more).does (of_code code input (length output₀)) refl h.held
 
   -- the buffers keep their lengths
-  pub checked_output : length output' ≡ length output₀
-  checked_output = elim (either (fuel - units)) [
-    | inl none ↦ ap length (d.used_up none).3 ∙ h.same_output
-    | inr more ↦ (did more).same_output ∙ h.same_output
-  ]
-
-  pub checked_values : length values' ≡ length values₀
+  checked_values : length values' ≡ length values₀
   checked_values = elim (either (fuel - units)) [
     | inl none ↦ ap length (d.used_up none).1 ∙ h.same_values
     | inr more ↦ (did more).same_values ∙ h.same_values
   ]
 
-  pub checked_returns : length returns' ≡ length returns₀
+  checked_returns : length returns' ≡ length returns₀
   checked_returns = elim (either (fuel - units)) [
     | inl none ↦ ap length (d.used_up none).2 ∙ h.same_returns
     | inr more ↦ (did more).same_returns ∙ h.same_returns
   ]
 
   -- where it goes on, fuel was left
-  going_left : r.stop ≡ goes_on → fuel - units ≢ 0
+  going_left : r.stop ≡ GoesOn → fuel - units ≢ 0
   going_left goes none =
-      let stop : r.stop ≡ fuel_used_up = ap (λ (q : Machine). q.stop) (d.used_up none).0 in
-      absurd (omega arith)
+      let stop : r.stop ≡ FuelUsedUp = ap (λ (q : Machine). q.stop) (d.used_up none).0 in
+      cc
 
-  pub checked_more : r.stop ≡ goes_on → units < fuel
+  pub checked_more : r.stop ≡ GoesOn → units < fuel
   checked_more goes = fuel_left fuel units (going_left goes)
-
-pub ruleset checked_lengths = (checked_output, checked_values, checked_returns)
 
 -- ---- the instruction at the address
 
@@ -132,36 +121,30 @@ module _ (code input : List ℕ) (fuel : ℕ) (output₀ values₀ returns₀ : 
         turns_there code input values returns output (limit_of (length code)) s r refl (record_at i 0) values' returns' output' held_here same (d.performed more)
 
     -- it goes on
-    pub checked_on : r.stop ≡ goes_on → Running code input fuel output₀ values₀ returns₀ output' values' returns' r (units + 1)
+    pub checked_on : r.stop ≡ GoesOn → Running code input fuel output₀ values₀ returns₀ output' values' returns' r (units + 1)
     checked_on goes =
         let more = going_left code input fuel output₀ values₀ returns₀ output values returns s units h i output' values' returns' r d goes in
         turned_on code input fuel output₀ values₀ returns₀ output values returns s units h output' values' returns' r (fuel_left fuel units more) (performed more) goes
 
-    -- it stops: no fuel is left ..
-    unfuelled : (a : Answer) → Fits w64 fuel → fuel - units ≡ 0 → ReportsChecked values' units r a → Performed due output' values₀ values' returns₀ returns' a
-    unfolding outcome_of number_reported before_stream
-    unfuelled a wide none t =
-        let all : length h.past ≡ fuel = omega (arith, h.counted, h.fuelled) in
-        let now : fuel ≡ units = omega (arith, h.fuelled) in
-        let is = (d.used_up none).0 in
-        let stop : r.stop ≡ fuel_used_up = ap (λ (q : Machine). q.stop) is in
-        let values_kept = checked_values code input fuel output₀ values₀ returns₀ output values returns s units h i output' values' returns' r d in
-        let returns_kept = checked_returns code input fuel output₀ values₀ returns₀ output values returns s units h i output' values' returns' r d in
-        stops_here code input fuel output₀ values₀ returns₀ output values returns s units h
-        h.past (refused fuel_used_up) output' values' returns' a (used_up h.led all)
-        (unfuelled_is values' units r a t stop (omega arith) ∙ rw (is, all, now) refl)
-        (d.used_up none).3
-        (run_refused before_stream _ _ _ _ _ values_kept returns_kept fuel_used_up s.read refl refl)
-
-    -- .. or the instruction stops, which is never with 14
-    pub checked_stops : (a : Answer) → Fits w64 fuel → r.stop ≢ goes_on → ReportsChecked values' units r a → Performed due output' values₀ values' returns₀ returns' a
-    checked_stops a wide stops t = elim (either (fuel - units)) [
-      | inl none ↦ unfuelled a wide none t
+    -- it stops: no fuel is left, or the instruction stops
+    pub checked_stops :
+        (a : Answer)
+        → Fits w64 fuel
+        → r.stop ≢ GoesOn
+        → (units + 1 < 2 ^ 64 → Reports values' units r a)
+        → run_answer a ≡ in_64_bits (due_at values' units r)
+        → Performed due output' values₀ values' returns₀ returns' a
+    checked_stops a wide stops reports wrapped = elim (either (fuel - units)) [
+      | inl none ↦
+          let is = (d.used_up none).0 in
+          let values_kept = checked_values code input fuel output₀ values₀ returns₀ output values returns s units h i output' values' returns' r d in
+          let returns_kept = checked_returns code input fuel output₀ values₀ returns₀ output values returns s units h i output' values' returns' r d in
+          let now : units ≡ fuel = omega (arith, h.fuelled) in
+          stops_unfuelled code input fuel output₀ values₀ returns₀ output values returns s units h a r output' values' returns' wide (omega arith) is
+          (rw now at wrapped) (d.used_up none).3 values_kept returns_kept
       | inr more ↦
           let inside = fuel_left fuel units more in
-          let not_14 = turned_not_14 code input fuel output₀ values₀ returns₀ output values returns s units h output' values' returns' r inside (performed more) in
-          turned_stops code input fuel output₀ values₀ returns₀ output values returns s units h output' values' returns' r inside (performed more) a wide stops
-          (stop_is values' units r a t not_14)
+          turned_stops code input fuel output₀ values₀ returns₀ output values returns s units h output' values' returns' r inside (performed more) a wide stops reports
     ]
 
 pub ruleset checked_run = (fetch_inside, step_sound, step_able, checked_on, checked_stops)

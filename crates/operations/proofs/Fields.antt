@@ -1,7 +1,7 @@
 -- The fields of an instruction, read from its own bytes: they are those of the record that the code
 -- holds at the address.
 use Prim.Native.Nat.{ℕ, zero, suc, ◌+◌, ◌-◌, ◌*◌, ◌≤◌, ◌<◌}
-use mathlib.Core.List.{List, [], ◌∷◌}
+use mathlib.Core.List.{List, ◌∷◌}
 use mathlib.Core.Path.{◌≡◌, refl, sym, ap, ap₂, ◌∙◌}
 use native.Mathlib.Nat.{add-zero, add_assoc}
 use native.Mathlib.Omega.{arith}
@@ -55,12 +55,3 @@ module _ (code : List ℕ) (address : ℕ) (whole : instruction_bytes * address 
       cc (opcode, byte1, operand, number)
 
 pub ruleset fetched = (record_there, length_inside)
-
--- ---- `operand_of` and `number_of`
-
-module _ (i : List ℕ) (r : ℕ) (whole : instruction_bytes ≤ length i) where
-  pub operand_is : r ≡ number_of (get_or i 2 0 ∷ get_or i 3 0 ∷ []) → r ≡ number_at 2 i 2
-  operand_is made = number-read 2 i 2 _ r (omega arith) (omega arith) made refl
-
-  pub number_is : r ≡ number_of (get_or i 4 0 ∷ get_or i 5 0 ∷ get_or i 6 0 ∷ get_or i 7 0 ∷ []) → r ≡ number_at 4 i 4
-  number_is made = number-read 4 i 4 _ r (omega arith) (omega arith) made refl

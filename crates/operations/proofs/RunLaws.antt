@@ -1,14 +1,13 @@
 -- The run: a law for each way out of its functions. Before each turn as many steps as units lead
 -- from the start to the state that the machine stands for (`Running`), and steps determine the run:
 -- so the turn that stops is the whole run's last.
-use Prim.Native.Nat.{ℕ, ◌+◌, ◌-◌, ◌^◌, ◌≤◌, ◌<◌}
+use Prim.Native.Nat.{ℕ, ◌+◌, ◌-◌, ◌%◌, ◌^◌, ◌≤◌, ◌<◌}
 use mathlib.Core.Bool.{false}
 use mathlib.Core.List.{List, [], ◌∷◌, ◌++◌}
-use mathlib.Core.Logic.{◌≢◌}
+use mathlib.Core.Logic.{◌≢◌, inl, inr}
 use mathlib.Core.Path.{◌≡◌, refl, sym, ap, ◌∙◌}
-use native.Mathlib.Decide.{dec_le}
 use native.Mathlib.Omega.{arith}
-use borrow.Author.Tests.{eq-eqb, ne_eqb, le-leb, lt-leb}
+use borrow.Author.Tests.{le-leb, lt-leb}
 use mir.Syntax.{w64}
 use mir.Val.{Fits}
 use lib.ListN.{length, take, drop, length-append, take-append-drop}
@@ -16,10 +15,10 @@ use lib.Seq.{length-take-le, drop-drop}
 use Rattle.formats.specs.Refusals.{fuel_used_up}
 use Rattle.formats.specs.Written.{written}
 use Rattle.formats.proofs.Written.{written_fits}
-use Rattle.refusal.specs.declared.Refusal.TheVariants.{FuelUsedUp}
-use Rattle.refusal.specs.declared.Verdict.TheVariants.{Refused}
+use Rattle.refusal.specs.declared.Refused.{Refused}
+use Rattle.refusal.specs.declared.Refusal.TheVariants.{SpaceTooShort}
 use Rattle.meaning.specs.Performing.{Setting, State, start, goes, ends, refuses, step, number_kept}
-use Rattle.meaning.specs.Running.{Run, Stop, refused, Ran, ran_to, none_done, too_short, of_code, outcome_of, number_reported, value_words, return_words, stream_run}
+use Rattle.meaning.specs.Running.{Run, Stop, refused, Ran, ran_to, too_short, of_code, outcome_of, number_reported, value_words, return_words, stream_run}
 use Rattle.meaning.specs.StreamRun.{StepRefusal, ended_there, not-a-tag, full, too_many, cannot, out-of-range, Stops, used_up, returned, stuck, here, on}
 use Rattle.meaning.specs.StreamRun.{Steps as Led}
 use Rattle.meaning.proofs.Steps.{one_step}
@@ -27,46 +26,29 @@ use Rattle.meaning.proofs.Runs.{runs}
 use Rattle.meaning.specs.WorkWords.{WorkWords, before_stream}
 use Rattle.meaning.proofs.WorkWords.{untouched, run_refused, ended as words_ended}
 use Rattle.machine_state.specs.declared.Machine.{Machine}
+use Rattle.machine_state.specs.declared.Stop.TheVariants.{GoesOn, Ended, FuelUsedUp}
 use Rattle.machine_state.specs.declared.Answer.{Answer}
-use Rattle.machine_state.specs.Inner.States.{words_from, waiting, frame_of, state_of, step_of, goes_on, has_ended, first, Going, Held, Lent}
+use Rattle.machine_state.specs.Inner.States.{words_from, waiting, frame_of, state_of, step_of, refusal_number, stopped_by, first, Going, Held, Lent}
 use Rattle.operations.specs.Inner.Effects.{Does, Steps}
-use Rattle.machine_state.specs.Inner.Answers.{run_answer, refusal_number, due_at, Reports, Performed}
+use Rattle.machine_state.specs.Inner.Answers.{run_answer, nothing_done, in_64_bits, due_at, Reports, Performed}
+use Rattle.machine_state.proofs.Laws.{stops, not_ended, ended_or}
 
 -- ---- what a stop says of the step
 
 module _ (values returns output : List ℕ) (r : Machine) where
-  step_goes : r.stop ≡ goes_on → step_of values returns output r ≡ goes (state_of values returns output r)
+  step_goes : r.stop ≡ GoesOn → step_of values returns output r ≡ goes (state_of values returns output r)
   unfolding step_of
-  step_goes e = rw (step_of, eq-eqb _ _ e)
+  step_goes e = rw (step_of, e)
 
-  step_ends : r.stop ≡ has_ended → step_of values returns output r ≡ ends (number_kept (frame_of values r))
+  step_ends : r.stop ≡ Ended → step_of values returns output r ≡ ends (number_kept (frame_of values r))
   unfolding step_of
-  step_ends e = rw (step_of, ne_eqb r.stop goes_on (λ z. absurd (omega arith)), eq-eqb _ _ e)
+  step_ends e = rw (step_of, e, e)
 
-  step_refuses : r.stop ≢ goes_on → r.stop ≢ has_ended → step_of values returns output r ≡ refuses r.stop
+  step_refuses : r.stop ≢ GoesOn → r.stop ≢ Ended → step_of values returns output r ≡ refuses (refusal_number r.stop)
   unfolding step_of
-  step_refuses h g = rw (step_of, ne_eqb _ _ h, ne_eqb _ _ g)
+  step_refuses h g = rw (step_of, stops _ h, not_ended _ g)
 
--- a step's refusal is named by its number
-names_itself : (n : ℕ) → StepRefusal n → refusal_number n ≡ n
-unfolding refusal_number
-names_itself n ended_there = refl
-names_itself n not-a-tag = refl
-names_itself n full = refl
-names_itself n too_many = refl
-names_itself n cannot = refl
-names_itself n out-of-range = refl
-
--- it is not 14, which is that of a run whose fuel is used up
-not_14 : (n : ℕ) → StepRefusal n → n ≢ fuel_used_up
-not_14 n ended_there e = absurd (omega arith)
-not_14 n not-a-tag e = absurd (omega arith)
-not_14 n full e = absurd (omega arith)
-not_14 n too_many e = absurd (omega arith)
-not_14 n cannot e = absurd (omega arith)
-not_14 n out-of-range e = absurd (omega arith)
-
--- and comes after 13
+-- a step's refusal comes after 13
 not_before : (n : ℕ) → StepRefusal n → before_stream n ≡ false
 unfolding before_stream
 not_before n ended_there = refl
@@ -124,7 +106,7 @@ drop_more few many l k h e =
 -- Before a turn: the machine goes on, `units` steps have led to its state, and the output after
 -- what is written is as it was.
 pub record Running (code input : List ℕ) (fuel : ℕ) (output₀ values₀ returns₀ output values returns : List ℕ) (s : Machine) (units : ℕ) : Type 0 where
-  pub going : s.stop ≡ goes_on
+  pub going : s.stop ≡ GoesOn
   pub held : Held (of_code code input (length output₀)) values returns output s
   pub past : List ℕ
   pub led : Led (of_code code input (length output₀)) past start (state_of values returns output s)
@@ -147,7 +129,7 @@ module _ (code input : List ℕ) (fuel : ℕ) (output₀ values₀ returns₀ : 
       value_words ≤ length values₀
       → return_words ≤ length returns₀
       → Running code input fuel output₀ values₀ returns₀ output₀ values₀ returns₀
-      (record { stop = 0; address = 0; top = 0; base = 0; saved = 0; read = 0; written = 0 })
+      (record { stop = GoesOn; address = 0; top = 0; base = 0; saved = 0; read = 0; written = 0 })
       0
   unfolding waiting words_from
   run_first v p =
@@ -215,16 +197,25 @@ module _ (code input : List ℕ) (fuel : ℕ) (output₀ values₀ returns₀ : 
             words = words;
           })
 
-      -- the fuel is used up
+      -- the fuel is used up: the machine stops with 14, before anything is changed
       pub stops_unfuelled :
-          fuel ≤ units
-          → Performed due output values₀ values returns₀ returns
-          (record { verdict = Refused FuelUsedUp s.read; units = fuel; read = s.read; written = s.written; number = 0 })
-      unfolding outcome_of number_reported before_stream
-      stops_unfuelled none =
+          (a : Answer) (r : Machine) (output' values' returns' : List ℕ)
+          → Fits w64 fuel
+          → fuel ≤ units
+          → r ≡ stopped_by FuelUsedUp s
+          → run_answer a ≡ in_64_bits (due_at values' fuel r)
+          → output' ≡ output
+          → length values' ≡ length values₀
+          → length returns' ≡ length returns₀
+          → Performed due output' values₀ values' returns₀ returns' a
+      unfolding outcome_of number_reported before_stream due_at
+      stops_unfuelled a r output' values' returns' wide none is t same values_kept returns_kept =
           let all : length h.past ≡ fuel = omega (arith, h.counted, h.fuelled) in
-          stops_here h.past (refused fuel_used_up) output values returns _ (used_up h.led all) (rw all refl) refl
-          (run_refused before_stream _ _ _ _ _ h.same_values h.same_returns fuel_used_up s.read refl refl)
+          let fits : fuel % 2 ^ 64 ≡ fuel = omega arith in
+          stops_here h.past (refused fuel_used_up) output' values' returns' a (used_up h.led all)
+          (t ∙ ap in_64_bits (ap (due_at values' fuel) is) ∙ rw (due_at, fits, all) refl)
+          same
+          (run_refused before_stream _ _ _ _ _ values_kept returns_kept fuel_used_up s.read refl refl)
 
       -- after a turn
       module _ (output' values' returns' : List ℕ) (r : Machine) (more : units < fuel)
@@ -246,7 +237,7 @@ module _ (code input : List ℕ) (fuel : ℕ) (output₀ values₀ returns₀ : 
           counted_more = omega (arith, length-append h.past (s.address ∷ []), h.counted)
 
           -- it goes on
-          pub turned_on : r.stop ≡ goes_on → Running code input fuel output₀ values₀ returns₀ output' values' returns' r (units + 1)
+          pub turned_on : r.stop ≡ GoesOn → Running code input fuel output₀ values₀ returns₀ output' values' returns' r (units + 1)
           turned_on goes-on =
               let e : step m state ≡ goes (state_of values' returns' output' r) = sym did.reported ∙ step_goes values' returns' output' r goes-on in
               let grown = ((one_step m state).grows _ e).writes in
@@ -268,17 +259,11 @@ module _ (code input : List ℕ) (fuel : ℕ) (output₀ values₀ returns₀ : 
                 untouched = did.untouched ∙ drop_more s.written r.written output output₀ more_written h.untouched;
               }
 
-          -- a step never stops with 14
-          pub turned_not_14 : r.stop ≢ fuel_used_up
-          turned_not_14 is_14 =
-              let e : step m state ≡ refuses r.stop = sym did.reported ∙ step_refuses values' returns' output' r (λ z. absurd (omega arith)) (λ z. absurd (omega arith)) in
-              not_14 r.stop ((one_step m state).refusals r.stop e) is_14
-
           -- it stops
           pub turned_stops :
               (a : Answer)
               → Fits w64 fuel
-              → r.stop ≢ goes_on
+              → r.stop ≢ GoesOn
               → (units + 1 < 2 ^ 64 → Reports values' units r a)
               → Performed due output' values₀ values' returns₀ returns' a
           unfolding outcome_of number_reported due_at
@@ -286,23 +271,21 @@ module _ (code input : List ℕ) (fuel : ℕ) (output₀ values₀ returns₀ : 
               let t : Reports values' units r a = reported (omega arith) in
               let still = did.still stops in
               let fuel_left : length h.past < fuel = omega (arith, h.counted) in
-              elim (dec_le r.stop has_ended) [
-                | yes low ↦
-                    let is_end : r.stop ≡ has_ended = omega arith in
+              elim (ended_or r.stop) [
+                | inl is_end ↦
                     let e : step m state ≡ ends (number_kept (frame_of values' r)) = sym did.reported ∙ step_ends values' returns' output' r is_end in
                     stops_here _ _ output' values' returns' a (returned h.led fuel_left e)
-                    (t.reports ∙ rw (due_at, eq-eqb _ _ is_end, still.read, still.written, counted_more) refl)
+                    (t.reports ∙ rw (due_at, is_end, still.read, still.written, counted_more) refl)
                     still.same
                     (words_ended before_stream _ _ _ _ _ turned_values turned_returns refl)
-                | no high ↦
-                    let no_end : r.stop ≢ has_ended = λ e. absurd (omega arith) in
-                    let e : step m state ≡ refuses r.stop = sym did.reported ∙ step_refuses values' returns' output' r stops no_end in
-                    let own_refusal = (one_step m state).refusals r.stop e in
-                    let own = names_itself r.stop own_refusal in
+                | inr no_end ↦
+                    let number : ℕ = refusal_number r.stop in
+                    let e : step m state ≡ refuses number = sym did.reported ∙ step_refuses values' returns' output' r stops no_end in
+                    let own_refusal = (one_step m state).refusals number e in
                     stops_here _ _ output' values' returns' a (stuck h.led fuel_left e)
-                    (t.reports ∙ rw (due_at, ne_eqb _ _ no_end, own, still.read, still.written, h.counted) refl)
+                    (t.reports ∙ rw (due_at, not_ended _ no_end, still.read, still.written, h.counted) refl)
                     still.same
-                    (run_refused before_stream _ _ _ _ _ turned_values turned_returns r.stop s.read refl (not_before r.stop own_refusal))
+                    (run_refused before_stream _ _ _ _ _ turned_values turned_returns number s.read refl (not_before number own_refusal))
               ]
 
 pub ruleset running = (run_first, turn_going, turn_lent, turned_output, turned_values, turned_returns, turned_on, turned_stops, stops_unfuelled)
@@ -310,14 +293,15 @@ pub ruleset running = (run_first, turn_going, turn_lent, turned_output, turned_v
 -- ---- `perform`
 
 -- value words are missing, or return words
-module _ (code input output : List ℕ) (fuel : ℕ) (values returns : List ℕ) (r : Answer) (reported : run_answer r ≡ none_done) where
+module _ (code input output : List ℕ) (fuel : ℕ) (values returns : List ℕ) (r : Answer) (refusal : Refused)
+    (refused_so : refusal ≡ record { why = SpaceTooShort; position = 0 }) (reported : run_answer r ≡ nothing_done refusal) where
   pub short_values :
       length values < value_words
       → Performed (stream_run code input output fuel (length values) (length returns)) output values values returns returns r
   unfolding stream_run
   short_values h =
       let none : stream_run code input output fuel (length values) (length returns) ≡ too_short output = rw (stream_run, lt-leb _ _ h) in
-      rw none (record { answer = reported; output = refl; words = untouched before_stream _ values returns })
+      rw none (record { answer = reported ∙ ap nothing_done refused_so; output = refl; words = untouched before_stream _ values returns })
 
   pub short_returns :
       value_words ≤ length values
@@ -326,6 +310,56 @@ module _ (code input output : List ℕ) (fuel : ℕ) (values returns : List ℕ)
   unfolding stream_run
   short_returns v h =
       let none : stream_run code input output fuel (length values) (length returns) ≡ too_short output = rw (stream_run, le-leb _ _ v, lt-leb _ _ h) in
-      rw none (record { answer = reported; output = refl; words = untouched before_stream _ values returns })
+      rw none (record { answer = reported ∙ ap nothing_done refused_so; output = refl; words = untouched before_stream _ values returns })
+
+  -- .. where the first of the value words are lent on
+  pub short_returns_first :
+      (first_values : List ℕ)
+      → value_words ≤ length values
+      → first_values ≡ take value_words values
+      → length returns < return_words
+      → Performed (stream_run code input output fuel (length values) (length returns)) output values (first_values ++ drop value_words values) returns returns r
+  short_returns_first first_values v is h = rw (is, take-append-drop value_words values) (short_returns v h)
 
 pub ruleset too-short = (short_values, short_returns)
+
+-- ---- the work words of a run are the first of those that are lent
+
+-- as many words as before, and the same ones where the first are as they were
+module _ (n : ℕ) (l first first' : List ℕ) (is : first ≡ take n l) where
+  whole_length : length first' ≡ length first → length (first' ++ drop n l) ≡ length l
+  whole_length same = length-append first' (drop n l) ∙ ap (λ k. k + length (drop n l)) (same ∙ ap length is) ∙ sym (length-append (take n l) (drop n l)) ∙ ap length (take-append-drop n l)
+
+  whole_kept : first' ≡ first → first' ++ drop n l ≡ l
+  whole_kept same = rw (same, is) (take-append-drop n l)
+
+module _ (code input output : List ℕ) (fuel : ℕ) (values returns values₁ returns₁ : List ℕ)
+    (v : value_words ≤ length values) (p : return_words ≤ length returns)
+    (first_values : values₁ ≡ take value_words values) (first_returns : returns₁ ≡ take return_words returns) where
+  same_run : stream_run code input output fuel (length values₁) (length returns₁) ≡ stream_run code input output fuel (length values) (length returns)
+  unfolding stream_run
+  same_run =
+      let lv = length-take-le value_words values v in
+      let lr = length-take-le return_words returns p in
+      let v₁ : value_words ≤ length values₁ = omega (arith, ap length first_values) in
+      let p₁ : return_words ≤ length returns₁ = omega (arith, ap length first_returns) in
+      rw (stream_run, le-leb _ _ v, le-leb _ _ p, le-leb _ _ v₁, le-leb _ _ p₁) refl
+
+  -- what is done in them is done in the whole buffers
+  pub done_in_first :
+      (output' values' returns' : List ℕ) (a : Answer)
+      → Performed (stream_run code input output fuel (length values₁) (length returns₁)) output' values₁ values' returns₁ returns' a
+      → Performed (stream_run code input output fuel (length values) (length returns)) output' values (values' ++ drop value_words values) returns
+      (returns' ++ drop return_words returns) a
+  done_in_first output' values' returns' a done =
+      let h = rw same_run at done in
+      record {
+        answer = h.answer;
+        output = h.output;
+        words = record {
+          values_length = whole_length value_words values values₁ values' first_values h.words.values_length;
+          returns_length = whole_length return_words returns returns₁ returns' first_returns h.words.returns_length;
+          values_kept = λ n q e b. whole_kept value_words values values₁ values' first_values (h.words.values_kept n q e b);
+          returns_kept = λ n q e b. whole_kept return_words returns returns₁ returns' first_returns (h.words.returns_kept n q e b);
+        };
+      }

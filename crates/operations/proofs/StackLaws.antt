@@ -7,7 +7,6 @@ use mathlib.Core.Path.{◌≡◌, refl, sym, ap, ◌∙◌}
 use native.Mathlib.Numerals.{add-one}
 use native.Mathlib.Omega.{arith}
 use borrow.Author.Tests.{eq-eqb, ne_eqb, lt-ltb, le-ltb}
-use lib.Dec.{lit<}
 use lib.ListN.{length, get_or, set, length-set}
 use Rattle.formats.specs.Arithmetic.{plus, result_of}
 use Rattle.formats.specs.Refusals.{cannot_perform, out_of_range}
@@ -15,13 +14,14 @@ use Rattle.meaning.specs.Instructions.{Operation, Push, Get, Add, Ifnot, Slide, 
 use Rattle.meaning.specs.Performing.{Setting, Step, goes, refuses, to_next, holding, if_room, push_word, push_result, operate}
 use Rattle.meaning.specs.Running.{value_words}
 use Rattle.numbers.specs.Inner.Sums.{word_in}
-use Rattle.numbers.specs.declared.Sum.{Sum}
-use Rattle.numbers.specs.declared.Sum.TheVariants.{Word, OutOfRange}
+use Rattle.std.specs.Prelude.{Option, Some, None}
 use Rattle.machine_state.specs.declared.Machine.{Machine}
-use Rattle.machine_state.specs.Inner.States.{words_from, state_of, Held, Sound, has_ended, stopped_by, next_to}
+use Rattle.machine_state.specs.declared.Stop.{Stop}
+use Rattle.machine_state.specs.declared.Stop.TheVariants.{CannotPerform, OutOfRange}
+use Rattle.machine_state.specs.Inner.States.{words_from, state_of, Held, Sound, stopped_by, next_to, jump_to}
 use Rattle.operations.specs.Inner.Effects.{OnNumbers, OnValues}
 use Rattle.operations.proofs.Frames.{words_pushed, one_missing, one_taken, two_missing, two_taken, word_found, word_missing, waiting_kept, all_standing}
-use Rattle.operations.proofs.Effects.{moved, held_moved, refused_so, goes_so}
+use Rattle.operations.proofs.Effects.{moved, held_moved, Names, names_cannot, names_range, refused_so, goes_so}
 
 -- ---- an operation refused, and one that goes on in its frame
 
@@ -38,21 +38,21 @@ on_numbers op s r h = record { does = λ m values returns output held. (h values
 
 -- it is refused
 refused :
-    (why : ℕ) (op : Operation) (values : List ℕ) (s r : Machine)
-    → has_ended < why
+    (why : Stop) (number : ℕ) (op : Operation) (values : List ℕ) (s r : Machine)
+    → Names why number
     → r ≡ stopped_by why s
-    → Becomes op values s (λ returns output. refuses why)
+    → Becomes op values s (λ returns output. refuses number)
     → OnValues op values values s r
-refused why op values s r numbered is e =
-    record { does = λ m returns output h. refused_so m _ values returns output s r why is (e m returns output h) numbered h }
+refused why number op values s r named is e =
+    record { does = λ m returns output h. refused_so m _ values returns output s r why number is (e m returns output h) named h }
 
 -- it cannot be performed
 cannot :
     (op : Operation) (values : List ℕ) (s r : Machine)
-    → r ≡ stopped_by cannot_perform s
+    → r ≡ stopped_by CannotPerform s
     → Becomes op values s (λ returns output. refuses cannot_perform)
     → OnValues op values values s r
-cannot op values s r = refused cannot_perform op values s r (lit< tt)
+cannot op values s r = refused CannotPerform cannot_perform op values s r names_cannot
 
 -- it goes on at an address, with the frame's words up to a new top
 stays :
@@ -95,7 +95,7 @@ stays_set op values s r i top x sound lent is above based topped e =
 -- ---- `push`
 
 module _ (values : List ℕ) (x : ℕ) (s r : Machine) (sound : Sound s) where
-  pub push_full : value_words ≤ s.top → r ≡ stopped_by cannot_perform s → OnValues (Push x) values values s r
+  pub push_full : value_words ≤ s.top → r ≡ stopped_by CannotPerform s → OnValues (Push x) values values s r
   unfolding operate push_word if_room
   push_full full is =
       cannot (Push x) values s r is
@@ -120,7 +120,7 @@ pub ruleset pushes = (push_full, push_room)
 -- ---- `get`
 
 module _ (values : List ℕ) (k : ℕ) (s r : Machine) where
-  pub get_missing : s.top - s.base ≤ k → r ≡ stopped_by cannot_perform s → OnValues (Get k) values values s r
+  pub get_missing : s.top - s.base ≤ k → r ≡ stopped_by CannotPerform s → OnValues (Get k) values values s r
   unfolding operate
   get_missing few is = cannot (Get k) values s r is (λ m returns output h. rw (operate, word_missing values s.base (s.top - s.base) k few))
 
@@ -139,17 +139,17 @@ pub ruleset gets = (get_missing, get_found)
 -- ---- `add`
 
 module _ (values : List ℕ) (s r : Machine) where
-  pub add_missing : s.top - s.base < 2 → r ≡ stopped_by cannot_perform s → OnValues Add values values s r
+  pub add_missing : s.top - s.base < 2 → r ≡ stopped_by CannotPerform s → OnValues Add values values s r
   unfolding operate
   add_missing few is = cannot Add values s r is (λ m returns output h. two_missing values s.base s.top _ few)
 
   -- the sum of the two words, if it is in range
-  module _ (sum : Sum) (sound : Sound s) (there : 2 ≤ s.top - s.base)
+  module _ (sum : Option ℕ) (sound : Sound s) (there : 2 ≤ s.top - s.base)
       (is_sum : word_in sum ≡ result_of plus (get_or values (s.top - 2) 0) (get_or values (s.top - 1) 0)) where
     pub add_two :
         (x : ℕ)
         → value_words ≤ length values
-        → sum ≡ Word x
+        → sum ≡ Some x
         → r ≡ next_to (s.top - 1) s
         → OnValues Add values (set values (s.top - 2) x) s r
     unfolding operate push_result
@@ -159,11 +159,11 @@ module _ (values : List ℕ) (s r : Machine) where
         stays_set Add values s r (s.top - 2) (s.top - 1) x sound lent is (omega arith) (omega arith) (omega arith)
         (λ m returns output h. two_taken values s.base s.top _ (omega arith) ∙ rw (result, push_result))
 
-    pub add_outside : sum ≡ OutOfRange → r ≡ stopped_by out_of_range s → OnValues Add values values s r
+    pub add_outside : sum ≡ None → r ≡ stopped_by OutOfRange s → OnValues Add values values s r
     unfolding operate push_result
     add_outside none_there is =
         let missing = sym is_sum ∙ ap word_in none_there in
-        refused out_of_range Add values s r (lit< tt) is
+        refused OutOfRange out_of_range Add values s r names_range is
         (λ m returns output h. two_taken values s.base s.top _ (omega arith) ∙ rw (missing, push_result))
 
 pub ruleset adds = (add_missing, add_two, add_outside)
@@ -171,19 +171,16 @@ pub ruleset adds = (add_missing, add_two, add_outside)
 -- ---- `ifnot`
 
 module _ (values : List ℕ) (a : ℕ) (s t : Machine) where
-  pub ifnot_missing : s.top ≤ s.base → t ≡ stopped_by cannot_perform s → OnValues (Ifnot a) values values s t
+  pub ifnot_missing : s.top ≤ s.base → t ≡ stopped_by CannotPerform s → OnValues (Ifnot a) values values s t
   unfolding operate
   ifnot_missing few is = cannot (Ifnot a) values s t is (λ m returns output h. one_missing values s.base s.top _ few)
 
   module _ (sound : Sound s) (there : s.base < s.top) (is : t ≡ next_to (s.top - 1) s) where
-    pub ifnot_goes :
-        get_or values (s.top - 1) 0 ≢ 0
-        → OnValues (Ifnot a) values values s
-        (record { stop = t.stop; address = a; top = t.top; base = t.base; saved = t.saved; read = t.read; written = t.written })
+    pub ifnot_goes : (r : Machine) → get_or values (s.top - 1) 0 ≢ 0 → r ≡ jump_to a t → OnValues (Ifnot a) values values s r
     unfolding operate
-    ifnot_goes Some-number =
+    ifnot_goes r Some-number jumped =
         let topped = sound.topped in
-        stays (Ifnot a) values values s _ a (s.top - 1) sound (rw is) (omega arith) (omega arith) refl
+        stays (Ifnot a) values values s r a (s.top - 1) sound (jumped ∙ ap (jump_to a) is) (omega arith) (omega arith) refl
         (λ m returns output h. one_taken values s.base s.top _ there ∙ rw (ne_eqb _ _ Some-number))
 
     pub ifnot_stays : get_or values (s.top - 1) 0 ≡ 0 → OnValues (Ifnot a) values values s t
@@ -198,7 +195,7 @@ pub ruleset ifnots = (ifnot_missing, ifnot_goes, ifnot_stays)
 -- ---- `slide`
 
 module _ (values : List ℕ) (s r : Machine) where
-  pub slide_missing : s.top - s.base < 2 → r ≡ stopped_by cannot_perform s → OnValues Slide values values s r
+  pub slide_missing : s.top - s.base < 2 → r ≡ stopped_by CannotPerform s → OnValues Slide values values s r
   unfolding operate
   slide_missing few is = cannot Slide values s r is (λ m returns output h. two_missing values s.base s.top _ few)
 
@@ -219,7 +216,7 @@ pub ruleset slides = (slide_missing, slide_two)
 -- ---- `drop`
 
 module _ (s r : Machine) where
-  pub drop_missing : s.top ≤ s.base → r ≡ stopped_by cannot_perform s → OnNumbers Drop s r
+  pub drop_missing : s.top ≤ s.base → r ≡ stopped_by CannotPerform s → OnNumbers Drop s r
   unfolding operate
   drop_missing few is =
       on_numbers Drop s r (λ values. cannot Drop values s r is (λ m returns output h. one_missing values s.base s.top _ few))

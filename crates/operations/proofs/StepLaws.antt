@@ -20,9 +20,11 @@ use Rattle.meaning.specs.Instructions.{Instruction, instruction_bytes, most_inst
 use Rattle.meaning.specs.Instructions.{Push, Get, Add, Ifnot, Jump, Slide, Drop, LeafTag, NodeTag, WriteNumber, ReadTag, ReadNumber, Call, Return}
 use Rattle.meaning.specs.Performing.{Setting, State, refuses, operate, perform, step}
 use Rattle.machine_state.specs.declared.Machine.{Machine}
+use Rattle.machine_state.specs.declared.Stop.TheVariants.{CannotPerform}
 use Rattle.machine_state.specs.Inner.States.{state_of, Held, Sound, limit_of, stopped_by, jump_to}
 use Rattle.operations.specs.Inner.Effects.{Does, OnNumbers, OnValues, WritesTag, OnOutput, FromInput, OnInput, OnReturns, FromReturns, Performs, Steps}
-use Rattle.operations.proofs.Effects.{held_moved, refused_so, goes_so}
+use Rattle.operations.specs.Inner.Checked.{Turns}
+use Rattle.operations.proofs.Effects.{held_moved, names_cannot, refused_so, goes_so}
 
 -- ---- the operation that an opcode names
 
@@ -35,6 +37,11 @@ unfolding perform
 performs_none m s i e = rw (perform, e)
 
 -- ---- `step`
+
+-- opcode k names the operation listed at number k
+pub placed : (i : List ℕ) (k : ℕ) → get_or i 0 0 ≡ k → operation_of (record_at i 0) ≡ nth (operations (get_or i 1 0) (number_at 2 i 2) (number_at 4 i 4)) k
+unfolding operation_of record_at
+placed i k e = ap (nth (operations (get_or i 1 0) (number_at 2 i 2) (number_at 4 i 4))) e
 
 module _ (i input values returns output : List ℕ) (s r : Machine) where
   -- the instruction's opcode, byte 1, operand and number
@@ -53,11 +60,6 @@ module _ (i input values returns output : List ℕ) (s r : Machine) where
   -- the instruction of these bytes leaves these buffers
   abbrev pub Leaves : (values' returns' output' : List ℕ) → Type 0
   Leaves values' returns' output' = Performs (record_at i 0) input values returns output values' returns' output' s r
-
-  -- opcode k names the operation listed at number k
-  pub placed : (k : ℕ) → x ≡ k → operation_of (record_at i 0) ≡ nth (operations b operand number) k
-  unfolding operation_of record_at
-  placed k e = ap (nth (operations b operand number)) e
 
   -- the instruction does what its operation does
   as_named :
@@ -80,24 +82,24 @@ module _ (i input values returns output : List ℕ) (s r : Machine) where
 
   pub pushes : (n : ℕ) (values' : List ℕ) → x ≡ 0 → n ≡ number → OnValues (Push n) values values' s r → Leaves values' returns output
   unfolding operations nth
-  pushes n values' e is d = on_values (Push n) values' (placed 0 e ∙ ap (λ k. some (Push k)) (sym is)) d
+  pushes n values' e is d = on_values (Push n) values' (placed i 0 e ∙ ap (λ k. some (Push k)) (sym is)) d
 
   pub gets : (o : ℕ) (values' : List ℕ) → x ≡ 1 → o ≡ operand → OnValues (Get o) values values' s r → Leaves values' returns output
   unfolding operations nth
-  gets o values' e is d = on_values (Get o) values' (placed 1 e ∙ ap (λ k. some (Get k)) (sym is)) d
+  gets o values' e is d = on_values (Get o) values' (placed i 1 e ∙ ap (λ k. some (Get k)) (sym is)) d
 
   pub adds : (values' : List ℕ) → x ≡ 2 → OnValues Add values values' s r → Leaves values' returns output
   unfolding operations nth
-  adds values' e d = on_values Add values' (placed 2 e) d
+  adds values' e d = on_values Add values' (placed i 2 e) d
 
   pub ifnots : (o : ℕ) → x ≡ 3 → o ≡ operand → OnValues (Ifnot o) values values s r → Leaves values returns output
   unfolding operations nth
-  ifnots o e is d = on_values (Ifnot o) values (placed 3 e ∙ ap (λ k. some (Ifnot k)) (sym is)) d
+  ifnots o e is d = on_values (Ifnot o) values (placed i 3 e ∙ ap (λ k. some (Ifnot k)) (sym is)) d
 
   pub jumps : (o : ℕ) → x ≡ 4 → o ≡ operand → Sound s → r ≡ jump_to o s → Leaves values returns output
   unfolding operations nth operate
   jumps o e is sound jumped =
-      as_named (Jump o) values returns output (placed 4 e ∙ ap (λ k. some (Jump k)) (sym is)) (λ m given h. rw jumped
+      as_named (Jump o) values returns output (placed i 4 e ∙ ap (λ k. some (Jump k)) (sym is)) (λ m given h. rw jumped
       (let held =
       held_moved m values returns output values output s o s.top s.read s.written h refl refl
       h.based h.topped h.read_there h.written_there in
@@ -105,54 +107,54 @@ module _ (i input values returns output : List ℕ) (s r : Machine) where
 
   pub slides : (values' : List ℕ) → x ≡ 5 → OnValues Slide values values' s r → Leaves values' returns output
   unfolding operations nth
-  slides values' e d = on_values Slide values' (placed 5 e) d
+  slides values' e d = on_values Slide values' (placed i 5 e) d
 
   pub drops : x ≡ 6 → OnNumbers Drop s r → Leaves values returns output
   unfolding operations nth
-  drops e d = as_named Drop values returns output (placed 6 e) (λ m given h. d.does m values returns output h)
+  drops e d = as_named Drop values returns output (placed i 6 e) (λ m given h. d.does m values returns output h)
 
   pub writes_leaf : (output' : List ℕ) → x ≡ 7 → WritesTag leaf_tag output output' s r → Leaves values returns output'
   unfolding operations nth operate
-  writes_leaf output' e d = as_named LeafTag values returns output' (placed 7 e) (λ m given h. d.does m values returns h)
+  writes_leaf output' e d = as_named LeafTag values returns output' (placed i 7 e) (λ m given h. d.does m values returns h)
 
   pub writes_node : (output' : List ℕ) → x ≡ 8 → WritesTag node_tag output output' s r → Leaves values returns output'
   unfolding operations nth operate
-  writes_node output' e d = as_named NodeTag values returns output' (placed 8 e) (λ m given h. d.does m values returns h)
+  writes_node output' e d = as_named NodeTag values returns output' (placed i 8 e) (λ m given h. d.does m values returns h)
 
   pub writes_number : (output' : List ℕ) → x ≡ 9 → OnOutput WriteNumber values output output' s r → Leaves values returns output'
   unfolding operations nth
-  writes_number output' e d = as_named WriteNumber values returns output' (placed 9 e) (λ m given h. d.does m returns h)
+  writes_number output' e d = as_named WriteNumber values returns output' (placed i 9 e) (λ m given h. d.does m returns h)
 
   pub reads_tag : (o : ℕ) → x ≡ 10 → o ≡ operand → OnInput (ReadTag o) input s r → Leaves values returns output
   unfolding operations nth
   reads_tag o e is d =
-      as_named (ReadTag o) values returns output (placed 10 e ∙ ap (λ k. some (ReadTag k)) (sym is))
+      as_named (ReadTag o) values returns output (placed i 10 e ∙ ap (λ k. some (ReadTag k)) (sym is))
       (λ m given h. (d.does values).does m returns output given h)
 
   pub reads_number : (values' : List ℕ) → x ≡ 11 → FromInput ReadNumber input values values' s r → Leaves values' returns output
   unfolding operations nth
-  reads_number values' e d = as_named ReadNumber values' returns output (placed 11 e) (λ m given h. d.does m returns output given h)
+  reads_number values' e d = as_named ReadNumber values' returns output (placed i 11 e) (λ m given h. d.does m returns output given h)
 
   pub calls : (o : ℕ) (returns' : List ℕ) → x ≡ 12 → o ≡ operand → OnReturns (Call o b) returns returns' s r → Leaves values returns' output
   unfolding operations nth
   calls o returns' e is d =
-      as_named (Call o b) values returns' output (placed 12 e ∙ ap (λ k. some (Call k b)) (sym is)) (λ m given h. d.does m values output h)
+      as_named (Call o b) values returns' output (placed i 12 e ∙ ap (λ k. some (Call k b)) (sym is)) (λ m given h. d.does m values output h)
 
   pub returned_so : (values' : List ℕ) → x ≡ 13 → FromReturns (Return b) returns values values' s r → Leaves values' returns output
   unfolding operations nth
-  returned_so values' e d = as_named (Return b) values' returns output (placed 13 e) (λ m given h. d.does m output h)
+  returned_so values' e d = as_named (Return b) values' returns output (placed i 13 e) (λ m given h. d.does m output h)
 
   -- any other opcode
   pub names_none :
       x ≢ 0 → x ≢ 1 → x ≢ 2 → x ≢ 3 → x ≢ 4 → x ≢ 5 → x ≢ 6 → x ≢ 7 → x ≢ 8 → x ≢ 9 → x ≢ 10 → x ≢ 11 → x ≢ 12 → x ≢ 13
-      → r ≡ stopped_by cannot_perform s
+      → r ≡ stopped_by CannotPerform s
       → Leaves values returns output
   unfolding operation_of record_at operations
   names_none n0 n1 n2 n3 n4 n5 n6 n7 n8 n9 n10 n11 n12 n13 is =
       let from_7 : 7 ≤ x = but 6 x (but 5 x (but 4 x (but 3 x (but 2 x (but 1 x (but 0 x (omega arith) n0) n1) n2) n3) n4) n5) n6 in
       let from_14 : 14 ≤ x = but 13 x (but 12 x (but 11 x (but 10 x (but 9 x (but 8 x (but 7 x from_7 n7) n8) n9) n10) n11) n12) n13 in
       let unnamed : operation_of (record_at i 0) ≡ none = none_past (operations b operand number) x from_14 in
-      record { does = λ m given h. refused_so m _ values returns output s r cannot_perform is (performs_none m _ _ unnamed) (omega arith) h }
+      record { does = λ m given h. refused_so m _ values returns output s r CannotPerform cannot_perform is (performs_none m _ _ unnamed) names_cannot h }
 
 -- ---- `turn`
 
@@ -180,13 +182,20 @@ pub steps_none : (m : Setting) (s : State) → m.holds s.address ≡ none → st
 unfolding step
 steps_none m s e = rw (step, e)
 
+-- an instruction that has fuel
+pub turned_once :
+    (i : Instruction) (input values returns output values' returns' output' : List ℕ) (s r : Machine)
+    → Turns 1 i input values returns output values' returns' output' s r
+    → Performs i input values returns output values' returns' output' s r
+turned_once i input values returns output values' returns' output' s r d = d.performed (λ e. absurd (omega arith))
+
 module _ (code input values returns output : List ℕ) (limit : ℕ) (s r : Machine) (limited : limit ≡ limit_of (length code)) where
-  pub turns_past : limit ≤ s.address → r ≡ stopped_by cannot_perform s → Steps code input values returns output values returns output s r
+  pub turns_past : limit ≤ s.address → r ≡ stopped_by CannotPerform s → Steps code input values returns output values returns output s r
   turns_past h is =
       let none_held : held_by code s.address ≡ none = not_there code s.address (omega arith) in
       record {
         does = λ m holds i held.
-            refused_so m _ values returns output s r cannot_perform is (steps_none m _ (ap (λ f. f s.address) holds ∙ none_held)) (omega arith) held;
+            refused_so m _ values returns output s r CannotPerform cannot_perform is (steps_none m _ (ap (λ f. f s.address) holds ∙ none_held)) names_cannot held;
       }
 
   pub turns_there :

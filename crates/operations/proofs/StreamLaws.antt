@@ -8,7 +8,6 @@ use native.Mathlib.Nat.{add-zero, le_refl}
 use native.Mathlib.Numerals.{add-one}
 use native.Mathlib.Omega.{arith}
 use borrow.Author.Tests.{le-leb, lt-leb, lt-ltb, le-ltb}
-use lib.Dec.{lit<}
 use lib.ListN.{length, get_or, set, take, length-set}
 use lib.Seq.{length-take-le}
 use Rattle.formats.specs.Numbers.{bytes_of, number_of, number_at}
@@ -23,10 +22,12 @@ use Rattle.meaning.specs.Performing.{Setting, State, Step, goes, refuses, to_nex
 use Rattle.meaning.specs.Performing.{if_room, write, on_tag, take_number, operate}
 use Rattle.meaning.specs.Running.{value_words}
 use Rattle.machine_state.specs.declared.Machine.{Machine}
-use Rattle.machine_state.specs.Inner.States.{words_from, frame_of, state_of, Sound, Held, goes_on, has_ended, stopped_by, next_to, jump_to}
+use Rattle.machine_state.specs.declared.Stop.{Stop}
+use Rattle.machine_state.specs.declared.Stop.TheVariants.{GoesOn, InputEnded, NotATag, OutputFull, CannotPerform}
+use Rattle.machine_state.specs.Inner.States.{words_from, frame_of, state_of, Sound, Held, stopped_by, next_to, jump_to}
 use Rattle.operations.specs.Inner.Effects.{Does, WritesTag, OnOutput, FromInput, OnInput}
 use Rattle.operations.proofs.Frames.{words_pushed, one_missing, one_taken, waiting_kept, all_standing}
-use Rattle.operations.proofs.Effects.{moved, held_moved, refused_so, goes_so}
+use Rattle.operations.proofs.Effects.{moved, held_moved, Names, names_ended, names_tag, names_full, names_cannot, refused_so, goes_so}
 
 -- ---- bytes to the output
 
@@ -53,7 +54,7 @@ writes_so :
     (m : Setting) (due : Step) (values returns output bytes : List ℕ) (s : Machine) (top : ℕ)
     → due ≡ write m bytes (holding (words_from values s.base (top - s.base)) (state_of values returns output s))
     → Held m values returns output s
-    → s.stop ≡ goes_on
+    → s.stop ≡ GoesOn
     → s.base ≤ top
     → top ≤ s.top
     → s.written + length bytes ≤ length output
@@ -77,10 +78,10 @@ writes_so m due values returns output bytes s top e h going based fewer fits =
 
 module _ (tag : ℕ) (output : List ℕ) (s r : Machine) where
   -- the byte does not fit
-  pub tag_full : length output ≤ s.written → r ≡ stopped_by output_full s → WritesTag tag output output s r
+  pub tag_full : length output ≤ s.written → r ≡ stopped_by OutputFull s → WritesTag tag output output s r
   tag_full full is = record {
     does = λ m values returns h.
-        refused_so m _ values returns output s r output_full is (full_so m values returns output (tag ∷ []) _ s h (omega arith)) (lit< tt) h;
+        refused_so m _ values returns output s r OutputFull output_full is (full_so m values returns output (tag ∷ []) _ s h (omega arith)) names_full h;
   }
 
   -- it fits
@@ -101,25 +102,25 @@ pub ruleset tags = (tag_full, tag_fits)
 
 module _ (values output : List ℕ) (s r : Machine) where
   -- no word, which comes first
-  pub number_missing : s.top ≤ s.base → r ≡ stopped_by cannot_perform s → OnOutput WriteNumber values output output s r
+  pub number_missing : s.top ≤ s.base → r ≡ stopped_by CannotPerform s → OnOutput WriteNumber values output output s r
   unfolding operate
   number_missing none is = record {
     does = λ m returns h.
-        refused_so m _ values returns output s r cannot_perform is (one_missing values s.base s.top _ none) (lit< tt) h;
+        refused_so m _ values returns output s r CannotPerform cannot_perform is (one_missing values s.base s.top _ none) names_cannot h;
   }
 
   module _ (some : s.base < s.top) where
     -- the word's bytes do not fit
     pub number_full :
         length output - s.written < label_bytes
-        → r ≡ stopped_by output_full s
+        → r ≡ stopped_by OutputFull s
         → OnOutput WriteNumber values output output s r
     unfolding operate bytes_of
     number_full full is = record {
       does = λ m returns h.
           let bytes = bytes_of label_bytes (get_or values (s.top - 1) 0) in
           let over = full_so m values returns output bytes _ s h (omega arith) in
-          refused_so m _ values returns output s r output_full is (one_taken values s.base s.top _ some ∙ over) (lit< tt) h;
+          refused_so m _ values returns output s r OutputFull output_full is (one_taken values s.base s.top _ some ∙ over) names_full h;
     }
 
     -- they fit
@@ -147,7 +148,7 @@ reads_so :
     (m : Setting) (due : Step) (values values' returns output : List ℕ) (s : Machine) (address top read : ℕ)
     → due ≡ goes (state_of values' returns output (moved address top read s.written s))
     → Held m values returns output s
-    → s.stop ≡ goes_on
+    → s.stop ≡ GoesOn
     → length values' ≡ length values
     → s.base ≤ top
     → top ≤ value_words
@@ -172,31 +173,31 @@ module _ (address : ℕ) (input : List ℕ) (s r : Machine) where
 
   -- .. it is refused, whatever the state
   tag_refused :
-      (g : Tag) (why : ℕ)
+      (g : Tag) (why : Stop) (number : ℕ)
       → tag_at input s.read ≡ g
-      → ((t : State) → on_tag g address t ≡ refuses why)
-      → has_ended < why
+      → ((t : State) → on_tag g address t ≡ refuses number)
+      → Names why number
       → r ≡ stopped_by why s
       → OnInput (ReadTag address) input s r
-  tag_refused g why found refused some is = record {
+  tag_refused g why number found refused named is = record {
     does = λ values. record {
-      does = λ m returns output e h. refused_so m _ values returns output s r why is (by_tag m _ g e found ∙ refused _) some h;
+      does = λ m returns output e h. refused_so m _ values returns output s r why number is (by_tag m _ g e found ∙ refused _) named h;
     };
   }
 
   -- the input has ended; its next byte is no tag; a leaf's; a node's
-  pub tag_ended : length input ≤ s.read → r ≡ stopped_by input_ended s → OnInput (ReadTag address) input s r
+  pub tag_ended : length input ≤ s.read → r ≡ stopped_by InputEnded s → OnInput (ReadTag address) input s r
   unfolding on_tag
-  tag_ended end is = tag_refused no_byte input_ended (tag_is (past end)) (λ t. refl) (lit< tt) is
+  tag_ended end is = tag_refused no_byte InputEnded input_ended (tag_is (past end)) (λ t. refl) names_ended is
 
   module _ (there : s.read < length input) where
     pub tag_other :
         get_or input s.read 0 ≢ leaf_tag
         → get_or input s.read 0 ≢ node_tag
-        → r ≡ stopped_by not_a_tag s
+        → r ≡ stopped_by NotATag s
         → OnInput (ReadTag address) input s r
     unfolding on_tag
-    tag_other no_leaf no_node is = tag_refused other not_a_tag (tag_is (at_other there no_leaf no_node)) (λ t. refl) (lit< tt) is
+    tag_other no_leaf no_node is = tag_refused other NotATag not_a_tag (tag_is (at_other there no_leaf no_node)) (λ t. refl) names_tag is
 
     -- .. it goes on, to an address
     tag_goes :
@@ -239,13 +240,13 @@ pub ruleset tags_in = (tag_ended, tag_other, tag_leaf, tag_node)
 
 module _ (input values : List ℕ) (s r : Machine) where
   -- no room, which comes first
-  pub number_surplus : value_words ≤ s.top → r ≡ stopped_by cannot_perform s → FromInput ReadNumber input values values s r
+  pub number_surplus : value_words ≤ s.top → r ≡ stopped_by CannotPerform s → FromInput ReadNumber input values values s r
   unfolding operate if_room
   number_surplus surplus is = record {
     does = λ m returns output e h.
         let full : m.most_words ≤ words_standing (state_of values returns output s) =
         rw (h.words_limit, all_standing values returns output s h.chained h.based) surplus in
-        refused_so m _ values returns output s r cannot_perform is (rw (operate, if_room, le-ltb _ _ full)) (lit< tt) h;
+        refused_so m _ values returns output s r CannotPerform cannot_perform is (rw (operate, if_room, le-ltb _ _ full)) names_cannot h;
   }
 
   module _ (more : s.top < value_words) where
@@ -254,13 +255,13 @@ module _ (input values : List ℕ) (s r : Machine) where
     roomy m returns output h = rw (h.words_limit, all_standing values returns output s h.chained h.based) more
 
     -- the four bytes are not there
-    pub number_ended : length input - s.read < label_bytes → r ≡ stopped_by input_ended s → FromInput ReadNumber input values values s r
+    pub number_ended : length input - s.read < label_bytes → r ≡ stopped_by InputEnded s → FromInput ReadNumber input values values s r
     unfolding operate if_room take_number
     number_ended end is = record {
       does = λ m returns output e h.
           let cut : length m.input < s.read + label_bytes = rw e (omega arith) in
-          refused_so m _ values returns output s r input_ended is
-          (rw (operate, if_room, lt-ltb _ _ (roomy m returns output h), take_number, lt-leb _ _ cut)) (lit< tt) h;
+          refused_so m _ values returns output s r InputEnded input_ended is
+          (rw (operate, if_room, lt-ltb _ _ (roomy m returns output h), take_number, lt-leb _ _ cut)) names_ended h;
     }
 
     -- they are, and their number is set on top

@@ -4,6 +4,7 @@ use Prim.Native.Nat.{ℕ}
 use mathlib.Core.List.{List}
 use mathlib.Core.Path.{◌≡◌, sym, ap, ◌∙◌}
 use lib.ListN.{length, take}
+use Rattle.std.specs.Prelude.{Result as Answer, Ok, Err}
 use Rattle.formats.specs.Results.{refusal}
 use Rattle.formats.specs.Blocks.{flat_in}
 use Rattle.formats.specs.Inner.Blocks.{most_bytes}
@@ -11,19 +12,16 @@ use Rattle.formats.proofs.Results.{then_done, then_refused}
 use Rattle.refusal.specs.Inner.Numbers.{number}
 use Rattle.refusal.specs.Inner.FilledBuffer.{FilledBuffer}
 use Rattle.refusal.specs.Inner.Verdicts.{verdict_result}
-use Rattle.refusal.specs.declared.Refusal.{Refusal}
-use Rattle.refusal.specs.declared.Filled.{Filled}
-use Rattle.refusal.specs.declared.Filled.TheVariants.{Written, Refused}
-use Rattle.refusal.specs.declared.Verdict.{Verdict}
+use Rattle.refusal.specs.declared.Refused.{Refused}
 use Rattle.block_reader.proofs.Taken.{not_taken, taken_out, taken_inside}
 use Rattle.rules.specs.PassTwo.{check_records, check_file}
 
-module _ (s space : List ℕ) (size : length space ≡ most_bytes) (after : List ℕ) (taken : Filled) (put : FilledBuffer (flat_in s) space after taken) where
-  pub blocks_refuse : (why : Refusal) (position : ℕ) → taken ≡ Refused why position → refusal (number why) position ≡ check_file s
+module _ (s space : List ℕ) (size : length space ≡ most_bytes) (after : List ℕ) (taken : Answer ℕ Refused) (put : FilledBuffer (flat_in s) space after taken) where
+  pub blocks_refuse : (r : Refused) → taken ≡ Err r → refusal (number r.why) r.position ≡ check_file s
   unfolding check_file
-  blocks_refuse why position is = sym (then_refused check_records (not_taken s space size after taken put why position is))
+  blocks_refuse r is = sym (then_refused check_records (not_taken s space size after taken put r is))
 
-  pub passes_say : (bytes : ℕ) (r : Verdict) → taken ≡ Written bytes → verdict_result r ≡ check_records (take bytes after) → verdict_result r ≡ check_file s
+  pub passes_say : (bytes : ℕ) (r : Answer (Unit {0}) Refused) → taken ≡ Ok bytes → verdict_result r ≡ check_records (take bytes after) → verdict_result r ≡ check_file s
   unfolding check_file
   passes_say bytes r is says = let f = taken_out s space size after taken put bytes is in says ∙ ap check_records f.there ∙ sym (then_done check_records f.is)
 

@@ -6,10 +6,10 @@ ghost use Rattle.refusal.specs.Inner.Verdicts.{verdict_result};
 ghost use Rattle.rules.specs.PassTwo.{check_records, check_file};
 
 use block_reader::MOST_BYTES;
-use refusal::{Filled, Verdict};
+use refusal::Refused;
 
 // Flat records: the rows header to prefix form, pass one, then pass two.
-pub fn check_records(flat: &[u8]) -> Verdict
+pub fn check_records(flat: &[u8]) -> Result<(), Refused>
     ensures { verdict_result result ≡ check_records flat.now }
 {
     pass_two::check_all_rows(flat)
@@ -17,13 +17,13 @@ pub fn check_records(flat: &[u8]) -> Verdict
 
 // Checks a program file: the rows from blocks to prefix form, pass one, then pass two, each
 // finished for the whole file before the next begins.
-pub fn check_file(file: &[u8]) -> Verdict
+pub fn check_file(file: &[u8]) -> Result<(), Refused>
     ensures { verdict_result result ≡ check_file file.now }
 {
     let mut flat = [0u8; MOST_BYTES];
-    let taken = block_reader::from_blocks(file, &mut flat);
-    match taken {
-        Filled::Refused(why, position) => Verdict::Refused(why, position),
-        Filled::Written(bytes) => check_records(&flat[..bytes]),
+    // not `?`: the must-fail edit block_left_out is of the arm that hands the refusal on
+    match block_reader::from_blocks(file, &mut flat) {
+        Err(refused) => Err(refused),
+        Ok(bytes) => check_records(&flat[..bytes]),
     }
 }

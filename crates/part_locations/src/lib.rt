@@ -1,37 +1,22 @@
 // Where the parts of a program's record stand, for the rows of the source run.
 #![tactic(auto)]
 
-ghost use Rattle.std.specs.Prelude.{suc, ◌+◌, ◌-◌, ◌≡◌, eqb};
+ghost use Rattle.std.specs.Prelude.{◌≡◌};
 ghost use Rattle.records.specs.Inner.Read.{meant, part_of};
-ghost use Rattle.stepwise.specs.Inner.Rows.{last_word};
-ghost use Rattle.part_locations.specs.Inner.Locations.{capped, names_inside, depth_inside, argument_in, part_in, noted};
+ghost use Rattle.part_locations.specs.Inner.Locations.{names_inside, depth_inside, Used, part_in, noted};
 
+use frames::{ADDED, FOLLOWED, KEPT, LABELLED, LAST_ARGUMENT, PASSED, TESTED};
 use records::{Part, Record};
 
 // The last word of a frame.
 const LAST_WORD: usize = 15;
 
-// Roles: what a record does with the value of its part.
-const KEPT: usize = 1;
-
-const ADDED: usize = 2;
-
-const TESTED: usize = 3;
-
-const PASSED: usize = 4;
-
-const LABELLED: usize = 5;
-
-const FOLLOWED: usize = 6;
-
-const LAST_ARGUMENT: usize = 7;
-
 // Where a record stands: its role, its parent's record, the word of its number, how many numbers
 // are named, how many are kept, and in how many node parts of Cases it stands. The records of these
 // Cases are lent separately, the outermost first.
-#[derive(Clone, Copy)]
+#[derive(Clone, Copy, Debug, PartialEq, Eq)]
 pub struct Location {
-    pub role: usize,
+    pub role: u16,
     pub parent: usize,
     pub slot: usize,
     pub names: usize,
@@ -39,99 +24,65 @@ pub struct Location {
     pub depth: usize,
 }
 
-// The sum, or the largest 64-bit number where the sum does not fit. Counts of a program's records
-// are small, so for a program it fits.
-fn add_up(x: usize, y: usize) -> usize
-    ensures { result ≡ capped (x + y) }
-{
-    if usize::MAX - x < y {
-        return usize::MAX;
-    }
-    x + y
-}
-
-// The word n below the last; 0 where there is none.
-fn from_last(n: usize) -> usize
-    ensures { result ≡ last_word - n }
-{
-    if LAST_WORD < n {
-        return 0;
-    }
-    LAST_WORD - n
-}
-
-// Whether part i is the last of `count` parts.
-fn is_last(i: usize, count: usize) -> bool
-    ensures { result ≡ eqb (suc i) count }
-{
-    if count == 0 {
-        return false;
-    }
-    i == count - 1
-}
-
-// A location with these fields.
-fn placed(
-    role: usize,
-    parent: usize,
-    slot: usize,
-    names: usize,
-    keeps: usize,
-    depth: usize,
-) -> Location
-    ensures { result ≡ record {
-      role = role;
-      parent = parent;
-      slot = slot;
-      names = names;
-      keeps = keeps;
-      depth = depth;
-    } }
-{
-    Location {
-        role: role,
-        parent: parent,
-        slot: slot,
-        names: names,
-        keeps: keeps,
-        depth: depth,
-    }
-}
-
-// How many numbers are named in a part, by what the part is. At its record `names` are named.
+// How many numbers are named in a part, by what the part is. At its record `names` are named. Here
+// and below a sum stops at the largest 64-bit number; for a program it is small, and fits.
+#[tactic(auto, using(crate::proofs::Parts::namings))]
 fn names_inside(part: Part, names: usize) -> usize
     ensures { result ≡ names_inside (part_of part) names }
 {
     match part {
-        Part::UnderNumber => add_up(names, 1),
+        Part::UnderNumber => names.saturating_add(1),
         _ => names,
     }
 }
 
 // In how many node parts of Cases a part stands, by what the part is. Its record stands in `depth`
 // of them.
+#[tactic(auto, using(crate::proofs::Parts::namings))]
 fn depth_inside(part: Part, depth: usize) -> usize
     ensures { result ≡ depth_inside (part_of part) depth }
 {
     match part {
-        Part::UnderTrees => add_up(depth, 1),
+        Part::UnderTrees => depth.saturating_add(1),
         _ => depth,
     }
 }
 
-// Where an argument of the Call at record r stands, with `kept` numbers kept before it.
-fn argument(r: usize, kept: usize, last: bool, names: usize, depth: usize) -> Location
-    ensures { result ≡ argument_in r kept last names depth }
+// What a record does with the value of its part i: the role, the word of its number, and how many
+// numbers are kept when the part is entered. The record has `count` parts and stands at `location`.
+fn used(node: Record, i: usize, count: usize, location: Location) -> (u16, usize, usize)
+    ensures { Used (meant node) i count location result.0 result.1 result.2 }
 {
-    let slot = from_last(kept);
-    if last {
-        return placed(LAST_ARGUMENT, r, slot, names, kept, depth);
+    let keeps = location.keeps;
+    match (node, i) {
+        (Record::Add, 0) => (KEPT, LAST_WORD.saturating_sub(keeps), keeps),
+        (Record::Add, _) => (
+            ADDED,
+            LAST_WORD.saturating_sub(keeps),
+            keeps.saturating_add(1),
+        ),
+        (Record::IfZero, 0) => (TESTED, 0, keeps),
+        (Record::IfZero, _) => (PASSED, 0, keeps),
+        (Record::Let, 0) => (KEPT, location.names, keeps),
+        (Record::Let, _) => (PASSED, location.names, keeps),
+        (Record::Leaf, _) => (LABELLED, 0, keeps),
+        (Record::Node, 0) => (FOLLOWED, 0, keeps),
+        (Record::Node, _) => (PASSED, 0, keeps),
+        (Record::Call(_), _) => {
+            let kept = keeps.saturating_add(i);
+            let slot = LAST_WORD.saturating_sub(kept);
+            if count.saturating_sub(i) == 1 {
+                return (LAST_ARGUMENT, slot, kept);
+            }
+            (KEPT, slot, kept)
+        }
+        _ => (PASSED, 0, keeps),
     }
-    placed(KEPT, r, slot, names, kept, depth)
 }
 
 // Where part i of the record r stands, which has `count` parts. The part says what is named in it,
 // the record's kind says its role and its word.
+#[tactic(auto, using(crate::proofs::Parts::insides))]
 pub fn inside(
     part: Part,
     node: Record,
@@ -142,53 +93,24 @@ pub fn inside(
 ) -> Location
     ensures { result ≡ part_in (part_of part) (meant node) r i count location }
 {
-    let names = names_inside(part, location.names);
-    let depth = depth_inside(part, location.depth);
-    let keeps = location.keeps;
-    match node {
-        Record::Add => {
-            let slot = from_last(keeps);
-            if i == 0 {
-                return placed(KEPT, r, slot, names, keeps, depth);
-            }
-            placed(ADDED, r, slot, names, add_up(keeps, 1), depth)
-        }
-        Record::IfZero => {
-            if i == 0 {
-                return placed(TESTED, r, 0, names, keeps, depth);
-            }
-            placed(PASSED, r, 0, names, keeps, depth)
-        }
-        Record::Let => {
-            let slot = location.names;
-            if i == 0 {
-                return placed(KEPT, r, slot, names, keeps, depth);
-            }
-            placed(PASSED, r, slot, names, keeps, depth)
-        }
-        Record::Leaf => placed(LABELLED, r, 0, names, keeps, depth),
-        Record::Node => {
-            if i == 0 {
-                return placed(FOLLOWED, r, 0, names, keeps, depth);
-            }
-            placed(PASSED, r, 0, names, keeps, depth)
-        }
-        Record::Call(c) => argument(r, add_up(keeps, i), is_last(i, count), names, depth),
-        _ => placed(PASSED, r, 0, names, keeps, depth),
+    let (role, slot, keeps) = used(node, i, count, location);
+    Location {
+        role,
+        parent: r,
+        slot,
+        names: names_inside(part, location.names),
+        keeps,
+        depth: depth_inside(part, location.depth),
     }
 }
 
 // Before a part that names two trees more is entered, the Case's record r is put on top of the
 // stack.
+#[tactic(auto, using(crate::proofs::Parts::notes))]
 pub fn note_case(cases: &mut [u16], part: Part, r: usize, depth: usize)
     ensures { cases.new ≡ noted (part_of part) r depth cases.old }
 {
-    match part {
-        Part::UnderTrees => {
-            if depth < cases.len() {
-                cases[depth] = (r % 65536) as u16;
-            }
-        }
-        _ => {}
+    if let Part::UnderTrees = part {
+        frames::put(cases, depth, (r % 65536) as u16);
     }
 }

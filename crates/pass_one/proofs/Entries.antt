@@ -1,7 +1,8 @@
 -- A record's own tests: a law for each way out of their functions.
 use Prim.Native.Nat.{ℕ, zero, suc}
-use mathlib.Core.Bool.{Bool, true, false, not}
+use mathlib.Core.Bool.{Bool, true, false, not, beq, false≢true}
 use mathlib.Core.List.{List}
+use mathlib.Core.Logic.{◌⊎◌, inl, inr}
 use mathlib.Core.Path.{◌≡◌, refl, sym, ap, ◌∙◌}
 use native.Mathlib.Omega.{arith}
 use borrow.Author.Tests.{ltb-true, ne_eqb, not-true, not-false}
@@ -13,7 +14,8 @@ use Rattle.formats.specs.Programs.{Sort, number_valued, tree_valued, sort_number
 use Rattle.formats.specs.Inner.Fields.{header_in, sort_in, arity_in}
 use Rattle.formats.proofs.Rows.{function_read}
 use Rattle.refusal.specs.declared.Refusal.TheVariants.{WrongType, NotBound, TooManyWords}
-use Rattle.refusal.specs.declared.Verdict.TheVariants.{Passed, Refused}
+use Rattle.std.specs.Prelude.{Ok, Err}
+use Rattle.refusal.specs.declared.Refused.{Refused}
 use Rattle.records.specs.Inner.Read.{meant}
 use Rattle.records.specs.declared.Record.{Record}
 use Rattle.records.specs.declared.Record.TheVariants.{Const, Var, Add, IfZero, Let, Leaf, Node, Case, Call}
@@ -27,7 +29,7 @@ use Rattle.rules.specs.PassOne.{name_bound, type_fits, bare_number, words_tested
 use Rattle.rules.specs.Limits.{most_frame_words}
 use Rattle.walks.specs.Inner.Standing.{Known}
 use Rattle.walks.proofs.Walks.{Signed, signature-of}
-use Rattle.pass_one.specs.Inner.Walk.{expected, scope_of, Typed, Bare, Roomy, Tested}
+use Rattle.pass_one.specs.Inner.Walk.{expected, scope_of, Typed, Bare, WordTested, Roomy, Tested}
 use Rattle.pass_one.specs.declared.Scope.{Scope}
 
 -- ---- `is_named`
@@ -72,23 +74,22 @@ tree_expected true = refl
 tree_expected false = refl
 
 -- the sort's number decides which type the function's value has
-tree_fits : (sort : Sort) (n : ℕ) (tree : Bool) → sort_number sort ≡ n → n ≡ 1 → tree ≡ has_type sort (expected tree)
-unfolding sort_number has_type
-tree_fits number_valued n tree e one = absurd (omega arith)
-tree_fits tree_valued n tree e one = tree_expected tree
+-- the sort's number decides which type the function's value has
+sort_fits : (sort : Sort) (n : ℕ) (tree : Bool) → sort_number sort ≡ n → beq tree (eqb n 1) ≡ has_type sort (expected tree)
+unfolding sort_number has_type is_int is_output_tree
+sort_fits number_valued n true e = rw (← e)
+sort_fits number_valued n false e = rw (← e)
+sort_fits tree_valued n true e = rw (← e)
+sort_fits tree_valued n false e = rw (← e)
 
-number_fits : (sort : Sort) (n : ℕ) (tree : Bool) → sort_number sort ≡ n → (n ≡ 1 → ⊥) → not tree ≡ has_type sort (expected tree)
-unfolding sort_number has_type
-number_fits number_valued n tree e other = number_expected tree
-number_fits tree_valued n tree e other = absurd (other (sym e))
-
-module _ (s : List ℕ) (c : Scope) (node : Record) where
+module _ (s : List ℕ) (node : Record) where
   -- a Call's function is one of those with these signatures
   called : (gs : List Signature) (v : Called) → node ≡ Call v → Known s gs → function_below (header_in s).functions (meant node) ≡ true → Signed s gs v.b
   unfolding function_below
   called gs v case known low =
       signature-of s gs v.b known (ltb-true v.b (header_in s).functions (sym (ap (λ n. function_below (header_in s).functions (meant n)) case) ∙ low))
 
+module _ (s : List ℕ) (c : Scope) (node : Record) where
   typed_number : ((gs : List Signature) → type_fits gs (scope_of c) (meant node) ≡ is_int (expected c.tree)) → Typed s c node (not c.tree)
   typed_number e = record { is = λ gs known low. number_expected c.tree ∙ sym (e gs) }
 
@@ -115,21 +116,21 @@ module _ (s : List ℕ) (c : Scope) (node : Record) where
   unfolding type_fits
   typed_node case = typed_tree (λ gs. ap (λ n. type_fits gs (scope_of c) (meant n)) case)
 
-  module _ (v : Called) (n : ℕ) (case : node ≡ Call v) (is : n ≡ sort_in s v.b) where
-    -- the type of a Call is that of its function
-    call_fits : (r : Bool) → ((sort : Sort) → sort_number sort ≡ n → r ≡ has_type sort (expected c.tree)) → Typed s c node r
-    unfolding type_fits
-    call_fits r fit = record {
-      is = λ gs known low.
-          let g = called gs v case known low in
-          fit g.signature.sort (g.its_fields.sort ∙ sym is) ∙ sym (ap (λ n. type_fits gs (scope_of c) (meant n)) case ∙ rw (g.there, type_fits));
-    }
+  pub typed_numbers : ((i : Constant) × (node ≡ Const i)) ⊎ (((v : NumberName) × (node ≡ Var v)) ⊎ (node ≡ Add)) → Typed s c node (not c.tree)
+  typed_numbers (inl h) = typed_const h.0 h.1
+  typed_numbers (inr (inl h)) = typed_var h.0 h.1
+  typed_numbers (inr (inr case)) = typed_add case
 
-    pub typed_tree_call : n ≡ 1 → Typed s c node c.tree
-    typed_tree_call one = call_fits c.tree (λ sort e. tree_fits sort n c.tree e one)
-
-    pub typed_number_call : (n ≡ 1 → ⊥) → Typed s c node (not c.tree)
-    typed_number_call other = call_fits (not c.tree) (λ sort e. number_fits sort n c.tree e other)
+  -- the type of a Call is that of its function
+  pub typed_call : (v : Called) (t : Bool) → node ≡ Call v → t ≡ eqb (sort_in s v.b) 1 → Typed s c node (beq c.tree t)
+  unfolding type_fits
+  typed_call v t case is = record {
+    is = λ gs known low.
+        let g = called s node gs v case known low in
+        ap (beq c.tree) is
+        ∙ sort_fits g.signature.sort (sort_in s v.b) c.tree g.its_fields.sort
+        ∙ sym (ap (λ n. type_fits gs (scope_of c) (meant n)) case ∙ rw (g.there, type_fits));
+  }
 
 pub typed_other : (s : List ℕ) (c : Scope) (node : Record) → ((x : Constant) → node ≡ Const x → ⊥) → ((x : NumberName) → node ≡ Var x → ⊥) → (node ≡ Add → ⊥) → (node ≡ Leaf → ⊥) → (node ≡ Node → ⊥) → ((x : Called) → node ≡ Call x → ⊥) → Typed s c node true
 unfolding type_fits
@@ -143,87 +144,84 @@ typed_other s c Node _ _ _ _ no_node _ = absurd (no_node refl)
 typed_other s c (Case x) _ _ _ _ _ _ = record { is = λ gs known low. refl }
 typed_other s c (Call x) _ _ _ _ _ no_call = absurd (no_call x refl)
 
-pub ruleset typings = (typed_const, typed_var, typed_add, typed_leaf, typed_node, typed_tree_call, typed_number_call, typed_other)
+pub ruleset typings = (typed_numbers, typed_leaf, typed_node, typed_call, typed_other)
 
 -- ---- `is_bare_number`
 
-module _ (s : List ℕ) (b n : ℕ) (is : n ≡ sort_in s b) where
-  pub bare_tree : n ≡ 1 → Bare s b false
-  unfolding bare_number sort_number
-  bare_tree one = record { is = λ g e. by_sort g.sort g.parameters ((function_read s b g e).sort ∙ sym is) }
-    where
-      by_sort : (sort : Sort) (p : ℕ) → sort_number sort ≡ n
-          → false ≡ elim sort [ tree_valued ↦ false | number_valued ↦ elim p [ zero ↦ true | suc k ↦ false ] ]
-      by_sort tree_valued p e = refl
-      by_sort number_valued p e = absurd (omega arith)
+-- ---- `is_roomy`
 
-  pub bare-number : (m : ℕ) → (n ≡ 1 → ⊥) → m ≡ arity_in s b → Bare s b (eqb m 0)
-  unfolding bare_number sort_number
-  bare-number m other many = record {
-    is = λ g e. let f = function_read s b g e in by_sort g.sort g.parameters (f.sort ∙ sym is) (many ∙ sym f.arity);
-  }
+module _ (s : List ℕ) (b : ℕ) (t : Bool) (is : t ≡ eqb (sort_in s b) 1) where
+  bare_of : (r : Bool) → ((sort : Sort) (p : ℕ) → sort_number sort ≡ sort_in s b → arity_in s b ≡ p → r ≡ elim sort [ tree_valued ↦ false | number_valued ↦ elim p [ zero ↦ true | suc k ↦ false ] ])
+      → Bare s b r
+  unfolding bare_number
+  bare_of r by_sort = record { is = λ g e. let f = function_read s b g e in by_sort g.sort g.parameters f.sort (sym f.arity) }
+
+  pub bare_tree : not t ≡ false → Bare s b (not t)
+  unfolding sort_number
+  bare_tree tree = bare_of (not t) by_sort
     where
-      by_sort : (sort : Sort) (p : ℕ) → sort_number sort ≡ n → m ≡ p
+      by_sort : (sort : Sort) (p : ℕ) → sort_number sort ≡ sort_in s b → arity_in s b ≡ p
+          → not t ≡ elim sort [ tree_valued ↦ false | number_valued ↦ elim p [ zero ↦ true | suc k ↦ false ] ]
+      by_sort tree_valued p e same = tree
+      by_sort number_valued p e same = let other : t ≡ false = rw (is, ← e) in absurd (false≢true (sym (rw other at tree)))
+
+  pub bare-number : (m : ℕ) → not t ≡ true → m ≡ arity_in s b → Bare s b (eqb m 0)
+  unfolding sort_number
+  bare-number m number many = bare_of (eqb m 0) by_sort
+    where
+      by_sort : (sort : Sort) (p : ℕ) → sort_number sort ≡ sort_in s b → arity_in s b ≡ p
           → eqb m 0 ≡ elim sort [ tree_valued ↦ false | number_valued ↦ elim p [ zero ↦ true | suc k ↦ false ] ]
-      by_sort tree_valued p e same = absurd (other (sym e))
-      by_sort number_valued zero e same = ap (λ x. eqb x 0) same
-      by_sort number_valued (suc k) e same = ne_eqb m 0 (λ z. omega arith)
+      by_sort tree_valued p e same = let tree : t ≡ true = rw (is, ← e) in absurd (false≢true (rw tree at number))
+      by_sort number_valued zero e same = ap (λ x. eqb x 0) (many ∙ same)
+      by_sort number_valued (suc k) e same = ne_eqb m 0 (λ z. omega (arith, many, same))
 
 pub ruleset bare = (bare_tree, bare-number)
 
+-- ---- `is_word_tested`
+
+module _ (s : List ℕ) (node : Record) where
+  -- the words are tested at four kinds ..
+  pub tested_kinds : ((i : Constant) × (node ≡ Const i)) ⊎ (((v : NumberName) × (node ≡ Var v)) ⊎ ((v : TreeName) × (node ≡ Case v))) → WordTested s node true
+  unfolding words_tested
+  tested_kinds (inl h) = record { is = λ gs known low. sym (ap (λ n. words_tested gs (meant n)) h.1) }
+  tested_kinds (inr (inl h)) = record { is = λ gs known low. sym (ap (λ n. words_tested gs (meant n)) h.1) }
+  tested_kinds (inr (inr h)) = record { is = λ gs known low. sym (ap (λ n. words_tested gs (meant n)) h.1) }
+
+  -- .. at a Call where its function gives a number and has no number parameters
+  pub tested_call : (v : Called) (r : Bool) → node ≡ Call v → Bare s v.b r → WordTested s node r
+  unfolding words_tested
+  tested_call v r case reported = record {
+    is = λ gs known low.
+        let g = called s node gs v case known low in
+        sym (ap (λ n. words_tested gs (meant n)) case ∙ (rw (g.there, words_tested) (sym (reported.is g.signature g.given))));
+  }
+
+pub tested_other : (s : List ℕ) (node : Record) → ((x : Constant) → node ≡ Const x → ⊥) → ((x : NumberName) → node ≡ Var x → ⊥) → ((x : TreeName) → node ≡ Case x → ⊥) → ((x : Called) → node ≡ Call x → ⊥) → WordTested s node false
+unfolding words_tested
+tested_other s (Const x) no_const _ _ _ = absurd (no_const x refl)
+tested_other s (Var x) _ no_var _ _ = absurd (no_var x refl)
+tested_other s Add _ _ _ _ = record { is = λ gs known low. refl }
+tested_other s IfZero _ _ _ _ = record { is = λ gs known low. refl }
+tested_other s Let _ _ _ _ = record { is = λ gs known low. refl }
+tested_other s Leaf _ _ _ _ = record { is = λ gs known low. refl }
+tested_other s Node _ _ _ _ = record { is = λ gs known low. refl }
+tested_other s (Case x) _ _ no_case _ = absurd (no_case x refl)
+tested_other s (Call x) _ _ _ no_call = absurd (no_call x refl)
+
+pub ruleset words = (tested_kinds, tested_call, tested_other)
+
 -- ---- `is_roomy`
 
-module _ (s : List ℕ) (c : Scope) (node : Record) where
-  -- where words are tested, the answer is whether one more word fits; elsewhere it is yes
-  tested : ((gs : List Signature) → Known s gs → function_below (header_in s).functions (meant node) ≡ true → words_tested gs (meant node) ≡ true)
-      → Roomy s c node (ltb c.words most_frame_words)
+module _ (s : List ℕ) (c : Scope) (node : Record) (t : Bool) (reported : WordTested s node t) where
+  pub roomy_untested : not t ≡ true → Roomy s c node (not t)
   unfolding has_room
-  tested e = record { is = λ gs known low. sym (rw (e gs known low, has_room)) }
+  roomy_untested e = record { is = λ gs known low. sym (rw (sym (reported.is gs known low) ∙ not-true t e, has_room) (sym e)) }
 
-  untested : ((gs : List Signature) → Known s gs → function_below (header_in s).functions (meant node) ≡ true → words_tested gs (meant node) ≡ false)
-      → Roomy s c node true
+  pub roomy_tested : not t ≡ false → Roomy s c node (ltb c.words most_frame_words)
   unfolding has_room
-  untested e = record { is = λ gs known low. sym (rw (e gs known low, has_room)) }
+  roomy_tested e = record { is = λ gs known low. sym (rw (sym (reported.is gs known low) ∙ not-false t e, has_room)) }
 
-  pub roomy_const : (i : Constant) → node ≡ Const i → Roomy s c node (ltb c.words most_frame_words)
-  unfolding words_tested
-  roomy_const i case = tested (λ gs known low. ap (λ n. words_tested gs (meant n)) case)
-
-  pub roomy_var : (v : NumberName) → node ≡ Var v → Roomy s c node (ltb c.words most_frame_words)
-  unfolding words_tested
-  roomy_var v case = tested (λ gs known low. ap (λ n. words_tested gs (meant n)) case)
-
-  pub roomy_case : (v : TreeName) → node ≡ Case v → Roomy s c node (ltb c.words most_frame_words)
-  unfolding words_tested
-  roomy_case v case = tested (λ gs known low. ap (λ n. words_tested gs (meant n)) case)
-
-  module _ (v : Called) (r : Bool) (case : node ≡ Call v) (reported : Bare s v.b r) where
-    -- a Call's words are tested where its function gives a number and has no number parameters
-    call_tested : (gs : List Signature) → Known s gs → function_below (header_in s).functions (meant node) ≡ true → words_tested gs (meant node) ≡ r
-    unfolding words_tested
-    call_tested gs known low =
-        let g = called s c node gs v case known low in
-        ap (λ n. words_tested gs (meant n)) case ∙ (rw (g.there, words_tested) (sym (reported.is g.signature g.given)))
-
-    pub roomy_bare_call : r ≡ true → Roomy s c node (ltb c.words most_frame_words)
-    roomy_bare_call e = tested (λ gs known low. call_tested gs known low ∙ e)
-
-    pub roomy_call : r ≡ false → Roomy s c node true
-    roomy_call e = untested (λ gs known low. call_tested gs known low ∙ e)
-
-pub roomy_other : (s : List ℕ) (c : Scope) (node : Record) → ((x : Constant) → node ≡ Const x → ⊥) → ((x : NumberName) → node ≡ Var x → ⊥) → ((x : TreeName) → node ≡ Case x → ⊥) → ((x : Called) → node ≡ Call x → ⊥) → Roomy s c node true
-unfolding words_tested
-roomy_other s c (Const x) no_const _ _ _ = absurd (no_const x refl)
-roomy_other s c (Var x) _ no_var _ _ = absurd (no_var x refl)
-roomy_other s c Add _ _ _ _ = untested s c Add (λ gs known low. refl)
-roomy_other s c IfZero _ _ _ _ = untested s c IfZero (λ gs known low. refl)
-roomy_other s c Let _ _ _ _ = untested s c Let (λ gs known low. refl)
-roomy_other s c Leaf _ _ _ _ = untested s c Leaf (λ gs known low. refl)
-roomy_other s c Node _ _ _ _ = untested s c Node (λ gs known low. refl)
-roomy_other s c (Case x) _ _ no_case _ = absurd (no_case x refl)
-roomy_other s c (Call x) _ _ _ no_call = absurd (no_call x refl)
-
-pub ruleset words = (roomy_const, roomy_var, roomy_case, roomy_bare_call, roomy_call, roomy_other)
+pub ruleset roomy = (roomy_untested, roomy_tested)
 
 -- ---- `tests`
 
@@ -237,22 +235,23 @@ module _ (s : List ℕ) (c : Scope) (k : ℕ) (node : Record) (n : Bool) (en : n
   unfolding at_entry
   in-order gs t w et ew = rw (en, et, ew)
 
-  pub tests_name : not n ≡ true → Tested s c k node (Refused NotBound k)
-  tests_name fails = record { is = λ gs known low. rw (not-true n fails) at (in-order gs _ _ refl refl) }
+  pub tests_name : not n ≡ true → (r : Refused) → r ≡ record { why = NotBound; position = k } → Tested s c k node (Err r)
+  tests_name fails r at_k = record { is = λ gs known low. rw at_k (rw (not-true n fails) at (in-order gs _ _ refl refl)) }
 
   module _ (t : Bool) (et : Typed s c node t) (n_holds : not n ≡ false) where
-    pub tests_type : not t ≡ true → Tested s c k node (Refused WrongType k)
-    tests_type fails = record {
-      is = λ gs known low. rw (not-false n n_holds, not-true t fails) at (in-order gs t _ (et.is gs known low) refl);
+    pub tests_type : not t ≡ true → (r : Refused) → r ≡ record { why = WrongType; position = k } → Tested s c k node (Err r)
+    tests_type fails r at_k = record {
+      is = λ gs known low. rw at_k (rw (not-false n n_holds, not-true t fails) at (in-order gs t _ (et.is gs known low) refl));
     }
 
     module _ (w : Bool) (ew : Roomy s c node w) (t_holds : not t ≡ false) where
-      pub tests_words : w ≡ false → Tested s c k node (Refused TooManyWords k)
-      tests_words fails = record {
-        is = λ gs known low. rw (not-false n n_holds, not-false t t_holds, fails) at (in-order gs t w (et.is gs known low) (ew.is gs known low));
+      pub tests_words : w ≡ false → (r : Refused) → r ≡ record { why = TooManyWords; position = k } → Tested s c k node (Err r)
+      tests_words fails r at_k = record {
+        is = λ gs known low.
+            rw at_k (rw (not-false n n_holds, not-false t t_holds, fails) at (in-order gs t w (et.is gs known low) (ew.is gs known low)));
       }
 
-      pub tests_passed : w ≡ true → Tested s c k node Passed
+      pub tests_passed : w ≡ true → Tested s c k node (Ok tt)
       tests_passed w_holds = record {
         is = λ gs known low. rw (not-false n n_holds, not-false t t_holds, w_holds) at (in-order gs t w (et.is gs known low) (ew.is gs known low));
       }

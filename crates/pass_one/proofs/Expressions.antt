@@ -7,6 +7,7 @@ use mathlib.Core.Path.{◌≡◌, sym, ap, subst, ◌∙◌}
 use native.Mathlib.Numerals.{add-one}
 use native.Mathlib.Omega.{arith}
 use lib.ListN.{length}
+use Rattle.std.specs.Prelude.{Result as Answer, Ok, Err}
 use Rattle.formats.specs.Results.{Result, done, and_then, on_value}
 use Rattle.formats.specs.Records.{Kind, function_below, parts_of, nth_part, part_count}
 use Rattle.formats.specs.Programs.{Expr, size, Placed, parts_at}
@@ -16,17 +17,11 @@ use Rattle.formats.proofs.Records.{node_below}
 use Rattle.formats.proofs.Programs.{some_record}
 use Rattle.refusal.specs.Inner.Numbers.{number}
 use Rattle.refusal.specs.Inner.Verdicts.{verdict_result}
-use Rattle.refusal.specs.declared.Refusal.{Refusal}
-use Rattle.refusal.specs.declared.Refusal.TheVariants.{PrefixForm}
-use Rattle.refusal.specs.declared.Verdict.{Verdict}
-use Rattle.refusal.specs.declared.Verdict.TheVariants.{Passed, Refused as Refuses}
+use Rattle.refusal.specs.declared.Refused.{Refused}
 use Rattle.records.specs.Inner.Read.{Shape, meant, part_of, listed, shape_of, shaped, described}
 use Rattle.records.specs.declared.Part.{Part}
 use Rattle.records.specs.declared.Parts.{Parts}
-use Rattle.records.specs.declared.Record.{Record}
-use Rattle.records.specs.declared.Template.{Template}
-use Rattle.records.specs.declared.RecordRead.{RecordRead}
-use Rattle.records.specs.declared.RecordRead.TheVariants.{Read, Refused as Unread}
+use Rattle.records.specs.declared.Described.{Described}
 use Rattle.rules.specs.Scopes.{inside, part_scope, entry, entered}
 use Rattle.rules.specs.PassOne.{at_entry, pass_over}
 use Rattle.rules.proofs.Entries.{part_scopes}
@@ -36,63 +31,58 @@ use Rattle.walks.proofs.Walks.{node_held, parts_counted, pass-parts, FirstOf, ro
 use Rattle.walks.proofs.Here.{parts_after, first_of, others_of}
 use Rattle.pass_one.specs.Inner.Walk.{scope_of, reported, Fits, FitsParts, Tested, Entered, EnteredParts}
 use Rattle.pass_one.specs.declared.Scope.{Scope}
-use Rattle.pass_one.specs.declared.Walked.{Walked}
-use Rattle.pass_one.specs.declared.Walked.TheVariants.{To, Refused}
 use Rattle.pass_one.proofs.PartScopes.{inside_fits}
 
 -- a refusal comes to no record
-stopped : {A : Type 0} (why : Refusal) (position next : ℕ) → ◌≡◌ {A = Walked} (Refused why position) (To next) → A
-stopped why position next e = let z : ◌≡◌ {A = ℕ} 0 1 = cc in absurd (omega arith)
+stopped : {A : Type 0} {r : Refused} {next : ℕ} → ◌≡◌ {A = Answer ℕ Refused} (Err r) (Ok next) → A
+stopped e = let z : ◌≡◌ {A = ℕ} 0 1 = cc in absurd (omega arith)
 
 -- ---- `enter`
 
 module _ (s : List ℕ) (k end : ℕ) (c : Scope) where
-  pub enter_past : end ≤ k → Entered s k end c (Refused PrefixForm k)
-  enter_past over = record {
-    went = λ next e. stopped PrefixForm k next e;
-    is = λ e h. absurd (omega (arith, some_record e, h.fits));
-  }
+  pub enter_past : (r : Refused) → end ≤ k → Entered s k end c (Err r)
+  enter_past r over = record { went = λ next e. stopped e; is = λ e h. absurd (omega (arith, some_record e, h.fits)) }
 
   -- the expression's own record is read as its kind
   own_node : {e : Expr} → Here s end k e → node_in s k ≡ done (head_of e)
   own_node {e} h = node_held s h.signed k e h.holds
 
-  module _ (found : RecordRead) (is_found : described found ≡ on_value shape_of (node_in s k)) where
-    pub enter_unread : (why : Refusal) (position : ℕ) → found ≡ Unread why position → Entered s k end c (Refused why position)
-    enter_unread why position case = record {
-      went = λ next e. stopped why position next e;
+  module _ (found : Answer Described Refused) (is_found : described found ≡ on_value shape_of (node_in s k)) where
+    pub enter_unread : (r : Refused) → found ≡ Err r → Entered s k end c (Err r)
+    enter_unread r case = record {
+      went = λ next e. stopped e;
       is = λ e h. done_not (ap (on_value shape_of) (own_node h)) (sym is_found ∙ ap described case);
     }
 
-    module _ (node : Record) (parts : Parts) (template : Template) (case : found ≡ Read node parts template) where
+    module _ (read : Described) (case : found ≡ Ok read) where
       -- the record read is the expression's own
-      own_shape : {e : Expr} → Here s end k e → shaped node parts template ≡ shape_of (head_of e)
+      own_shape : {e : Expr} → Here s end k e → shaped read ≡ shape_of (head_of e)
       own_shape h = done_injective (ap described (sym case) ∙ is_found ∙ ap (on_value shape_of) (own_node h))
 
-      own_kind : {e : Expr} → Here s end k e → meant node ≡ head_of e
+      own_kind : {e : Expr} → Here s end k e → meant read.node ≡ head_of e
       own_kind h = ap (λ (shape : Shape). shape.kind) (own_shape h)
 
-      module _ (own : Verdict) (tested : Tested s c k node own) where
+      module _ (own : Answer (Unit {0}) Refused) (tested : Tested s c k read.node own) where
         -- its own tests give the verdict on entering it
         own_said : {e : Expr} (h : Here s end k e) → verdict_result own ≡ at_entry h.signed (entry (scope_of c) k (head_of e))
         own_said {e} h =
             let same = own_kind h in
-            let low : function_below (header_in s).functions (meant node) ≡ true = rw same (node_below s k (head_of e) (own_node h)) in
+            let low : function_below (header_in s).functions (meant read.node) ≡ true = rw same (node_below s k (head_of e) (own_node h)) in
             tested.is h.signed h.known low ∙ ap (λ kind. at_entry h.signed (entry (scope_of c) k kind)) same
 
-        pub enter_refused : (why : Refusal) (position : ℕ) → own ≡ Refuses why position → Entered s k end c (Refused why position)
-        enter_refused why position fails = record {
-          went = λ next e. stopped why position next e;
+        pub enter_refused : (r : Refused) → own ≡ Err r → Entered s k end c (Err r)
+        enter_refused r fails = record {
+          went = λ next e. stopped e;
           is = λ e h.
               sym (ap (on_value (λ u. k + size e)) (pass-parts h.signed (scope_of c) k e ∙ then_refused _ (sym (own_said h) ∙ ap verdict_result fails)));
         }
 
-        pub enter_passed : (count : ℕ) (r : Walked) → own ≡ Passed → count ≡ part_count (arity_in s) (listed parts)
-            → EnteredParts s parts 0 count (k + 1) end c r → Entered s k end c r
+        pub enter_passed : (count : ℕ) (r : Answer ℕ Refused) → own ≡ Ok tt → count ≡ part_count (arity_in s) (listed read.parts)
+            → EnteredParts s read.parts 0 count (k + 1) end c r → Entered s k end c r
         enter_passed count r passes many walked = record {
           went = λ next e. let w = walked.went next e in record { on = omega (arith, w.on); inside = w.inside };
           is = λ e h.
-              let own_parts : listed parts ≡ parts_of (head_of e) = ap (λ (shape : Shape). shape.parts) (own_shape h) in
+              let own_parts : listed read.parts ≡ parts_of (head_of e) = ap (λ (shape : Shape). shape.parts) (own_shape h) in
               let own_count = many ∙ ap (part_count (arity_in s)) own_parts in
               let all : 0 + length (parts_at k e) ≡ count = omega (arith, own_count, parts_counted s h.signed k e h.known h.holds) in
               walked.is (head_of e) (parts_at k e) (k + size e) (parts_after h) (record { own = own_parts; many = own_count; left = all })
@@ -104,7 +94,7 @@ pub ruleset entering = (enter_past, enter_unread, enter_refused, enter_passed)
 -- ---- `enter_parts`
 
 module _ (s : List ℕ) (parts : Parts) (i count k end : ℕ) (c : Scope) where
-  pub parts_none : count ≤ i → k ≤ end → EnteredParts s parts i count k end c (To k)
+  pub parts_none : count ≤ i → k ≤ end → EnteredParts s parts i count k end c (Ok k)
   unfolding pass_parts
   parts_none none upto = record {
     went = λ next e. let same : k ≡ next = cc in record { on = omega arith; inside = omega arith };
@@ -113,7 +103,7 @@ module _ (s : List ℕ) (parts : Parts) (i count k end : ℕ) (c : Scope) where
         sym (ap (λ ps. on_value (λ u. m) (pass_parts h.signed kind i (scope_of c) ps)) nothing.0 ∙ ap done nothing.1);
   }
 
-  module _ (part : Part) (inner : Scope) (walked : Walked) (more : i < count) (is_part : part_of part ≡ nth_part (listed parts) i)
+  module _ (part : Part) (inner : Scope) (walked : Answer ℕ Refused) (more : i < count) (is_part : part_of part ≡ nth_part (listed parts) i)
       (is_inner : scope_of inner ≡ part_scope (part_of part) i (scope_of c)) (w : Entered s k end inner walked) where
     -- what is known in the part is what its record's kind says
     own_scope : {kind : Kind} {ps : List Placed} → PartsFrom s (listed parts) kind i count ps → scope_of inner ≡ inside kind i (scope_of c)
@@ -142,15 +132,15 @@ module _ (s : List ℕ) (parts : Parts) (i count k end : ℕ) (c : Scope) where
           split = ap (pass_parts h.signed kind i (scope_of c)) f.both;
         }
 
-    pub parts_refused : (why : Refusal) (position : ℕ) → walked ≡ Refused why position → EnteredParts s parts i count k end c (Refused why position)
-    parts_refused why position case = record {
-      went = λ next e. stopped why position next e;
+    pub parts_refused : (r : Refused) → walked ≡ Err r → EnteredParts s parts i count k end c (Err r)
+    parts_refused r case = record {
+      went = λ next e. stopped e;
       is = λ kind ps m h from.
           let t = turn kind ps m h from in
-          sym (ap (on_value (λ u. m)) (t.split ∙ then_refused _ (value_refused (λ u. k + size t.first.expr) t.over (number why) position (sym t.here ∙ ap reported case))));
+          sym (ap (on_value (λ u. m)) (t.split ∙ then_refused _ (value_refused (λ u. k + size t.first.expr) t.over (number r.why) r.position (sym t.here ∙ ap reported case))));
     }
 
-    pub parts_more : (next : ℕ) (r : Walked) → walked ≡ To next → EnteredParts s parts (i + 1) count next end c r → EnteredParts s parts i count k end c r
+    pub parts_more : (next : ℕ) (r : Answer ℕ Refused) → walked ≡ Ok next → EnteredParts s parts (i + 1) count next end c r → EnteredParts s parts i count k end c r
     parts_more next r case others = record {
       went = λ last e.
           let rest = others.went last e in
@@ -165,10 +155,10 @@ module _ (s : List ℕ) (parts : Parts) (i count k end : ℕ) (c : Scope) where
     }
 
     -- the walk goes on after the part, with fewer records left ..
-    pub fewer : (next t : ℕ) → walked ≡ To next → 2 * (end - k) + 1 ≡ t → 2 * (end - next) + 1 < t
+    pub fewer : (next t : ℕ) → walked ≡ Ok next → 2 * (end - k) + 1 ≡ t → 2 * (end - next) + 1 < t
     fewer next t case e = omega (arith, (w.went next case).on, (w.went next case).inside)
 
-    pub again : (next : ℕ) → walked ≡ To next → FitsParts i k end (scope_of c) → FitsParts (i + 1) next end (scope_of c)
+    pub again : (next : ℕ) → walked ≡ Ok next → FitsParts i k end (scope_of c) → FitsParts (i + 1) next end (scope_of c)
     again next case fits =
         let o = w.went next case in
         record {

@@ -5,6 +5,7 @@ use mathlib.Core.List.{List}
 use mathlib.Core.Path.{◌≡◌, refl, sym, ap, ap₂, subst, ◌∙◌}
 use native.Mathlib.Omega.{arith}
 use lib.Dec.{eqb}
+use Rattle.std.specs.Prelude.{Result as Answer, Ok, Err, Bool}
 use Rattle.formats.specs.Numbers.{Bytes}
 use Rattle.formats.specs.Results.{Result, done, refusal, and_then, on_value, verdict}
 use Rattle.formats.specs.Programs.{size, Sort, number_valued, tree_valued, sort_number, Function, signature_of, Program, signatures}
@@ -14,9 +15,7 @@ use Rattle.formats.proofs.Results.{Value, then_done, then_refused, value_inv, pa
 use Rattle.formats.proofs.Rows.{function_read, flattens}
 use Rattle.refusal.specs.Inner.Numbers.{number}
 use Rattle.refusal.specs.Inner.Verdicts.{verdict_result}
-use Rattle.refusal.specs.declared.Refusal.{Refusal}
-use Rattle.refusal.specs.declared.Verdict.{Verdict}
-use Rattle.refusal.specs.declared.Verdict.TheVariants.{Passed, Refused as Refuses}
+use Rattle.refusal.specs.declared.Refused.{Refused}
 use Rattle.rules.specs.Types.{result_type}
 use Rattle.rules.specs.Scopes.{scope, start_of, entered, entered_all}
 use Rattle.rules.specs.PassOne.{pass_over, pass_one}
@@ -27,8 +26,6 @@ use Rattle.walks.proofs.Walks.{program_held}
 use Rattle.walks.proofs.Functions.{Left, all_left, Turn, turn, none-left}
 use Rattle.pass_one.specs.Inner.Walk.{expected, scope_of, reported, Fits, Entered, Starts, PassSays}
 use Rattle.pass_one.specs.declared.Scope.{Scope}
-use Rattle.pass_one.specs.declared.Walked.{Walked}
-use Rattle.pass_one.specs.declared.Walked.TheVariants.{To, Refused}
 
 -- ---- `start`
 
@@ -37,13 +34,13 @@ unfolding sort_number result_type
 type_of number_valued n e = ap (λ m. expected (eqb m 1)) (sym e)
 type_of tree_valued n e = ap (λ m. expected (eqb m 1)) (sym e)
 
-pub started : (s : List ℕ) (j m n : ℕ) → m ≡ arity_in s j → n ≡ sort_in s j
-    → Starts s j (record { numbers = m; trees = 1; words = m; tree = eqb n 1 })
+pub started : (s : List ℕ) (j m : ℕ) (t : Bool) → m ≡ arity_in s j → t ≡ eqb (sort_in s j) 1
+    → Starts s j (record { numbers = m; trees = 1; words = m; tree = t })
 unfolding start_of signature_of
-started s j m n em en = record {
+started s j m t em et = record {
   is = λ f e few.
       let r = function_read s j (signature_of f) e in
-      ap₂ (λ p τ. scope p 1 p τ) (em ∙ sym r.arity) (type_of f.sort n (r.sort ∙ sym en));
+      ap₂ (λ p τ. scope p 1 p τ) (em ∙ sym r.arity) (ap expected et ∙ type_of f.sort (sort_in s j) r.sort);
 }
 
 -- ---- `pass`
@@ -59,21 +56,21 @@ pub record Walking (s : List ℕ) (functions end k j : ℕ) : Type 0 where
   pub inside : Inside k end
   pub rest : (program : Program) → read_program s ≡ done program → Left s functions end pass_one row_one program k j
 
-pub walk_none : (s : List ℕ) (functions nodes : ℕ) → Bytes s → verdict (read_program s) ≡ done tt → functions ≡ (header_in s).functions → nodes ≡ (header_in s).nodes
-    → Walking s functions (1 + functions + nodes) (1 + functions) 0
+pub walk_none : (s : List ℕ) (functions nodes end k : ℕ) → Bytes s → verdict (read_program s) ≡ done tt → functions ≡ (header_in s).functions → nodes ≡ (header_in s).nodes
+    → k ≡ 1 + functions → end ≡ k + nodes → Walking s functions end k 0
 unfolding pass_one
-walk_none s functions nodes bytes read ef en =
+walk_none s functions nodes end k bytes read ef en ek ee =
     let v = passed_is (read_program s) read in
     let h = program_held s v.value bytes v.is in
     let few = (flattens s v.value bytes v.is).lawful.few_functions in
     record {
       some_program = v;
       inside = record { before_end = omega arith; few = omega (arith, h.functions, few, h.few_nodes) };
-      rest = all_left s functions _ pass_one row_one nodes bytes ef en refl (λ program. refl);
+      rest = rw ek (all_left s functions end pass_one row_one nodes bytes ef en (rw ek at ee) (λ program. refl));
     }
 
 module _ (s : List ℕ) (functions end k j : ℕ) where
-  pub walk-all : functions ≤ j → Walking s functions end k j → PassSays s Passed
+  pub walk-all : functions ≤ j → Walking s functions end k j → PassSays s (Ok tt)
   unfolding entered_all pass_over
   walk-all over w = record { is = λ program e. sym (none-left s functions end pass_one row_one program k j over (w.rest program e)) }
 
@@ -91,7 +88,7 @@ module _ (s : List ℕ) (functions end k j : ℕ) where
         words = omega (arith, t.few, w.inside.few);
       })
 
-  module _ (c : Scope) (walked : Walked) (more : j < functions) (w : Walking s functions end k j) (starts : Starts s j c) (is : Entered s k end c walked) where
+  module _ (c : Scope) (walked : Answer ℕ Refused) (more : j < functions) (w : Walking s functions end k j) (starts : Starts s j c) (is : Entered s k end c walked) where
     -- the body of function j, what its walk reports, and the functions after it
     record Walk (program : Program) : Type 0 where
       at_hand : Turn s functions end pass_one row_one program k j
@@ -114,7 +111,7 @@ module _ (s : List ℕ) (functions end k j : ℕ) where
           split = t.left ∙ pass_join gs _ _;
         }
 
-    pub walk_more : (next : ℕ) → walked ≡ To next → Walking s functions end next (j + 1)
+    pub walk_more : (next : ℕ) → walked ≡ Ok next → Walking s functions end next (j + 1)
     walk_more next case = record {
       some_program = w.some_program;
       inside = record { before_end = (is.went next case).inside; few = w.inside.few };
@@ -124,29 +121,29 @@ module _ (s : List ℕ) (functions end k j : ℕ) where
           subst (λ m. Left s functions end pass_one row_one program m (j + 1)) v.second (t.at_hand.later (t.split ∙ then_done _ v.first));
     }
 
-    pub walk_refused : (why : Refusal) (position : ℕ) → walked ≡ Refused why position → PassSays s (Refuses why position)
-    walk_refused why position case = record {
+    pub walk_refused : (r : Refused) → walked ≡ Err r → PassSays s (Err r)
+    walk_refused r case = record {
       is = λ program e.
           let t = walk program e in
-          sym (t.split ∙ then_refused _ (value_refused (λ u. k + size t.at_hand.here.body) t.over (number why) position (sym t.is_reported ∙ ap reported case)));
+          sym (t.split ∙ then_refused _ (value_refused (λ u. k + size t.at_hand.here.body) t.over (number r.why) r.position (sym t.is_reported ∙ ap reported case)));
     }
 
 pub ruleset walking = (walk_none, walk_asked, walk_more, walk_refused, walk-all)
 
 -- ---- `check_pass_one`
 
-module _ (s : List ℕ) (rows : Verdict) (is : verdict_result rows ≡ verdict (read_program s)) where
-  pub rows_refused : (why : Refusal) (position : ℕ) → rows ≡ Refuses why position → refusal (number why) position ≡ check_one s
+module _ (s : List ℕ) (rows : Answer (Unit {0}) Refused) (is : verdict_result rows ≡ verdict (read_program s)) where
+  pub rows_refused : (r : Refused) → rows ≡ Err r → refusal (number r.why) r.position ≡ check_one s
   unfolding check_one
-  rows_refused why position case = sym (then_refused pass_one (refused_is (read_program s) (number why) position (sym is ∙ ap verdict_result case)))
+  rows_refused r case = sym (then_refused pass_one (refused_is (read_program s) (number r.why) r.position (sym is ∙ ap verdict_result case)))
 
-  pub rows_passed : (r : Verdict) → rows ≡ Passed → PassSays s r → verdict_result r ≡ check_one s
+  pub rows_passed : (r : Answer (Unit {0}) Refused) → rows ≡ Ok tt → PassSays s r → verdict_result r ≡ check_one s
   unfolding check_one
   rows_passed r passes says =
       let v = passed_is (read_program s) (sym is ∙ ap verdict_result passes) in
       says.is v.value v.is ∙ sym (then_done pass_one v.is)
 
-  pub rows_read : rows ≡ Passed → verdict (read_program s) ≡ done tt
+  pub rows_read : rows ≡ Ok tt → verdict (read_program s) ≡ done tt
   rows_read passes = sym is ∙ ap verdict_result passes
 
 pub ruleset checked = (rows_refused, rows_read, rows_passed)

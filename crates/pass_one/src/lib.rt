@@ -10,16 +10,13 @@ ghost use Rattle.refusal.specs.Inner.Verdicts.{verdict_result};
 ghost use Rattle.rules.specs.Scopes.{part_scope};
 ghost use Rattle.rules.specs.PassOne.{name_bound};
 ghost use Rattle.rules.specs.Inner.Checks.{check_one};
-ghost use Rattle.pass_one.specs.Inner.Walk.{scope_of, RoomFor, Fits, FitsParts, Typed, Bare, Roomy, Tested, Entered, EnteredParts, Starts, PassSays};
+ghost use Rattle.pass_one.specs.Inner.Walk.{scope_of, RoomFor, Fits, FitsParts, Typed, Bare, WordTested, Roomy, Tested, Entered, EnteredParts, Starts, PassSays};
 
-use records::{Part, Parts, Record, RecordRead};
-use refusal::{Refusal, Verdict};
+use records::{Described, Part, Parts, Record};
+use refusal::{Refusal, Refused};
 
 // The most words above the frame's base.
 const MOST_WORDS: usize = 16;
-
-// The sort of a function that gives a tree.
-const TREE_VALUED: u8 = 1;
 
 // What is known on entering a record: number names and tree names bound, words above the frame's
 // base, and whether a tree is expected.
@@ -31,147 +28,133 @@ struct Scope {
     tree: bool,
 }
 
-// How far the walk came: to this record, or to a refusal.
-#[derive(Clone, Copy)]
-enum Walked {
-    To(usize),
-    Refused(Refusal, usize),
+impl Scope {
+    // What is known on entering the body of function j.
+    #[tactic(auto, using(crate::proofs::Functions::started))]
+    fn start(flat: &[u8], j: u16) -> Scope
+        ensures { Starts flat.now j result }
+    {
+        let numbers = usize::from(signatures::parameters(flat, j));
+        Scope {
+            numbers,
+            trees: 1,
+            words: numbers,
+            tree: signatures::gives_tree(flat, j),
+        }
+    }
+
+    // What is known on entering part i of a record, by what the part is.
+    #[tactic(auto, using(crate::proofs::PartScopes::part_scopes))]
+    fn inside(self, part: Part, i: usize) -> Scope
+        requires { RoomFor i (scope_of self) }
+        ensures { scope_of result ≡ part_scope (part_of part) i (scope_of self) }
+    {
+        match part {
+            Part::Number => Scope {
+                words: self.words + i,
+                tree: false,
+                ..self
+            },
+            Part::Tree => Scope { tree: true, ..self },
+            Part::Whole => self,
+            Part::UnderNumber => Scope {
+                numbers: self.numbers + 1,
+                words: self.words + 1,
+                ..self
+            },
+            Part::UnderTrees => Scope {
+                trees: self.trees + 2,
+                ..self
+            },
+        }
+    }
 }
 
 // Whether the record's name is bound.
+#[tactic(auto, using(crate::proofs::Entries::names))]
 fn is_named(node: Record, scope: Scope) -> bool
     ensures { result ≡ name_bound (scope_of scope) (meant node) }
 {
     match node {
-        Record::Var(v) => (v.a as usize) < scope.numbers,
-        Record::Case(t) => (t.a as usize) < scope.trees,
-        Record::Call(c) => (c.a as usize) < scope.trees,
+        Record::Var(v) => usize::from(v.a) < scope.numbers,
+        Record::Case(t) => usize::from(t.a) < scope.trees,
+        Record::Call(c) => usize::from(c.a) < scope.trees,
         _ => true,
     }
 }
 
 // Whether the record has the type expected.
+#[tactic(auto, using(crate::proofs::Entries::typings))]
 fn is_typed(flat: &[u8], node: Record, scope: Scope) -> bool
     ensures { Typed flat.now scope node result }
 {
     match node {
-        Record::Const(c) => !scope.tree,
-        Record::Var(v) => !scope.tree,
-        Record::Add => !scope.tree,
-        Record::Leaf => scope.tree,
-        Record::Node => scope.tree,
-        Record::Call(c) => {
-            if signatures::sort_number(flat, c.b) == TREE_VALUED {
-                return scope.tree;
-            }
-            !scope.tree
-        }
-        _ => true,
+        Record::Const(_) | Record::Var(_) | Record::Add => !scope.tree,
+        Record::Leaf | Record::Node => scope.tree,
+        Record::Call(c) => scope.tree == signatures::gives_tree(flat, c.b),
+        Record::IfZero | Record::Let | Record::Case(_) => true,
     }
 }
 
 // Whether this function gives a number and has no number parameters.
+#[tactic(auto, using(crate::proofs::Entries::bare))]
 fn is_bare_number(flat: &[u8], b: u16) -> bool
     ensures { Bare flat.now b result }
 {
-    if signatures::sort_number(flat, b) == TREE_VALUED {
-        return false;
+    !signatures::gives_tree(flat, b) && signatures::parameters(flat, b) == 0
+}
+
+// Whether it is tested that there is room for the record's word.
+#[tactic(auto, using(crate::proofs::Entries::words))]
+fn is_word_tested(flat: &[u8], node: Record) -> bool
+    ensures { WordTested flat.now node result }
+{
+    match node {
+        Record::Const(_) | Record::Var(_) | Record::Case(_) => true,
+        Record::Call(c) => is_bare_number(flat, c.b),
+        _ => false,
     }
-    signatures::parameters(flat, b) == 0
 }
 
 // Whether there is room for the record's word, where that is tested.
+#[tactic(auto, using(crate::proofs::Entries::roomy))]
 fn is_roomy(flat: &[u8], node: Record, scope: Scope) -> bool
     ensures { Roomy flat.now scope node result }
 {
-    let room = scope.words < MOST_WORDS;
-    match node {
-        Record::Const(c) => room,
-        Record::Var(v) => room,
-        Record::Case(t) => room,
-        Record::Call(c) => {
-            if is_bare_number(flat, c.b) {
-                return room;
-            }
-            true
-        }
-        _ => true,
-    }
+    !is_word_tested(flat, node) || scope.words < MOST_WORDS
 }
 
 // A record's own tests: name bound, then type, then words.
-fn tests(flat: &[u8], node: Record, scope: Scope, k: usize) -> Verdict
+fn tests(flat: &[u8], node: Record, scope: Scope, k: usize) -> Result<(), Refused>
     ensures { Tested flat.now scope k node result }
 {
     if !is_named(node, scope) {
-        return Verdict::Refused(Refusal::NotBound, k);
+        return Err(Refusal::NotBound.at(k));
     }
     if !is_typed(flat, node, scope) {
-        return Verdict::Refused(Refusal::WrongType, k);
+        return Err(Refusal::WrongType.at(k));
     }
     if is_roomy(flat, node, scope) {
-        return Verdict::Passed;
+        return Ok(());
     }
-    Verdict::Refused(Refusal::TooManyWords, k)
-}
-
-// What is known on entering part i of a record, by what the part is.
-fn inside(part: Part, i: usize, scope: Scope) -> Scope
-    requires { RoomFor i (scope_of scope) }
-    ensures { scope_of result ≡ part_scope (part_of part) i (scope_of scope) }
-{
-    match part {
-        Part::Number => Scope {
-            numbers: scope.numbers,
-            trees: scope.trees,
-            words: scope.words + i,
-            tree: false,
-        },
-        Part::Tree => Scope {
-            numbers: scope.numbers,
-            trees: scope.trees,
-            words: scope.words,
-            tree: true,
-        },
-        Part::Whole => scope,
-        Part::UnderNumber => Scope {
-            numbers: scope.numbers + 1,
-            trees: scope.trees,
-            words: scope.words + 1,
-            tree: scope.tree,
-        },
-        Part::UnderTrees => Scope {
-            numbers: scope.numbers,
-            trees: scope.trees + 2,
-            words: scope.words,
-            tree: scope.tree,
-        },
-    }
+    Err(Refusal::TooManyWords.at(k))
 }
 
 // Pass one over the expression at record k, entered with this scope: its own tests, then its parts
 // in order. The measure: twice the records left up to the end, and one more for the parts, falls at
 // each call.
 #[cycle(entering)]
-fn enter(flat: &[u8], k: usize, end: usize, scope: Scope) -> Walked
+fn enter(flat: &[u8], k: usize, end: usize, scope: Scope) -> Result<usize, Refused>
     requires { Fits k end (scope_of scope) }
     ensures { Entered flat.now k end scope result }
 {
     if end <= k {
-        return Walked::Refused(Refusal::PrefixForm, k);
+        return Err(Refusal::PrefixForm.at(k));
     }
-    let found = records::record_at(flat, k);
-    match found {
-        RecordRead::Refused(why, position) => Walked::Refused(why, position),
-        RecordRead::Read(node, parts, template) => {
-            let own = tests(flat, node, scope, k);
-            if let Verdict::Refused(why, position) = own {
-                return Walked::Refused(why, position);
-            }
-            let count = nodes::part_count(flat, parts);
-            enter_parts(flat, parts, 0, count, k + 1, end, scope)
-        }
-    }
+    let Described { node, parts, .. } = records::record_at(flat, k)?;
+    tests(flat, node, scope, k)?;
+    let count = nodes::part_count(flat, parts);
+    enter_parts(flat, parts, 0, count, k + 1, end, scope)
 }
 
 // Pass one over the parts of a record from part i on, the next of them at record k.
@@ -184,69 +167,37 @@ fn enter_parts(
     k: usize,
     end: usize,
     scope: Scope,
-) -> Walked
+) -> Result<usize, Refused>
     requires { FitsParts i k end (scope_of scope) }
     ensures { EnteredParts flat.now parts i count k end scope result }
 {
     if count <= i {
-        return Walked::To(k);
+        return Ok(k);
     }
-    let part = parts::nth_part(parts, i);
-    let inner = inside(part, i, scope);
-    let walked = enter(flat, k, end, inner);
-    match walked {
-        Walked::Refused(why, position) => Walked::Refused(why, position),
-        Walked::To(next) => enter_parts(flat, parts, i + 1, count, next, end, scope),
-    }
-}
-
-// What is known on entering the body of function j.
-fn start(flat: &[u8], j: u16) -> Scope
-    ensures { Starts flat.now j result }
-{
-    let numbers = signatures::parameters(flat, j) as usize;
-    let tree = signatures::sort_number(flat, j) == TREE_VALUED;
-    Scope {
-        numbers: numbers,
-        trees: 1,
-        words: numbers,
-        tree: tree,
-    }
+    let inner = scope.inside(parts::nth_part(parts, i), i);
+    let next = enter(flat, k, end, inner)?;
+    enter_parts(flat, parts, i + 1, count, next, end, scope)
 }
 
 // The row "pass one".
-fn pass(flat: &[u8]) -> Verdict
+fn pass(flat: &[u8]) -> Result<(), Refused>
     requires { verdict (read_program flat.now) ≡ done tt }
     ensures { PassSays flat.now result }
 {
-    let functions = signatures::functions_in(flat) as u16;
-    let nodes = signatures::nodes_in(flat) as usize;
-    let end = 1 + (functions as usize) + nodes;
-    let mut k = 1 + (functions as usize);
-    let mut j = 0;
-    while j < functions {
-        let scope = start(flat, j);
-        let walked = enter(flat, k, end, scope);
-        match walked {
-            Walked::Refused(why, position) => {
-                return Verdict::Refused(why, position);
-            }
-            Walked::To(next) => {
-                k = next;
-                j = j + 1;
-            }
-        }
+    let functions = u16::from(signatures::functions_in(flat));
+    let mut k = 1 + usize::from(functions);
+    let end = k + usize::from(signatures::nodes_in(flat));
+    for j in 0..functions {
+        k = enter(flat, k, end, Scope::start(flat, j))?;
     }
-    Verdict::Passed
+    Ok(())
 }
 
 // The rows header to prefix form, then pass one.
-pub fn check_pass_one(flat: &[u8]) -> Verdict
+#[tactic(auto, using(crate::proofs::Functions::checked))]
+pub fn check_pass_one(flat: &[u8]) -> Result<(), Refused>
     ensures { verdict_result result ≡ check_one flat.now }
 {
-    let rows = program::check_records(flat);
-    if let Verdict::Refused(why, position) = rows {
-        return Verdict::Refused(why, position);
-    }
+    program::check_records(flat)?;
     pass(flat)
 }

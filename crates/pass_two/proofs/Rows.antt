@@ -4,6 +4,7 @@ use Prim.Native.Nat.{ℕ, ◌+◌, ◌≤◌, ◌<◌}
 use mathlib.Core.List.{List, [], ◌∷◌}
 use mathlib.Core.Path.{◌≡◌, refl, sym, ap, ◌∙◌}
 use native.Mathlib.Omega.{arith}
+use Rattle.std.specs.Prelude.{Result as Answer, Ok, Err}
 use Rattle.formats.specs.Numbers.{Bytes}
 use Rattle.formats.specs.Results.{Result, done, refusal, and_then, verdict}
 use Rattle.formats.specs.Records.{record_at}
@@ -14,9 +15,7 @@ use Rattle.formats.proofs.Rows.{flattens}
 use Rattle.formats.proofs.Results.{by_result, then_done, then_refused, Followed, then_inv, passed_is}
 use Rattle.refusal.specs.Inner.Numbers.{number}
 use Rattle.refusal.specs.Inner.Verdicts.{verdict_result}
-use Rattle.refusal.specs.declared.Refusal.{Refusal}
-use Rattle.refusal.specs.declared.Verdict.{Verdict}
-use Rattle.refusal.specs.declared.Verdict.TheVariants.{Passed, Refused}
+use Rattle.refusal.specs.declared.Refused.{Refused}
 use Rattle.rules.specs.PassOne.{pass_one}
 use Rattle.rules.specs.Inner.Checks.{check_one}
 use Rattle.rules.specs.PassTwo.{walk, none_left, walk_all, pass_two, both_passes, check_records}
@@ -40,19 +39,19 @@ module _ (s : List ℕ) (functions last : ℕ) where
     pub inside : Inside k last
     pub rest : (program : Program) → read_program s ≡ done program → Left s functions last pass_two row_two program k j
 
-  pub walk_first : (nodes : ℕ) → Bytes s → verdict (read_program s) ≡ done tt → functions ≡ (header_in s).functions → nodes ≡ (header_in s).nodes
-      → last ≡ 1 + functions + nodes → Walking (1 + functions) 0
+  pub walk_first : (nodes k : ℕ) → Bytes s → verdict (read_program s) ≡ done tt → functions ≡ (header_in s).functions → nodes ≡ (header_in s).nodes
+      → k ≡ 1 + functions → last ≡ k + nodes → Walking k 0
   unfolding header_in record_at pass_two
-  walk_first nodes bs read ef en el =
+  walk_first nodes k bs read ef en ek el =
       let v = passed_is (read_program s) read in
       let h = program_held s v.value bs v.is in
       let few = (flattens s v.value bs v.is).lawful.few_functions in
       record {
         inside = record { before_end = omega arith; few = omega (arith, h.functions, few, h.few_nodes) };
-        rest = all_left s functions last pass_two row_two nodes bs ef en el (λ program. refl);
+        rest = rw ek (all_left s functions last pass_two row_two nodes bs ef en (rw ek at el) (λ program. refl));
       }
 
-  module _ (k j : ℕ) (more : j < functions) (w : Walking k j) (c : Checked) (o : OrderedFunction s k last c) where
+  module _ (k j : ℕ) (more : j < functions) (w : Walking k j) (r : Answer Checked Refused) (o : OrderedFunction s k last r) where
     -- function j, and the functions after it
     record Walk (program : Program) : Type 0 where
       at_hand : Turn s functions last pass_two row_two program k j
@@ -69,22 +68,22 @@ module _ (s : List ℕ) (functions last : ℕ) where
           split = t.left ∙ tested (walk 1 k (0 ∷ []) t.here.body) (none_left k) _;
         }
 
-    pub walk_stops : (why : Refusal) (position : ℕ) → c.verdict ≡ Refused why position → PassSays s (Refused why position)
-    walk_stops why position refused = record {
+    pub walk_stops : (x : Refused) → r ≡ Err x → PassSays s (Err x)
+    walk_stops x refused = record {
       is = λ program e. let t = walked program e in sym (t.split ∙ then_refused _ (stops (o.reports t.at_hand.here.body t.here) refused));
     }
 
-    pub walk_more : c.verdict ≡ Passed → Walking c.next (j + 1)
-    walk_more passed =
+    pub walk_more : (c : Checked) → r ≡ Ok c → Walking c.next (j + 1)
+    walk_more c passed =
         record {
-          inside = record { before_end = (o.went_on.went passed).inside; few = w.inside.few };
+          inside = record { before_end = (o.went_on.went c passed).inside; few = w.inside.few };
           rest = λ program e.
               let t = walked program e in
               let done = came (o.reports t.at_hand.here.body t.here) passed in
               rw done.position (t.at_hand.later (t.split ∙ then_done _ done.list));
         }
 
-  pub walk-all : (k j : ℕ) → functions ≤ j → Walking k j → PassSays s Passed
+  pub walk-all : (k j : ℕ) → functions ≤ j → Walking k j → PassSays s (Ok tt)
   unfolding walk_all
   walk-all k j over w = record { is = λ program e. sym (none-left s functions last pass_two row_two program k j over (w.rest program e)) }
 
@@ -92,16 +91,16 @@ pub ruleset passed_over = (walk_first, walk_stops, walk_more, walk-all)
 
 -- ---- both passes
 
-module _ (s : List ℕ) (one : Verdict) (reported : verdict_result one ≡ check_one s) where
-  pub order_first : (why : Refusal) (position : ℕ) → one ≡ Refused why position → refusal (number why) position ≡ check_records s
+module _ (s : List ℕ) (one : Answer (Unit {0}) Refused) (reported : verdict_result one ≡ check_one s) where
+  pub order_first : (x : Refused) → one ≡ Err x → refusal (number x.why) x.position ≡ check_records s
   unfolding both_passes check_one check_records
-  order_first why position case =
-      let stop : check_one s ≡ refusal (number why) position = sym reported ∙ ap verdict_result case in
+  order_first x case =
+      let stop : check_one s ≡ refusal (number x.why) x.position = sym reported ∙ ap verdict_result case in
       by_result (read_program s)
       (λ program e. sym (then_done both_passes e ∙ then_refused _ (sym (then_done pass_one e) ∙ stop)))
       (λ number' position' e. sym stop ∙ then_refused pass_one e ∙ sym (then_refused both_passes e))
 
-  module _ (passed : one ≡ Passed) where
+  module _ (passed : one ≡ Ok tt) where
     -- the program that passed
     passing : Followed (read_program s) pass_one tt
     unfolding check_one
@@ -110,7 +109,7 @@ module _ (s : List ℕ) (one : Verdict) (reported : verdict_result one ≡ check
     pub order_asked : verdict (read_program s) ≡ done tt
     order_asked = ap verdict passing.first
 
-    pub order_second : (r : Verdict) → PassSays s r → verdict_result r ≡ check_records s
+    pub order_second : (r : Answer (Unit {0}) Refused) → PassSays s r → verdict_result r ≡ check_records s
     unfolding both_passes check_records
     order_second r says = says.is passing.value passing.first ∙ sym (then_done both_passes passing.first ∙ then_done _ passing.second)
 

@@ -1,15 +1,14 @@
 -- Expressions, lists of them, and functions: a law for each way out of the functions that walk
 -- them, and what their calls ask.
 use Prim.Native.Nat.{ℕ, suc, ◌+◌, ◌-◌, ◌*◌, ◌≤◌, ◌<◌}
-use mathlib.Core.Bool.{true, false, not}
 use mathlib.Core.List.{List, [], ◌∷◌}
 use mathlib.Core.Logic.{◌≢◌}
 use mathlib.Core.Path.{◌≡◌, refl, sym, ap, subst, ◌∙◌}
-use native.Mathlib.Nat.{le_refl}
 use native.Mathlib.Numerals.{add-one}
 use native.Mathlib.Omega.{arith}
 use borrow.Author.Rules.{rules}
 use lib.ListN.{length}
+use Rattle.std.specs.Prelude.{Result as Answer, Ok, Err, Option, ok_or}
 use Rattle.formats.specs.Inner.Buffers.{from_last}
 use Rattle.formats.specs.Results.{done, on_value}
 use Rattle.formats.specs.Records.{Kind, part_count, IfZero as an_if_zero, Case as a_case, Call as a_call}
@@ -17,16 +16,12 @@ use Rattle.formats.specs.Programs.{Expr, size, Placed, placed_at, parts_at, Sign
 use Rattle.formats.specs.Inner.Fields.{arity_in, node_in}
 use Rattle.formats.proofs.Results.{done_injective, done_not}
 use Rattle.formats.proofs.Programs.{some_record}
-use Rattle.refusal.specs.declared.Refusal.{Refusal}
-use Rattle.refusal.specs.declared.Refusal.TheVariants.{PrefixForm, OutOfOrder}
-use Rattle.refusal.specs.declared.Verdict.TheVariants.{Passed, Refused}
-use Rattle.records.specs.Inner.Read.{Shape, meant, listed, column_of, described, shape_of}
+use Rattle.refusal.specs.declared.Refusal.TheVariants.{OutOfOrder}
+use Rattle.refusal.specs.declared.Refused.{Refused}
+use Rattle.records.specs.Inner.Read.{Shape, meant, listed, described, shaped, shape_of}
 use Rattle.records.specs.declared.Record.{Record}
 use Rattle.records.specs.declared.Record.TheVariants.{Const, Var, Add, IfZero, Let, Leaf, Node, Case, Call}
-use Rattle.records.specs.declared.Parts.{Parts}
-use Rattle.records.specs.declared.Template.{Template}
-use Rattle.records.specs.declared.RecordRead.{RecordRead}
-use Rattle.records.specs.declared.RecordRead.TheVariants.{Read, Refused as NotRead}
+use Rattle.records.specs.declared.Described.{Described}
 use Rattle.records.specs.declared.TreeName.{TreeName}
 use Rattle.records.specs.declared.Called.{Called}
 use Rattle.rules.specs.PassTwo.{walk, none_left}
@@ -34,14 +29,13 @@ use Rattle.walks.specs.Inner.Standing.{Known, head_of, Row, walk_parts, end as n
 use Rattle.walks.specs.Inner.Walks.{Inside, Here, HereRow}
 use Rattle.walks.proofs.Walks.{node_held, parts_counted}
 use Rattle.walks.proofs.Here.{parts_here, first_here, rest_here}
-use Rattle.walks.proofs.Lists.{walk_call, Plain, walk-parts, Shaped, shaped, plain, an_if, a-case, a-call}
+use Rattle.walks.proofs.Lists.{walk_call, Plain, walk-parts, Shaped, shaped as shaped_of, plain, an_if, a-case, a-call}
 use Rattle.pending.specs.Inner.List.{list_of, Took}
 use Rattle.pending.specs.declared.Pending.{Pending}
-use Rattle.pending.specs.declared.Taken.{Taken}
 use Rattle.pending.proofs.Laws.{counted_list, by_head, not_taken, is_taken}
 use Rattle.pass_two.specs.declared.Checked.{Checked}
 use Rattle.pass_two.specs.Inner.Walk.{Small, Reports, WentOn, Ordered, OrderedCall, OrderedCase, OrderedIf, OrderedList, OrderedFunction}
-use Rattle.pass_two.proofs.Answers.{never, came, follows, stays, refuses, passes, stopped}
+use Rattle.pass_two.proofs.Answers.{is_there, is_absent, its_refusal, came, follows, stays, refuses, passes, stopped}
 
 -- ---- `order_list`
 
@@ -58,31 +52,34 @@ split {s} {last} {k} h = by h.row h.known h.fits
     by (a_part e more) known fits = some (record { signed = _; known = known; row = a_part e more; fits = fits })
 
 module _ (s : List ℕ) (i count k last n : ℕ) (p : Pending) where
-  pub list_done : Small k last n → count ≤ i → OrderedList s i count k last n p (record { verdict = Passed; pending = p; next = k })
+  pub list_done : Small k last n → count ≤ i → OrderedList s i count k last n p (Ok (record { pending = p; next = k }))
   unfolding walk_parts
-  list_done small over = record { went_on = record { went = λ u. record { on = le_refl k; inside = small.inside.before_end } }; reports = λ ps m h e. reported (split h) e }
+  list_done small over = record {
+    went_on = record { went = λ c e. let same : k ≡ c.next = cc in record { on = omega arith; inside = omega (arith, small.inside.before_end) } };
+    reports = λ ps m h e. reported (split h) e;
+  }
     where
       reported : {ps : List Placed} {m : ℕ} → Split s last k ps m → i + length ps ≡ count
-          → Reports (record { verdict = Passed; pending = p; next = k }) m (walk_parts n (list_of p) ps)
+          → Reports (Ok (record { pending = p; next = k })) m (walk_parts n (list_of p) ps)
       reported none e = record { is = refl }
       reported (some h) e = absurd (omega arith)
 
-  module _ (first : Checked) (of : Ordered s k last n p first) (more : i < count) where
-    pub list_stops : (why : Refusal) (position : ℕ) → first.verdict ≡ Refused why position → OrderedList s i count k last n p first
+  module _ (first' : Answer Checked Refused) (of : Ordered s k last n p first') (more : i < count) where
+    pub list_stops : (x : Refused) → first' ≡ Err x → OrderedList s i count k last n p (Err x)
     unfolding walk_parts
-    list_stops why position refused = record { went_on = stopped k last refused; reports = λ ps m h e. reported (split h) e }
+    list_stops x refused = record { went_on = stopped k last x; reports = λ ps m h e. reported (split h) e }
       where
-        reported : {ps : List Placed} {m : ℕ} → Split s last k ps m → i + length ps ≡ count → Reports first m (walk_parts n (list_of p) ps)
+        reported : {ps : List Placed} {m : ℕ} → Split s last k ps m → i + length ps ≡ count → Reports (Err x) m (walk_parts n (list_of p) ps)
         reported none e = absurd (omega arith)
         reported (some h) e = stays _ _ (of.reports _ (first_here h)) refused
 
-    pub list_more : (r : Checked) → first.verdict ≡ Passed → OrderedList s (i + 1) count first.next last n first.pending r → OrderedList s i count k last n p r
+    pub list_more : (first : Checked) (r : Answer Checked Refused) → first' ≡ Ok first → OrderedList s (i + 1) count first.next last n first.pending r → OrderedList s i count k last n p r
     unfolding walk_parts
-    list_more r passed o = record {
+    list_more first r passed o = record {
       went_on = record {
-        went = λ u.
-            let before = of.went_on.went passed in
-            let rest = o.went_on.went u in
+        went = λ c u.
+            let before = of.went_on.went first passed in
+            let rest = o.went_on.went c u in
             record { on = omega (arith, before.on, rest.on); inside = rest.inside };
       };
       reports = λ ps m h e. reported (split h) e;
@@ -99,32 +96,41 @@ pub ruleset lists = (list_done, list_stops, list_more)
 
 -- ---- `order_call`
 
-module _ (s : List ℕ) (a count k last n : ℕ) (p : Pending) (after : Checked) (oa : OrderedList s 0 count (k + 1) last n p after) where
-  args_reported : {ps : List Placed} {m : ℕ} → HereRow s last (k + 1) ps m → length ps ≡ count → Reports after m (walk_parts n (list_of p) ps)
+module _ (s : List ℕ) (a count k last n : ℕ) (p : Pending) (after' : Answer Checked Refused) (oa : OrderedList s 0 count (k + 1) last n p after') where
+  args_reported : {ps : List Placed} {m : ℕ} → HereRow s last (k + 1) ps m → length ps ≡ count → Reports after' m (walk_parts n (list_of p) ps)
   args_reported h e = oa.reports _ _ h (omega arith)
 
-  pub call_stops : (why : Refusal) (position : ℕ) → after.verdict ≡ Refused why position → OrderedCall s a count k last n p after
-  call_stops why position refused = record { went_on = stopped (suc k) last refused; reports = λ ps m h e. stays _ _ (args_reported h e) refused }
+  pub call_stops : (x : Refused) → after' ≡ Err x → OrderedCall s a count k last n p (Err x)
+  call_stops x refused = record { went_on = stopped (suc k) last x; reports = λ ps m h e. stays _ _ (args_reported h e) refused }
 
-  module _ (passed : after.verdict ≡ Passed) (taken : Taken) (took : Took after.pending a taken) where
-    pub call_other : not taken.head ≡ true → OrderedCall s a count k last n p (record { verdict = Refused OutOfOrder k; pending = p; next = k })
-    call_other other = record {
-      went_on = stopped (suc k) last refl;
-      reports = λ ps m h e. follows _ (args_reported h e) passed (refuses (not_taken _ a k taken took other));
-    }
+  module _ (after : Checked) (passed : after' ≡ Ok after) (taken : Option Pending) (took : Took after.pending a taken)
+      (tried : Answer Pending Refused) (made : Refused) (tries : tried ≡ ok_or taken made)
+    where
+      pub call_other : (x : Refused) → made ≡ record { why = OutOfOrder; position = k } → tried ≡ Err x → OrderedCall s a count k last n p (Err x)
+      call_other x at_k refused =
+          let is : x ≡ record { why = OutOfOrder; position = k } = its_refusal taken made x (sym tries ∙ refused) ∙ at_k in
+          record {
+            went_on = stopped (suc k) last x;
+            reports = λ ps m h e. rw is (follows _ (args_reported h e) passed (refuses (not_taken _ a k taken took (is_absent taken made x (sym tries ∙ refused)))));
+          }
 
-    pub call_takes : not taken.head ≡ false → OrderedCall s a count k last n p (record { verdict = Passed; pending = taken.pending; next = after.next })
-    call_takes head = record {
-      went_on = record { went = λ u. let args = oa.went_on.went passed in record { on = omega (arith, args.on); inside = args.inside } };
-      reports = λ ps m h e. follows _ (args_reported h e) passed (passes (is_taken _ a k taken took head) (came (args_reported h e) passed).position);
-    }
+      pub call_takes : (rest : Pending) → tried ≡ Ok rest → OrderedCall s a count k last n p (Ok (record { pending = rest; next = after.next }))
+      call_takes rest there = record {
+        went_on = record {
+          went = λ c u.
+              let args = oa.went_on.went after passed in
+              let same : after.next ≡ c.next = cc in
+              record { on = omega (arith, args.on); inside = omega (arith, args.inside) };
+        };
+        reports = λ ps m h e. follows _ (args_reported h e) passed (passes (is_taken _ a k taken took rest (is_there taken made rest (sym tries ∙ there))) (came (args_reported h e) passed).position);
+      }
 
 pub ruleset calls = (call_stops, call_other, call_takes)
 
 -- ---- `order_at`
 
-pub at-end : (s : List ℕ) (k last n : ℕ) (p : Pending) → last ≤ k → Ordered s k last n p (record { verdict = Refused PrefixForm k; pending = p; next = k })
-at-end s k last n p over = record { went_on = stopped (suc k) last refl; reports = λ e h. absurd (omega (arith, some_record e, h.fits)) }
+pub at-end : (s : List ℕ) (k last n : ℕ) (p : Pending) (x : Refused) → last ≤ k → Ordered s k last n p (Err x)
+at-end s k last n p x over = record { went_on = stopped (suc k) last x; reports = λ e h. absurd (omega (arith, some_record e, h.fits)) }
 
 -- six kinds are walked part after part, with no test of their own
 plain_read : (node : Record) → (node ≡ IfZero → ⊥) → ((x : TreeName) → node ≡ Case x → ⊥) → ((x : Called) → node ≡ Call x → ⊥) → Plain (meant node)
@@ -138,36 +144,36 @@ plain_read Node _ _ _ = tt
 plain_read (Case x) _ no_case _ = absurd (no_case x refl)
 plain_read (Call x) _ _ no_call = absurd (no_call x refl)
 
-module _ (s : List ℕ) (k last n : ℕ) (p : Pending) (read : RecordRead) (reported : described read ≡ on_value shape_of (node_in s k)) where
+module _ (s : List ℕ) (k last n : ℕ) (p : Pending) (read' : Answer Described Refused) (reported : described read' ≡ on_value shape_of (node_in s k)) where
   -- what is read is the expression's own record
-  own_read : {e : Expr} → Here s last k e → described read ≡ done (shape_of (head_of e))
+  own_read : {e : Expr} → Here s last k e → described read' ≡ done (shape_of (head_of e))
   own_read {e} h = reported ∙ ap (on_value shape_of) (node_held s h.signed k e h.holds)
 
-  pub at_refused : (why : Refusal) (position : ℕ) → read ≡ NotRead why position → Ordered s k last n p (record { verdict = Refused why position; pending = p; next = k })
-  at_refused why position is = record { went_on = stopped (suc k) last refl; reports = λ e h. done_not (own_read h) (ap described is) }
+  pub at_refused : (x : Refused) → read' ≡ Err x → Ordered s k last n p (Err x)
+  at_refused x is = record { went_on = stopped (suc k) last x; reports = λ e h. done_not (own_read h) (ap described is) }
 
-  module _ (node : Record) (parts : Parts) (template : Template) (is : read ≡ Read node parts template) where
-    own_shape : {e : Expr} → Here s last k e → shape_of (head_of e) ≡ record { kind = meant node; parts = listed parts; template = column_of template }
+  module _ (read : Described) (is : read' ≡ Ok read) where
+    own_shape : {e : Expr} → Here s last k e → shape_of (head_of e) ≡ shaped read
     own_shape h = done_injective (sym (own_read h) ∙ ap described is)
 
-    own_kind : (kind : Kind) (e : Expr) → Here s last k e → meant node ≡ kind → Shaped kind e
-    own_kind kind e h case = subst (λ (x : Kind). Shaped x e) (ap (λ (x : Shape). x.kind) (own_shape h) ∙ case) (shaped e)
+    own_kind : (kind : Kind) (e : Expr) → Here s last k e → meant read.node ≡ kind → Shaped kind e
+    own_kind kind e h case = subst (λ (x : Kind). Shaped x e) (ap (λ (x : Shape). x.kind) (own_shape h) ∙ case) (shaped_of e)
 
-    pub at_if : (r : Checked) → node ≡ IfZero → OrderedIf s k last n p r → Ordered s k last n p r
+    pub at_if : (r : Answer Checked Refused) → read.node ≡ IfZero → OrderedIf s k last n p r → Ordered s k last n p r
     at_if r case o = record { went_on = o.went_on; reports = λ e h. by (own_kind an_if_zero e h (ap meant case)) h }
       where
         by : {e : Expr} → Shaped an_if_zero e → Here s last k e → Reports r (k + size e) (walk n k (list_of p) e)
         by (plain never) h = absurd never
         by an_if h = o.reports _ _ _ h
 
-    pub at_case : (r : Checked) (t : TreeName) → node ≡ Case t → OrderedCase s t.a k last n p r → Ordered s k last n p r
+    pub at_case : (r : Answer Checked Refused) (t : TreeName) → read.node ≡ Case t → OrderedCase s t.a k last n p r → Ordered s k last n p r
     at_case r t case o = record { went_on = o.went_on; reports = λ e h. by (own_kind (a_case t.a) e h (ap meant case)) h }
       where
         by : {e : Expr} → Shaped (a_case t.a) e → Here s last k e → Reports r (k + size e) (walk n k (list_of p) e)
         by (plain never) h = absurd never
         by a-case h = o.reports _ _ h
 
-    module _ (count : ℕ) (counted : count ≡ part_count (arity_in s) (listed parts)) where
+    module _ (count : ℕ) (counted : count ≡ part_count (arity_in s) (listed read.parts)) where
       -- its parts stand from the next record on
       here_parts : {e : Expr} → Here s last k e → HereRow s last (k + 1) (parts_at k e) (k + size e)
       here_parts h = rw add-one (parts_here h)
@@ -176,7 +182,7 @@ module _ (s : List ℕ) (k last n : ℕ) (p : Pending) (read : RecordRead) (repo
       count_parts e h =
           parts_counted s h.signed k e h.known h.holds ∙ ap (λ (x : Shape). part_count (arity_in s) x.parts) (own_shape h) ∙ sym counted
 
-      pub at_call : (r : Checked) (c : Called) → node ≡ Call c → OrderedCall s c.a count k last n p r → Ordered s k last n p r
+      pub at_call : (r : Answer Checked Refused) (c : Called) → read.node ≡ Call c → OrderedCall s c.a count k last n p r → Ordered s k last n p r
       unfolding parts_at
       at_call r c case o = record { went_on = o.went_on; reports = λ e h. by (own_kind (a_call c.a c.b) e h (ap meant case)) h }
         where
@@ -184,65 +190,65 @@ module _ (s : List ℕ) (k last n : ℕ) (p : Pending) (read : RecordRead) (repo
           by (plain never) h = absurd never
           by (a-call {xs = xs}) h = rw (walk_call n k (list_of p) c.a c.b xs) (o.reports _ _ (here_parts h) (count_parts _ h))
 
-      pub at_parts : (r : Checked) → (node ≡ IfZero → ⊥) → ((x : TreeName) → node ≡ Case x → ⊥) → ((x : Called) → node ≡ Call x → ⊥) → OrderedList s 0 count (k + 1) last n p r → Ordered s k last n p r
+      pub at_parts : (r : Answer Checked Refused) → (read.node ≡ IfZero → ⊥) → ((x : TreeName) → read.node ≡ Case x → ⊥) → ((x : Called) → read.node ≡ Call x → ⊥) → OrderedList s 0 count (k + 1) last n p r → Ordered s k last n p r
       at_parts r no_if_zero no_case no_call o = record {
-        went_on = record { went = λ u. let parts = o.went_on.went u in record { on = omega (arith, parts.on); inside = parts.inside } };
+        went_on = record { went = λ c u. let parts = o.went_on.went c u in record { on = omega (arith, parts.on); inside = parts.inside } };
         reports = λ e h.
-            let kind : head_of e ≡ meant node = ap (λ (x : Shape). x.kind) (own_shape h) in
+            let kind : head_of e ≡ meant read.node = ap (λ (x : Shape). x.kind) (own_shape h) in
             let counts = count_parts e h in
-            rw (walk-parts n k (list_of p) e (rw kind (plain_read node no_if_zero no_case no_call))) (o.reports _ _ (here_parts h) (omega arith));
+            rw (walk-parts n k (list_of p) e (rw kind (plain_read read.node no_if_zero no_case no_call))) (o.reports _ _ (here_parts h) (omega arith));
       }
 
 pub ruleset ats = (at-end, at_refused, at_if, at_case, at_call, at_parts)
 
 -- ---- `order_function`
 
-module _ (s : List ℕ) (k last : ℕ) (start : Pending) (alone : list_of start ≡ 0 ∷ []) (body : Checked) (o : Ordered s k last 1 start body) where
+module _ (s : List ℕ) (k last : ℕ) (start : Pending) (alone : list_of start ≡ 0 ∷ []) (body' : Answer Checked Refused) (o : Ordered s k last 1 start body') where
   -- the body's walk, from its parameter alone
-  body_reported : {e : Expr} → Here s last k e → Reports body (k + size e) (walk 1 k (0 ∷ []) e)
+  body_reported : {e : Expr} → Here s last k e → Reports body' (k + size e) (walk 1 k (0 ∷ []) e)
   body_reported {e} h = rw alone at (o.reports e h)
 
-  pub function_stops : (why : Refusal) (position : ℕ) → body.verdict ≡ Refused why position → OrderedFunction s k last body
-  function_stops why position refused = record { went_on = o.went_on; reports = λ e h. stays _ _ (body_reported h) refused }
+  pub function_stops : (x : Refused) → body' ≡ Err x → OrderedFunction s k last (Err x)
+  function_stops x refused = record { went_on = stopped (suc k) last x; reports = λ e h. stays _ _ (body_reported h) refused }
 
-  module _ (passed : body.verdict ≡ Passed) where
-    pub function_left : body.pending.len ≢ 0 → OrderedFunction s k last (record { verdict = Refused OutOfOrder k; pending = body.pending; next = k })
+  module _ (body : Checked) (passed : body' ≡ Ok body) where
+    pub function_left : (x : Refused) → x ≡ record { why = OutOfOrder; position = k } → body.pending.len ≢ 0 → OrderedFunction s k last (Err x)
     unfolding none_left
-    function_left left = record {
-      went_on = stopped (suc k) last refl;
-      reports = λ e h. follows _ (body_reported h) passed (record { is = rw (by_head body.pending _ refl (λ none. left (omega arith))) });
+    function_left x at_k left = record {
+      went_on = stopped (suc k) last x;
+      reports = λ e h. follows _ (body_reported h) passed (record { is = rw (at_k, by_head body.pending _ refl (λ none. left (omega arith))) });
     }
 
-    pub function_none : body.pending.len ≡ 0 → OrderedFunction s k last body
+    pub function_none : body.pending.len ≡ 0 → OrderedFunction s k last (Ok body)
     unfolding none_left from_last
     function_none empty = record {
-      went_on = o.went_on;
-      reports = λ e h. follows _ (body_reported h) passed (record { is = rw (passed, (came (body_reported h) passed).position, counted_list body.pending 0 (omega arith)) });
+      went_on = record { went = λ c e. o.went_on.went c (passed ∙ e) };
+      reports = λ e h. follows _ (body_reported h) passed (record { is = rw ((came (body_reported h) passed).position, counted_list body.pending 0 (omega arith)) });
     }
 
 pub ruleset functions = (function_stops, function_left, function_none)
 
 -- ---- what the calls ask: names stay few, and the records left fall
 
-module _ (k last : ℕ) (c : Checked) (went_on : WentOn (suc k) last c) (passed : c.verdict ≡ Passed) where
+module _ (k last : ℕ) (r : Answer Checked Refused) (went_on : WentOn (suc k) last r) (c : Checked) (passed : r ≡ Ok c) where
   on_inside : (n : ℕ) → Small k last n → Inside c.next last
-  on_inside n small = record { before_end = (went_on.went passed).inside; few = small.inside.few }
+  on_inside n small = record { before_end = (went_on.went c passed).inside; few = small.inside.few }
 
   pub few_on : (n : ℕ) → Small k last n → Small c.next last n
-  few_on n small = record { inside = on_inside n small; trees = omega (arith, small.trees, (went_on.went passed).on) }
+  few_on n small = record { inside = on_inside n small; trees = omega (arith, small.trees, (went_on.went c passed).on) }
 
   pub few_inside : (n : ℕ) → Small k last n → Small c.next last (n + 2)
-  few_inside n small = record { inside = on_inside n small; trees = omega (arith, small.trees, (went_on.went passed).on, (went_on.went passed).inside) }
+  few_inside n small = record { inside = on_inside n small; trees = omega (arith, small.trees, (went_on.went c passed).on, (went_on.went c passed).inside) }
 
   pub fall_list : (t : ℕ) → 3 * (last - k) + 2 ≡ t → 3 * (last - c.next) + 2 < t
-  fall_list t h = omega (arith, (went_on.went passed).on, (went_on.went passed).inside)
+  fall_list t h = omega (arith, (went_on.went c passed).on, (went_on.went c passed).inside)
 
-module _ (t k last : ℕ) (is : 3 * (last - k) ≡ t) (c : Checked) (went_on : WentOn (suc (k + 1)) last c) (passed : c.verdict ≡ Passed) where
+module _ (t k last : ℕ) (is : 3 * (last - k) ≡ t) (r : Answer Checked Refused) (went_on : WentOn (suc (k + 1)) last r) (c : Checked) (passed : r ≡ Ok c) where
   pub fall_second : 3 * (last - c.next) + 1 < t
-  fall_second = omega (arith, (went_on.went passed).on, (went_on.went passed).inside)
+  fall_second = omega (arith, (went_on.went c passed).on, (went_on.went c passed).inside)
 
-  pub fall_third : (d : Checked) → WentOn (suc c.next) last d → d.verdict ≡ Passed → 3 * (last - d.next) + 1 < t
-  fall_third d further passed' =
-      omega (arith, (went_on.went passed).on, (further.went passed').on, (further.went passed').inside)
+  pub fall_third : (q : Answer Checked Refused) (d : Checked) → WentOn (suc c.next) last q → q ≡ Ok d → 3 * (last - d.next) + 1 < t
+  fall_third q d further passed' =
+      omega (arith, (went_on.went c passed).on, (further.went d passed').on, (further.went d passed').inside)
 
 pub ruleset asked = (few_on, few_inside, fall_list, fall_second, fall_third, rules)

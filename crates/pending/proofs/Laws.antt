@@ -1,14 +1,15 @@
 -- The pending trees: what their list is, and a law for each way out of the functions on them.
 use Prim.Native.Nat.{ℕ, zero, suc, ◌+◌, ◌-◌, ◌≤◌, ◌<◌}
-use mathlib.Core.Bool.{Bool, true, false, not, ◌&&◌, and-false}
-use mathlib.Core.List.{List, [], ◌∷◌}
+use mathlib.Core.Bool.{Bool, true, false, ◌&&◌, and-false}
+use mathlib.Core.List.{List, [], ◌∷◌, ◌++◌}
 use mathlib.Core.Logic.{◌≢◌}
 use mathlib.Core.Path.{◌≡◌, refl, sym, ap, ap₂, ◌∙◌}
 use native.Mathlib.Omega.{arith}
 use native.Mathlib.Numerals.{towards_suc}
-use borrow.Author.Tests.{not-true, not-false, eq-eqb, ne_eqb, eqb-true, eqb-false, le-leb, lt-leb}
+use borrow.Author.Tests.{eq-eqb, ne_eqb, le-leb, lt-leb}
 use lib.Dec.{leb, eqb}
-use lib.ListN.{length, get_or, replicate, set, length-set}
+use lib.ListN.{length, get_or, take, replicate, set, length-set}
+use lib.Seq.{get_or-take}
 use Rattle.formats.specs.Inner.Buffers.{from_last}
 use Rattle.formats.specs.Refusals.{out_of_order}
 use Rattle.formats.specs.Results.{done, refusal, value_if}
@@ -16,9 +17,12 @@ use Rattle.formats.proofs.Buffers.{length_from, from_top}
 use Rattle.formats.proofs.Results.{done_injective, done_not}
 use Rattle.rules.specs.Limits.{most_pending}
 use Rattle.rules.specs.PassTwo.{take_head, same_names}
+use Rattle.rules.proofs.PassTwo.{same-names, names_same}
+use Rattle.std.specs.Bool.{Decides, one_answer}
+use Rattle.std.specs.Prelude.{Option, Some, None}
+use Rattle.std.proofs.Math.Seq.{take-suc}
 use Rattle.pending.specs.declared.Pending.{Pending}
-use Rattle.pending.specs.declared.Taken.{Taken}
-use Rattle.pending.specs.Inner.List.{length_of, list_of, parameter_alone, Alone, is_head, head_taken, Took, put_two, two_after, two_put, InFront}
+use Rattle.pending.specs.Inner.List.{length_of, list_of, parameter_alone, Alone, is_head, head_taken, taken_result, Took, put_two, two_after, two_put, InFront}
 
 -- ---- the list
 
@@ -48,17 +52,17 @@ alone_first = record { whole = refl; list = short_list (replicate most_pending 0
 -- ---- `take-head`
 
 module _ (p : Pending) (a l : ℕ) (counted : l ≡ length_of p) where
-  not_head : is_head a (list_of p) ≡ false → record { head = false; pending = p } ≡ head_taken p a
+  not_head : is_head a (list_of p) ≡ false → None ≡ head_taken p a
   unfolding head_taken
   not_head other = sym (rw (other, head_taken))
 
-  pub took_none : l ≡ 0 → Took p a (record { head = false; pending = p })
+  pub took_none : l ≡ 0 → Took p a None
   unfolding from_last take_head
   took_none none =
       let empty : list_of p ≡ [] = counted_list p l counted ∙ ap (from_last p.names) none in
-      record { whole = not_head (ap (is_head a) empty); reports = λ k. ap (take_head a k) empty; kept = λ h. refl }
+      record { whole = not_head (ap (is_head a) empty); reports = λ k. ap (take_head a k) empty }
 
-  module _ (some : l ≢ 0) where
+  module _ (name : ℕ) (is_name : name ≡ a) (some : l ≢ 0) where
     head_test : is_head a (list_of p) ≡ eqb (get_or p.names (l - 1) 0) a
     head_test = ap (is_head a) (by_head p l counted some)
 
@@ -67,20 +71,19 @@ module _ (p : Pending) (a l : ℕ) (counted : l ≡ length_of p) where
     unfolding take_head
     tested k = ap (take_head a k) (by_head p l counted some)
 
-    pub took_other : get_or p.names (l - 1) 0 ≢ a → Took p a (record { head = false; pending = p })
-    took_other other = record {
-      whole = not_head (head_test ∙ ne_eqb _ _ other);
-      reports = λ k. tested k ∙ rw (ne_eqb _ _ other);
-      kept = λ h. refl;
-    }
+    pub took_other : get_or p.names (l - 1) 0 ≢ name → Took p a None
+    took_other named =
+        let other : get_or p.names (l - 1) 0 ≢ a = rw is_name at named in
+        record { whole = not_head (head_test ∙ ne_eqb _ _ other); reports = λ k. tested k ∙ rw (ne_eqb _ _ other) }
 
-    pub took_head : get_or p.names (l - 1) 0 ≡ a → Took p a (record { head = true; pending = record { names = p.names; len = l - 1 } })
+    pub took_head : get_or p.names (l - 1) 0 ≡ name → Took p a (Some (record { names = p.names; len = l - 1 }))
     unfolding head_taken
-    took_head is = record {
-      whole = let test : is_head a (list_of p) ≡ true = head_test ∙ eq-eqb _ _ is in sym (rw (test, head_taken, counted));
-      reports = λ k. tested k ∙ rw (eq-eqb _ _ is, short_list p.names (l - 1) (omega arith));
-      kept = λ h. cc;
-    }
+    took_head named =
+        let test : is_head a (list_of p) ≡ true = head_test ∙ eq-eqb _ _ (named ∙ is_name) in
+        record {
+          whole = sym (rw (test, head_taken, counted));
+          reports = λ k. tested k ∙ rw (eq-eqb _ _ (named ∙ is_name), short_list p.names (l - 1) (omega arith));
+        }
 
 pub ruleset heads = (took_none, took_other, took_head)
 
@@ -124,49 +127,40 @@ not_same [] (y ∷ ys) h = refl
 not_same (x ∷ xs) [] h = refl
 not_same (x ∷ xs) (y ∷ ys) h = ap (λ t. eqb x y && t) (not_same xs ys (λ e. h (ap suc e))) ∙ and-false (eqb x y)
 
-module _ (these those : List ℕ) where
-  -- the first i names of both are the same
-  pub record Alike (l i : ℕ) : Type 0 where
-    pub within : i ≤ l
-    pub same : same_names (from_last these i) (from_last those i) ≡ true
+-- the first l names decide the list from the last of them ..
+from_taken : (names : List ℕ) (n l : ℕ) → l ≤ n → from_last (take n names) l ≡ from_last names l
+unfolding from_last
+from_taken names n zero h = refl
+from_taken names n (suc l) h = ap₂ ◌∷◌ (get_or-take n names l 0 (omega arith)) (from_taken names n l (omega arith))
 
-  pub same_none : (l : ℕ) → Alike l 0
-  unfolding from_last same_names
-  same_none l = record { within = omega arith; same = refl }
+-- .. and the list decides them
+taken_from : (these those : List ℕ) (l : ℕ) → l ≤ length these → l ≤ length those → from_last these l ≡ from_last those l → take l these ≡ take l those
+unfolding from_last
+taken_from these those zero _ _ e = refl
+taken_from these those (suc l) h k e =
+    let last : get_or these l 0 ≡ get_or those l 0 = cc in
+    let before : from_last these l ≡ from_last those l = cc in
+    rw (take-suc these l 0 (omega arith), take-suc those l 0 (omega arith))
+    (ap₂ (λ names name. names ++ name ∷ []) (taken_from these those l (omega arith) (omega arith) before) last)
 
-  pub same_more : (l i : ℕ) → i < l → get_or these i 0 ≡ get_or those i 0 → Alike l i → Alike l (i + 1)
-  unfolding from_last same_names
-  same_more l i more e a = record { within = omega arith; same = simp towards_suc (ap₂ ◌&&◌ (eq-eqb _ _ e) a.same) }
-
-  -- lists that differ in one name are not the same
-  differ : (l i : ℕ) → i < l → get_or these i 0 ≢ get_or those i 0 → same_names (from_last these l) (from_last those l) ≡ false
-  unfolding from_last same_names
-  differ zero i h ne = absurd (omega arith)
-  differ (suc l) i h ne = here (eqb i l) refl (λ below. differ l i below ne)
-    where
-      here : (t : Bool) → eqb i l ≡ t → (i < l → same_names (from_last these l) (from_last those l) ≡ false)
-          → (eqb (get_or these l 0) (get_or those l 0) && same_names (from_last these l) (from_last those l)) ≡ false
-      here true e later = let is : i ≡ l = eqb-true i l e in rw (ne_eqb _ _ (rw is at ne))
-      here false e later =
-          let other : i ≢ l = eqb-false i l e in
-          simp (later (omega arith), and-false)
+-- what tells whether the first l names of both are the same tells it of their lists
+names_told : (these those : List ℕ) (l : ℕ) (r : Bool) → l ≤ length these → l ≤ length those → Decides r (take l these ≡ take l those)
+    → r ≡ same_names (from_last these l) (from_last those l)
+names_told these those l r h k told =
+    one_answer r _ told (
+      λ same. taken_from these those l h k (same-names _ _ same),
+      λ same. names_same _ _ (sym (from_taken these l l (omega arith)) ∙ ap (λ names. from_last names l) same ∙ from_taken those l l (omega arith)),
+    )
 
 module _ (one other : Pending) (l m : ℕ) (counted : l ≡ length_of one) (counted' : m ≡ length_of other) where
   pub same_lengths : l ≢ m → false ≡ same_names (list_of one) (list_of other)
   same_lengths h = sym (not_same (list_of one) (list_of other) (λ e. h (omega (arith, length_list one, length_list other))))
 
-  module _ (e : l ≡ m) (i : ℕ) where
-    -- both lists have l names
-    both : same_names (from_last one.names l) (from_last other.names l) ≡ same_names (list_of one) (list_of other)
-    both = sym (ap₂ same_names (counted_list one l counted) (counted_list other l (e ∙ counted')))
-
-    pub same_differ : i < l → get_or one.names i 0 ≢ get_or other.names i 0 → false ≡ same_names (list_of one) (list_of other)
-    same_differ h ne = sym (differ one.names other.names l i h ne) ∙ both
-
-    pub same_all : l ≤ i → Alike one.names other.names l i → true ≡ same_names (list_of one) (list_of other)
-    same_all over a = let all : i ≡ l = omega arith in sym (rw all at a.same) ∙ both
-
-pub ruleset compared = (same_lengths, same_none, same_more, same_differ, same_all)
+  pub same_told : l ≡ m → length one.names ≡ most_pending → length other.names ≡ most_pending → (r : Bool) → Decides r (take l one.names ≡ take l other.names)
+      → r ≡ same_names (list_of one) (list_of other)
+  same_told e long long' r told =
+      names_told one.names other.names l r (omega arith) (omega arith) told
+      ∙ sym (ap₂ same_names (counted_list one l counted) (counted_list other l (e ∙ counted')))
 
 -- ---- for callers: what taking the head gives; and two names fit after it, if the list was not
 -- full
@@ -180,16 +174,16 @@ head_less a k (x ∷ xs) rest e = by (eqb x a) e
     by true e = ap (λ l. suc (length l)) (done_injective e)
     by false e = done_not e refl
 
-module _ (p : Pending) (a k : ℕ) (taken : Taken) (took : Took p a taken) where
-  pub not_taken : not taken.head ≡ true → take_head a k (list_of p) ≡ refusal out_of_order k
-  not_taken other = took.reports k ∙ rw (not-true taken.head other)
+module _ (p : Pending) (a k : ℕ) (r : Option Pending) (took : Took p a r) where
+  pub not_taken : r ≡ None → take_head a k (list_of p) ≡ refusal out_of_order k
+  not_taken other = took.reports k ∙ ap (taken_result k) other
 
-  pub is_taken : not taken.head ≡ false → take_head a k (list_of p) ≡ done (list_of taken.pending)
-  is_taken head = took.reports k ∙ rw (not-false taken.head head)
+  module _ (taken : Pending) (head : r ≡ Some taken) where
+    pub is_taken : take_head a k (list_of p) ≡ done (list_of taken)
+    is_taken = took.reports k ∙ ap (taken_result k) head
 
-  pub two_fit : (left right : ℕ) → not taken.head ≡ false → length (list_of p) < most_pending
-      → put_two left right (list_of taken.pending) ≡ left ∷ (right ∷ list_of taken.pending)
-  unfolding put_two
-  two_fit left right head fits =
-      let one_less = head_less a k (list_of p) (list_of taken.pending) (is_taken head) in
-      rw (le-leb (length (list_of taken.pending) + 2) most_pending (omega arith), put_two)
+    pub two_fit : (left right : ℕ) → length (list_of p) < most_pending → put_two left right (list_of taken) ≡ left ∷ (right ∷ list_of taken)
+    unfolding put_two
+    two_fit left right fits =
+        let one_less = head_less a k (list_of p) (list_of taken) is_taken in
+        rw (le-leb (length (list_of taken) + 2) most_pending (omega arith), put_two)

@@ -18,101 +18,81 @@ pub struct Pending {
     pub len: usize,
 }
 
-// Whether a tree is the head, and the trees then pending.
-#[derive(Clone, Copy)]
-pub struct Taken {
-    pub head: bool,
-    pub pending: Pending,
-}
+impl Pending {
+    // The pending trees at first: a function's parameter alone, tree 0.
+    #[tactic(auto, using(crate::proofs::Laws::alone_first))]
+    pub fn parameter_alone() -> Pending
+        ensures { Alone result }
+    {
+        Pending {
+            names: [0; MOST_PENDING],
+            len: 1,
+        }
+    }
 
-// How many trees are pending.
-fn count(pending: Pending) -> usize
-    ensures { result ≡ length_of pending }
-{
-    if pending.len < MOST_PENDING {
-        return pending.len;
+    // How many trees are pending.
+    fn count(self) -> usize
+        ensures { result ≡ length_of self }
+    {
+        self.len.min(MOST_PENDING)
     }
-    MOST_PENDING
-}
 
-// The pending trees at first: a function's parameter alone, tree 0.
-pub fn parameter_alone() -> Pending
-    ensures { Alone result }
-{
-    Pending {
-        names: [0u16; MOST_PENDING],
-        len: 1,
-    }
-}
-
-// The pending trees without tree `a`, where it is their head.
-pub fn take_head(pending: Pending, a: u8) -> Taken
-    ensures { Took pending a result }
-{
-    let len = count(pending);
-    let names = pending.names;
-    if len == 0 {
-        return Taken {
-            head: false,
-            pending: pending,
-        };
-    }
-    if names[len - 1] != (a as u16) {
-        return Taken {
-            head: false,
-            pending: pending,
-        };
-    }
-    Taken {
-        head: true,
-        pending: Pending {
-            names: names,
+    // The pending trees without tree `a`, where it is their head.
+    pub fn take_head(self, a: u8) -> Option<Pending>
+        ensures { Took self a result }
+    {
+        let len = self.count();
+        if len == 0 {
+            return None;
+        }
+        if self.names[len - 1] != u16::from(a) {
+            return None;
+        }
+        Some(Pending {
             len: len - 1,
-        },
+            ..self
+        })
     }
-}
 
-// Whether no more trees can be pending.
-pub fn is_full(pending: Pending) -> bool
-    ensures { result ≡ leb most_pending (length (list_of pending)) }
-{
-    MOST_PENDING <= count(pending)
-}
+    // Whether no more trees can be pending.
+    #[tactic(auto, using(crate::proofs::Laws::full_counted))]
+    pub fn is_full(self) -> bool
+        ensures { result ≡ leb most_pending (length (list_of self)) }
+    {
+        MOST_PENDING <= self.count()
+    }
 
-// The pending trees with two more in front, where they fit: the left tree's name, then the right
-// one's.
-pub fn put_two(pending: Pending, left: u16, right: u16) -> Pending
-    ensures { InFront pending left right result }
-{
-    let len = count(pending);
-    if MOST_PENDING < len + 2 {
-        return pending;
+    // The pending trees with two more in front, where they fit: the left tree's name, then the
+    // right one's.
+    #[tactic(auto, using(crate::proofs::Laws::puts))]
+    pub fn put_two(self, left: u16, right: u16) -> Pending
+        ensures { InFront self left right result }
+    {
+        let len = self.count();
+        if MOST_PENDING < len + 2 {
+            return self;
+        }
+        let mut names = self.names;
+        names[len] = right;
+        names[len + 1] = left;
+        Pending {
+            names,
+            len: len + 2,
+        }
     }
-    let mut names = pending.names;
-    names[len] = right;
-    names[len + 1] = left;
-    Pending {
-        names: names,
-        len: len + 2,
-    }
-}
 
-// Whether the same trees are pending.
-pub fn is_same(one: Pending, other: Pending) -> bool
-    ensures { result ≡ same_names (list_of one) (list_of other) }
-{
-    let len = count(one);
-    if len != count(other) {
-        return false;
-    }
-    let these = one.names;
-    let those = other.names;
-    let mut i = 0;
-    while i < len {
-        if these[i] != those[i] {
+    // Whether the same trees are pending.
+    #[tactic(auto, using(crate::proofs::Laws::same_lengths))]
+    pub fn is_same(self, other: Pending) -> bool
+        ensures { result ≡ same_names (list_of self) (list_of other) }
+    {
+        let len = self.count();
+        if len != other.count() {
             return false;
         }
-        i = i + 1;
+        self.names[..len]
+            .iter()
+            .zip(&other.names[..len])
+            .all(|(x, y)| x == y)
     }
-    true
 }

@@ -29,7 +29,7 @@ pub fn perform(
         result }
 {
     if !run_answers::has_room(answer) {
-        return refusal::number_of(Refusal::SpaceTooShort);
+        return u32::from(Refusal::SpaceTooShort);
     }
     let ran = machine::perform(fuel, output, values, returns, code, input);
     run_answers::report_run(ran, answer)

@@ -11,12 +11,9 @@ use Rattle.refusal.specs.Inner.Numbers.{number}
 use Rattle.refusal.specs.Inner.FilledBuffer.{FilledBuffer}
 use Rattle.refusal.proofs.FilledBuffer.{put_refused}
 use Rattle.refusal.specs.Inner.Verdicts.{verdict_result}
-use Rattle.refusal.specs.declared.Refusal.{Refusal}
+use Rattle.std.specs.Prelude.{Result as Answer, Ok, Err}
 use Rattle.refusal.specs.declared.Refusal.TheVariants.{SpaceTooShort}
-use Rattle.refusal.specs.declared.Verdict.{Verdict}
-use Rattle.refusal.specs.declared.Verdict.TheVariants as verdict_is
-use Rattle.refusal.specs.declared.Filled.{Filled}
-use Rattle.refusal.specs.declared.Filled.TheVariants.{Refused}
+use Rattle.refusal.specs.declared.Refused.{Refused}
 use Rattle.rules.specs.PassTwo.{check_file}
 use Rattle.meaning.specs.Running.{value_words, return_words}
 use Rattle.translation.specs.TranslateAndRun.{prepared, translate_file}
@@ -25,24 +22,25 @@ use Rattle.prepare.specs.Inner.Words.{TooFewWords}
 
 -- ---- `too_few_words`
 
-module _ (file : List ℕ) (checked : Verdict) (reported : verdict_result checked ≡ check_file file) where
-  pub words_refused : (why : Refusal) (position : ℕ) → checked ≡ verdict_is.Refused why position → TooFewWords file (Refused why position)
-  words_refused why position is = record {
+module _ (file : List ℕ) (checked : Answer (Unit {0}) Refused) (reported : verdict_result checked ≡ check_file file) where
+  pub words_refused : (r : Refused) → checked ≡ Err r → TooFewWords file (Err r)
+  words_refused r is = record {
     is = λ code values returns short.
-        let stop = not_translated (length code) file (number why) position (sym reported ∙ ap verdict_result is) in
-        put_refused _ code why position (prepared_refused (length code) values returns file (number why) position stop);
+        let stop = not_translated (length code) file (number r.why) r.position (sym reported ∙ ap verdict_result is) in
+        put_refused _ code r (prepared_refused (length code) values returns file (number r.why) r.position stop);
   }
 
-  pub words_short : checked ≡ verdict_is.Passed → TooFewWords file (Refused SpaceTooShort 0)
-  words_short is = record {
-    is = λ code values returns short. put_refused _ code SpaceTooShort 0 (prepared_short (length code) values returns file (sym reported ∙ ap verdict_result is) short);
-  }
+  pub words_short : (u : Unit {0}) (r : Refused) → checked ≡ Ok u → r ≡ record { why = SpaceTooShort; position = 0 } → TooFewWords file (Err r)
+  words_short u r is at = rw at (record {
+    is = λ code values returns short.
+        put_refused _ code (record { why = SpaceTooShort; position = 0 }) (prepared_short (length code) values returns file (sym reported ∙ ap verdict_result is) short);
+  })
 
 pub ruleset words_ways = (words_refused, words_short)
 
 -- ---- `prepare`
 
-module _ (file code : List ℕ) (values returns : ℕ) (r : Filled) where
+module _ (file code : List ℕ) (values returns : ℕ) (r : Answer ℕ Refused) where
   pub values_missing : values < 16384 → TooFewWords file r → FilledBuffer (prepared (length code) values returns file) code code r
   values_missing missing few = few.is code values returns (rw (lt-leb value_words values missing))
 

@@ -17,6 +17,9 @@ use Rattle.formats.specs.Rows.{function_row, node_row, exprs_of, exactly_one, bo
 use Rattle.formats.specs.Inner.Fields.{header_in, function_in, count_in, node_in}
 use Rattle.formats.proofs.Results.{then_done, then_refused, each_inv, each_none, each_front, test_holds, test_fails, passed_is, refused_is, each_after}
 use Rattle.formats.proofs.Rows.{function_read, summed_inv, row_read, arity_read}
+use Rattle.refusal.specs.Inner.Numbers.{number}
+use Rattle.refusal.specs.declared.Refusal.TheVariants.{PrefixForm}
+use Rattle.refusal.specs.declared.Refused.{Refused}
 use Rattle.program.specs.Inner.Prefix.{IsOne, PrefixSays}
 
 -- a function's check in front of the others'
@@ -120,12 +123,12 @@ module _ (s : List ℕ) (functions : ℕ) where
             t.passed (sym (test_holds one prefix_form first _ (one_said gs t.here eg t.here_read) (not-false one u)));
       }
 
-      pub bodies_refused : not one ≡ true → PrefixSays s (refusal prefix_form first)
-      bodies_refused u = record {
+      pub bodies_refused : (r : Refused) → r ≡ record { why = PrefixForm; position = first } → not one ≡ true → PrefixSays s (refusal (number r.why) r.position)
+      bodies_refused r at u = rw at (record {
         is = λ gs ks eg ek.
             let t = turn gs ks first j count more is (b.rest gs ks eg ek) in
             sym (t.refused prefix_form first (sym (test_fails one prefix_form first _ (one_said gs t.here eg t.here_read) (not-true one u))));
-      }
+      })
 
   pub bodies_all : (first j : ℕ) → functions ≤ j → Bodied first j → PrefixSays s (done tt)
   unfolding bodies

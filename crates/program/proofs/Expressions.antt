@@ -103,17 +103,18 @@ module _ (s : List ℕ) (first end : ℕ) where
   upto k standing w = omega (arith, w.within)
 
   module _ (k standing parts : ℕ) (more : first < k) (w : Standing k standing) (is : parts ≡ parts_in s (k - 1)) where
-    pub walk_more : parts ≤ standing → Standing (k - 1) (standing - parts + 1)
-    walk_more enough = record {
+    pub walk_more : (left : ℕ) → parts ≤ standing → left ≡ standing - parts → Standing (k - 1) (left + 1)
+    walk_more left enough e = rw e (record {
       begun = omega arith;
       within = omega (arith, w.within);
       stands = λ arity ks a e.
           let f = front k arity ks more (upto k standing w) a e in
           rw f.both (more_stand arity f.kind f.after standing parts (w.stands arity f.after a f.read) (is ∙ f.parts) enough);
-    }
+    })
 
-    pub walk_short : standing < parts → IsOne s first end false
-    walk_short few =
+    pub walk_short : ¬ (parts ≤ standing) → IsOne s first end false
+    walk_short more_parts =
+        let few : standing < parts = omega arith in
         let from : first ≤ k - 1 = omega arith in
         let until : k - 1 ≤ end = omega (arith, w.within) in
         record {

@@ -12,9 +12,8 @@ use Rattle.formats.proofs.Rows.{header_own}
 use Rattle.formats.proofs.Results.{then_done, then_refused, Value, passed_is, refused_is}
 use Rattle.refusal.specs.Inner.Numbers.{number}
 use Rattle.refusal.specs.Inner.Verdicts.{verdict_result}
-use Rattle.refusal.specs.declared.Refusal.{Refusal}
-use Rattle.refusal.specs.declared.Verdict.{Verdict}
-use Rattle.refusal.specs.declared.Verdict.TheVariants.{Passed, Refused}
+use Rattle.refusal.specs.declared.Refused.{Refused}
+use Rattle.std.specs.Prelude.{Result as Answer, Ok, Err}
 use Rattle.program.specs.Inner.Prefix.{PrefixSays}
 
 -- what follows the header, the functions and the nodes
@@ -33,34 +32,34 @@ functions_said : (h : Header) (fs : Result (List Function))
 functions_said h (done l) = refl
 functions_said h (refusal number position) = refl
 
-module _ (s : List ℕ) (header : Verdict) (eh : verdict_result header ≡ verdict (header_row s)) where
-  pub stops_header : (why : Refusal) (position : ℕ) → header ≡ Refused why position → refusal (number why) position ≡ verdict (read_program s)
+module _ (s : List ℕ) (header : Answer (Unit {0}) Refused) (eh : verdict_result header ≡ verdict (header_row s)) where
+  pub stops_header : (r : Refused) → header ≡ Err r → refusal (number r.why) r.position ≡ verdict (read_program s)
   unfolding read_program
-  stops_header why position case = sym (ap verdict (then_refused (with_header s) (refused_is (header_row s) (number why) position (sym eh ∙ ap verdict_result case))))
+  stops_header r case = sym (ap verdict (then_refused (with_header s) (refused_is (header_row s) (number r.why) r.position (sym eh ∙ ap verdict_result case))))
 
-  module _ (header_passed : header ≡ Passed) (functions : Verdict) (ef : verdict_result functions ≡ verdict (function_row (header_in s) s)) where
+  module _ (header_passed : header ≡ Ok tt) (functions : Answer (Unit {0}) Refused) (ef : verdict_result functions ≡ verdict (function_row (header_in s) s)) where
     after_header : read_program s ≡ with_header s (header_in s)
     unfolding read_program
     after_header =
         let v = passed_is (header_row s) (sym eh ∙ ap verdict_result header_passed) in
         then_done (with_header s) v.is ∙ ap (with_header s) (sym (header_own s v.value v.is))
 
-    pub stops_functions : (why : Refusal) (position : ℕ) → functions ≡ Refused why position → refusal (number why) position ≡ verdict (read_program s)
-    stops_functions why position case =
-        sym (ap verdict (after_header ∙ then_refused _ (refused_is (function_row (header_in s) s) (number why) position (sym ef ∙ ap verdict_result case))))
+    pub stops_functions : (r : Refused) → functions ≡ Err r → refusal (number r.why) r.position ≡ verdict (read_program s)
+    stops_functions r case =
+        sym (ap verdict (after_header ∙ then_refused _ (refused_is (function_row (header_in s) s) (number r.why) r.position (sym ef ∙ ap verdict_result case))))
 
-    module _ (functions_passed : functions ≡ Passed) (nodes : Verdict) (en : verdict_result nodes ≡ verdict (node_row (header_in s) s)) where
+    module _ (functions_passed : functions ≡ Ok tt) (nodes : Answer (Unit {0}) Refused) (en : verdict_result nodes ≡ verdict (node_row (header_in s) s)) where
       read : Value (function_row (header_in s) s)
       read = passed_is (function_row (header_in s) s) (sym ef ∙ ap verdict_result functions_passed)
 
       after_functions : read_program s ≡ with_functions (header_in s) s read.value
       after_functions = after_header ∙ then_done _ read.is
 
-      pub stops_nodes : (why : Refusal) (position : ℕ) → nodes ≡ Refused why position → refusal (number why) position ≡ verdict (read_program s)
-      stops_nodes why position case =
-          sym (ap verdict (after_functions ∙ then_refused _ (refused_is (node_row (header_in s) s) (number why) position (sym en ∙ ap verdict_result case))))
+      pub stops_nodes : (r : Refused) → nodes ≡ Err r → refusal (number r.why) r.position ≡ verdict (read_program s)
+      stops_nodes r case =
+          sym (ap verdict (after_functions ∙ then_refused _ (refused_is (node_row (header_in s) s) (number r.why) r.position (sym en ∙ ap verdict_result case))))
 
-      pub prefix_decides : (form : Verdict) → nodes ≡ Passed → PrefixSays s (verdict_result form) → verdict_result form ≡ verdict (read_program s)
+      pub prefix_decides : (form : Answer (Unit {0}) Refused) → nodes ≡ Ok tt → PrefixSays s (verdict_result form) → verdict_result form ≡ verdict (read_program s)
       prefix_decides form nodes_passed reported =
           let ks = passed_is (node_row (header_in s) s) (sym en ∙ ap verdict_result nodes_passed) in
           reported.is read.value ks.value read.is ks.is

@@ -7,7 +7,7 @@ ghost use Rattle.formats.specs.Rows.{read_program};
 ghost use Rattle.refusal.specs.Inner.Verdicts.{verdict_result};
 ghost use Rattle.program.specs.Inner.Prefix.{IsOne, PrefixSays};
 
-use refusal::{Refusal, Verdict};
+use refusal::{Refusal, Refused};
 
 // Whether the records from `first` up to `end` are exactly one expression. From the last record to
 // the first, each takes its parts off the expressions that stand after it, and is one expression
@@ -16,52 +16,39 @@ fn one_expression(flat: &[u8], first: usize, end: usize) -> bool
     requires { first ≤ end }
     ensures { IsOne flat.now first end result }
 {
-    let mut standing = 0;
-    let mut k = end;
-    while first < k {
-        k = k - 1;
-        let parts = nodes::parts_at(flat, k);
-        if standing < parts {
-            return false;
+    let mut standing: usize = 0;
+    for k in (first..end).rev() {
+        match standing.checked_sub(nodes::parts_at(flat, k)) {
+            Some(left) => standing = left + 1,
+            None => return false,
         }
-        standing = standing - parts + 1;
     }
     standing == 1
 }
 
 // The row "prefix form".
-fn prefix_row(flat: &[u8]) -> Verdict
+fn prefix_row(flat: &[u8]) -> Result<(), Refused>
     ensures { PrefixSays flat.now (verdict_result result) }
 {
     let functions = signatures::functions_in(flat) as u16;
     let mut first = 1 + (functions as usize);
-    let mut j: u16 = 0;
-    while j < functions {
+    for j in 0..functions {
         let end = first + (signatures::count(flat, j) as usize);
         if !one_expression(flat, first, end) {
-            return Verdict::Refused(Refusal::PrefixForm, first);
+            return Err(Refusal::PrefixForm.at(first));
         }
         first = end;
-        j = j + 1;
     }
-    Verdict::Passed
+    Ok(())
 }
 
 // The rows header to prefix form, each finished before the next begins.
-pub fn check_records(flat: &[u8]) -> Verdict
+#[tactic(auto, using(crate::proofs::Rows::rows_said))]
+pub fn check_records(flat: &[u8]) -> Result<(), Refused>
     ensures { verdict_result result ≡ verdict (read_program flat.now) }
 {
-    let header = header::header_row(flat);
-    if let Verdict::Refused(why, position) = header {
-        return Verdict::Refused(why, position);
-    }
-    let functions = functions::function_row(flat);
-    if let Verdict::Refused(why, position) = functions {
-        return Verdict::Refused(why, position);
-    }
-    let nodes = nodes::node_row(flat);
-    if let Verdict::Refused(why, position) = nodes {
-        return Verdict::Refused(why, position);
-    }
+    header::header_row(flat)?;
+    functions::function_row(flat)?;
+    nodes::node_row(flat)?;
     prefix_row(flat)
 }

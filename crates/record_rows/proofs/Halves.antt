@@ -1,16 +1,17 @@
 -- The first half of a row: a law for each way out of its functions.
-use Prim.Native.Nat.{ℕ, suc, ◌+◌, ◌-◌, ◌*◌, ◌/◌, ◌%◌, ◌≤◌, ◌<◌}
+use Prim.Native.Nat.{ℕ, zero, suc, ◌+◌, ◌-◌, ◌*◌, ◌/◌, ◌%◌, ◌≤◌, ◌<◌}
 use mathlib.Core.List.{List}
-use mathlib.Core.Logic.{◌≢◌}
+use mathlib.Core.Logic.{◌≢◌, ◌⊎◌, inl, inr}
 use mathlib.Core.Path.{◌≡◌, sym, ap, ap₂, ◌∙◌}
 use native.Mathlib.Omega.{arith}
-use borrow.Author.Rules.{rules}
-use lib.ListN.{length, get_or, take, length-take, get_or-eq_default}
+use lib.ListN.{get_or, take, length-take, get_or-eq_default}
 use lib.Seq.{get_or-take}
+use Rattle.formats.specs.Numbers.{Bytes}
 use Rattle.formats.specs.Records.{Kind, record_at}
 use Rattle.formats.specs.Records.{Const as a_const, Var as a_var, Add as an_add, IfZero as an_if_zero, Let as a_let, Leaf as a_leaf, Node as a_node, Case as a_case, Call as a_call}
 use Rattle.formats.specs.Inner.Fields.{header_in, arity_in, count_in}
-use Rattle.functions.proofs.Functions.{Summed, sum_none, sum_more, sum_all}
+use Rattle.functions.specs.Inner.Counts.{counts_from}
+use Rattle.formats.proofs.Records.{ranged_at}
 use Rattle.records.specs.Inner.Read.{meant}
 use Rattle.records.specs.declared.Record.{Record}
 use Rattle.records.specs.declared.Record.TheVariants.{Const, Var, Add, IfZero, Let, Leaf, Node, Case, Call}
@@ -24,24 +25,19 @@ use Rattle.record_rows.specs.Inner.Halves.{first_in, operand_in, tree_in, own_in
 
 -- ---- `first_record`
 
--- the counts of the functions before j are summed, and j is not past b
-pub record Counting (s : List ℕ) (b sum j : ℕ) : Type 0 where
-  pub summed : Summed s b sum j
-  pub upto : j ≤ b
+-- a count fits its field, and so does a sum of fewer than 65,536 of them its type
+count_low : (s : List ℕ) (j : ℕ) → Bytes s → count_in s j < 65536
+unfolding count_in record_at
+count_low s j bytes = (ranged_at s (suc j) bytes).2
 
-module _ (s : List ℕ) (b : ℕ) where
-  pub count_none : Counting s b 0 0
-  count_none = record { summed = sum_none s b; upto = omega arith }
+pub counts_low : (s : List ℕ) (n j : ℕ) → Bytes s → counts_from n s j ≤ 65535 * n
+unfolding counts_from
+counts_low s zero j bytes = omega arith
+counts_low s (suc n) j bytes = omega (arith, count_low s j bytes, counts_low s n (suc j) bytes)
 
-  module _ (sum j : ℕ) (c : Counting s b sum j) where
-    pub count_more : (n : ℕ) → j < b → n ≡ count_in s j → n < 65536 → Counting s b (sum + n) (j + 1)
-    count_more n more e small = record { summed = sum_more s b sum j n more c.summed e small; upto = omega arith }
-
-    pub first_is : (functions : ℕ) → functions ≡ (header_in s).functions → b ≤ j → 1 + functions + sum ≡ first_in s b
-    unfolding first_in header_in record_at
-    first_is functions ef all = ap₂ (λ f n. 1 + f + n) ef (sum_all s b sum j all c.summed)
-
-pub ruleset firsts = (count_none, count_more, first_is, rules)
+pub first_is : (s : List ℕ) (functions b nodes : ℕ) → nodes ≡ counts_from b s 0 → functions ≡ (header_in s).functions → 1 + functions + nodes ≡ first_in s b
+unfolding first_in header_in record_at
+first_is s functions b nodes en ef = ap₂ (λ f n. 1 + f + n) ef en
 
 -- ---- `case_at`
 
@@ -49,13 +45,10 @@ module _ (cases : List ℕ) (depth n : ℕ) where
   pub case_above : depth ≤ n → 0 ≡ get_or (take depth cases) n 0
   case_above over = sym (get_or-eq_default (take depth cases) 0 (omega (arith, length-take depth cases)))
 
-  pub case_past : length cases ≤ n → 0 ≡ get_or (take depth cases) n 0
-  case_past over = sym (get_or-eq_default (take depth cases) 0 (omega (arith, length-take depth cases)))
-
   pub case_there : n < depth → get_or cases n 0 ≡ get_or (take depth cases) n 0
   case_there below = sym (get_or-take depth cases n 0 below)
 
-pub ruleset cases_at = (case_above, case_past, case_there)
+pub ruleset cases_at = (case_above, case_there)
 
 -- ---- `code_of`
 
@@ -88,21 +81,13 @@ module _ (s cases : List ℕ) (names depth : ℕ) (node : Record) (o : Own) wher
   unfolding own_in action_of operand_in tree_in more_of
   owns_var v case e = of_kind (a_var v.a) (ap meant case) e
 
-  pub owns_add : node ≡ Add → o ≡ record { action = enters_part; operand = 0; tree = 0; more = 0 } → o ≡ own_in s cases names depth (meant node)
+  -- the four kinds whose first part begins, and which have no operands
+  pub owns_entered : (node ≡ Add) ⊎ (node ≡ IfZero) ⊎ (node ≡ Let) ⊎ (node ≡ Leaf) → o ≡ record { action = enters_part; operand = 0; tree = 0; more = 0 } → o ≡ own_in s cases names depth (meant node)
   unfolding own_in action_of operand_in tree_in more_of
-  owns_add case e = of_kind an_add (ap meant case) e
-
-  pub owns_if : node ≡ IfZero → o ≡ record { action = enters_part; operand = 0; tree = 0; more = 0 } → o ≡ own_in s cases names depth (meant node)
-  unfolding own_in action_of operand_in tree_in more_of
-  owns_if case e = of_kind an_if_zero (ap meant case) e
-
-  pub owns_let : node ≡ Let → o ≡ record { action = enters_part; operand = 0; tree = 0; more = 0 } → o ≡ own_in s cases names depth (meant node)
-  unfolding own_in action_of operand_in tree_in more_of
-  owns_let case e = of_kind a_let (ap meant case) e
-
-  pub owns_leaf : node ≡ Leaf → o ≡ record { action = enters_part; operand = 0; tree = 0; more = 0 } → o ≡ own_in s cases names depth (meant node)
-  unfolding own_in action_of operand_in tree_in more_of
-  owns_leaf case e = of_kind a_leaf (ap meant case) e
+  owns_entered (inl case) e = of_kind an_add (ap meant case) e
+  owns_entered (inr (inl case)) e = of_kind an_if_zero (ap meant case) e
+  owns_entered (inr (inr (inl case))) e = of_kind a_let (ap meant case) e
+  owns_entered (inr (inr (inr case))) e = of_kind a_leaf (ap meant case) e
 
   pub owns_node : node ≡ Node → o ≡ record { action = tags_node; operand = 0; tree = 0; more = 0 } → o ≡ own_in s cases names depth (meant node)
   unfolding own_in action_of operand_in tree_in more_of
@@ -123,4 +108,4 @@ module _ (s cases : List ℕ) (names depth : ℕ) (node : Record) (o : Own) wher
       ∙ ap₂ (λ f n. record { action = calls_function; operand = f % 65536; tree = n; more = many }) ef et
       ∙ ap (λ n. record { action = calls_function; operand = first_in s c.b % 65536; tree = naming_code (take depth cases) c.a % 65536; more = n }) em)
 
-pub ruleset owned = (owns_const, owns_var, owns_add, owns_if, owns_let, owns_leaf, owns_node, owns_case, owns_call)
+pub ruleset owned = (owns_const, owns_var, owns_entered, owns_node, owns_case, owns_call)

@@ -1,7 +1,7 @@
 -- A law for each way out of the functions over node records. A record read is that of its kind
--- number: the fields that the kind does not use sum to 0 exactly where the record is the one that
--- its kind has.
-use Prim.Native.Nat.{ℕ, ◌+◌, ◌*◌, ◌/◌, ◌≤◌, ◌<◌}
+-- number: its fields that the kind does not use pass their test exactly where the record is the one
+-- that its kind has.
+use Prim.Native.Nat.{ℕ, zero, suc, ◌+◌, ◌*◌, ◌≤◌, ◌<◌, min}
 use mathlib.Core.Bool.{Bool, true, false, ◌&&◌, and-true, and_comm}
 use mathlib.Core.List.{List, [], ◌∷◌}
 use mathlib.Core.Logic.{◌≢◌}
@@ -9,19 +9,18 @@ use mathlib.Core.Option.{some}
 use mathlib.Core.Path.{◌≡◌, refl, sym, ap, ap₂, ◌∙◌}
 use native.Mathlib.Nat.{le_refl}
 use native.Mathlib.Omega.{arith}
-use borrow.Author.Tests.{lt-ltb, le-ltb, eq-eqb, ne_eqb, eqb-true}
-use lib.Dec.{eqb, ltb}
+use borrow.Author.Tests.{ltb-true, ltb-false, eq-eqb}
+use lib.Dec.{eqb, ltb, eqb-zero-suc, eqb-suc-zero}
 use lib.ListN.{length, get_or, get_or-eq_default}
 use Rattle.formats.specs.Numbers.{number_at}
 use Rattle.formats.specs.Refusals.{node_field}
-use Rattle.formats.specs.Results.{done, refusal, value_if, on_value}
+use Rattle.formats.specs.Results.{value_if, on_value}
 use Rattle.formats.specs.Records.{Kind, Parts, fields, record_bytes, record_at, kinds, kind_of, nth, same_fields, function_below, fields_of, node_record, parts_of}
 use Rattle.formats.specs.Records.{a_number, a_tree, as_whole, under_number, under_trees, these, arguments_of, Const, Var, Add, IfZero, Let, Leaf, Node, Case, Call}
 use Rattle.formats.specs.Inner.CodeColumn.{template_of}
 use Rattle.formats.specs.Rows.{node_at}
 use Rattle.formats.specs.Inner.Fields.{header_in, node_in}
 use Rattle.formats.proofs.Numbers.{number_at_cut}
-use Rattle.formats.proofs.Results.{both_held}
 use Rattle.formats.proofs.Records.{none_past, but}
 use Rattle.refusal.specs.declared.Refusal.TheVariants.{NodeField}
 use Rattle.records.specs.declared.Item.{Item}
@@ -29,9 +28,10 @@ use Rattle.records.specs.declared.Item.TheVariants.{Push, Get, Ifnot, Jump, End,
 use Rattle.records.specs.declared.Items.{Items}
 use Rattle.records.specs.declared.Items.TheVariants.{None, One, Two}
 use Rattle.records.specs.declared.Template.{Template}
-use Rattle.records.specs.declared.RecordRead.{RecordRead}
-use Rattle.records.specs.declared.RecordRead.TheVariants.{Refused}
-use Rattle.records.specs.Inner.Read.{OfKind, StandsAt, Shape, column_of, described, shape_of}
+use Rattle.refusal.specs.declared.Refused.{Refused}
+use Rattle.std.specs.Prelude.{Result as Answer, Err}
+use Rattle.records.specs.declared.Described.{Described}
+use Rattle.records.specs.Inner.Read.{OfKind, StandsAt, column_of, described, shape_of}
 
 -- ---- templates
 
@@ -45,65 +45,56 @@ parted first second third = record { first = first; second = second; third = thi
 
 -- ---- fields that should be zero
 
--- two tests that imply each other are the same
-same_test : (x y : Bool) → (x ≡ true → y ≡ true) → (y ≡ true → x ≡ true) → x ≡ y
-same_test true y f g = sym (f refl)
-same_test false true f g = g refl
-same_test false false f g = refl
+-- a field compared with 0, and with itself
+flip : (a : ℕ) → eqb 0 a ≡ eqb a 0
+flip zero = refl
+flip (suc a) = eqb-zero-suc a ∙ sym (eqb-suc-zero a)
 
--- a record is the one of its kind exactly where the sum of the fields that the kind does not use is
--- 0
-sum_test :
-    (x y a c b d i j u : ℕ)
-    → (u ≡ 0 → (x ≡ y) × (a ≡ c) × (b ≡ d) × (i ≡ j))
-    → (x ≡ y → a ≡ c → b ≡ d → i ≡ j → u ≡ 0)
-    → same_fields (fields x a b i) (fields y c d j) ≡ eqb u 0
+same : (a : ℕ) → eqb a a ≡ true
+same a = eq-eqb a a refl
+
+-- a record is the one of its kind exactly where the fields that the kind does not use are 0: of a
+-- kind with no operand, with a tree's or a number's name, with a number, and of a Call
+no_operand : (x a b i : ℕ) (u : Bool) → u ≡ (eqb a 0 && (eqb b 0 && eqb i 0)) → same_fields (fields x 0 0 0) (fields x a b i) ≡ u
 unfolding same_fields
-sum_test x y a c b d i j u all back = same_test _ _
-    (λ h.
-    let p = both_held (eqb x y) (eqb a c && (eqb b d && eqb i j)) h in
-    let q = both_held (eqb a c) (eqb b d && eqb i j) p.1 in
-    let r = both_held (eqb b d) (eqb i j) q.1 in
-    eq-eqb u 0 (back (eqb-true x y p.0) (eqb-true a c q.0) (eqb-true b d r.0) (eqb-true i j r.1)))
-    (λ h.
-    let z = all (eqb-true u 0 h) in
-    ap₂ ◌&&◌ (eq-eqb x y z.0) (ap₂ ◌&&◌ (eq-eqb a c z.1) (ap₂ ◌&&◌ (eq-eqb b d z.2) (eq-eqb i j z.3))))
+no_operand x a b i u e = simp (same, flip) (sym e)
+
+named : (x a b i : ℕ) (u : Bool) → u ≡ (eqb b 0 && eqb i 0) → same_fields (fields x a 0 0) (fields x a b i) ≡ u
+unfolding same_fields
+named x a b i u e = simp (same, flip) (sym e)
+
+numbered : (x a b i : ℕ) (u : Bool) → u ≡ (eqb a 0 && (eqb b 0 && true)) → same_fields (fields x 0 0 i) (fields x a b i) ≡ u
+unfolding same_fields
+numbered x a b i u e = simp (same, flip) (sym e)
+
+called : (x a b i : ℕ) → same_fields (fields x a b 0) (fields x a b i) ≡ eqb i 0
+unfolding same_fields
+called x a b i = simp (same, flip)
 
 -- ---- the match
 
--- the three sums of unused fields: of a kind with no operand, with a tree's or a number's name, and
--- with a number
-no_operand : (x a b i u : ℕ) → u ≡ a + b + i → same_fields (fields x 0 0 0) (fields x a b i) ≡ eqb u 0
-no_operand x a b i u e = sum_test _ _ _ _ _ _ _ _ u (λ z. (refl, omega arith, omega arith, omega arith)) (λ p q s t. omega arith)
-
-named : (x a b i u : ℕ) → u ≡ 0 + b + i → same_fields (fields x a 0 0) (fields x a b i) ≡ eqb u 0
-named x a b i u e = sum_test _ _ _ _ _ _ _ _ u (λ z. (refl, refl, omega arith, omega arith)) (λ p q s t. omega arith)
-
-numbered : (x a b i u : ℕ) → u ≡ a + b + 0 → same_fields (fields x 0 0 i) (fields x a b i) ≡ eqb u 0
-numbered x a b i u e = sum_test _ _ _ _ _ _ _ _ u (λ z. (refl, omega arith, omega arith, refl)) (λ p q s t. omega arith)
-
 -- The arms: for each kind number the kind with its operands, its parts, its template, and what is
--- known of the sum u of the fields that it does not use.
-pub data Arm (functions a b i u : ℕ) : ℕ → Kind → Parts → Template → Type 0 where
-  const_arm : u ≡ a + b + 0 → Arm functions a b i u 0 (Const i) (these []) (lastly (Push i))
-  var_arm : u ≡ 0 + b + i → Arm functions a b i u 1 (Var a) (these []) (lastly (Get a))
-  add_arm : u ≡ a + b + i → Arm functions a b i u 2 Add (these (a_number ∷ a_number ∷ [])) (lastly AddItem)
-  if_zero_arm : u ≡ a + b + i → Arm functions a b i u 3 IfZero (these (a_number ∷ as_whole ∷ as_whole ∷ [])) (parted None (One Ifnot) (One Jump))
-  let_arm : u ≡ a + b + i → Arm functions a b i u 4 Let (these (a_number ∷ under_number ∷ [])) (lastly End)
-  leaf_arm : u ≡ a + b + i → Arm functions a b i u 5 Leaf (these (a_number ∷ [])) (record { first = One LeafTag; second = None; third = None; last = One WriteNumber })
-  node_arm : u ≡ a + b + i → Arm functions a b i u 6 Node (these (a_tree ∷ a_tree ∷ [])) (parted (One NodeTag) None None)
-  case_arm : u ≡ 0 + b + i → Arm functions a b i u 7 (Case a) (these (under_number ∷ under_trees ∷ [])) (parted (Two ReadTag ReadNumber) (Two End Jump) None)
-  call_arm : eqb u 0 ≡ (ltb b functions && eqb i 0) → Arm functions a b i u 8 (Call a b) (arguments_of b) (lastly (CallItem b))
+-- known of u, whether the fields that it does not use are right.
+pub data Arm (functions a b i : ℕ) (u : Bool) : ℕ → Kind → Parts → Template → Type 0 where
+  const_arm : u ≡ (eqb a 0 && (eqb b 0 && true)) → Arm functions a b i u 0 (Const i) (these []) (lastly (Push i))
+  var_arm : u ≡ (eqb b 0 && eqb i 0) → Arm functions a b i u 1 (Var a) (these []) (lastly (Get a))
+  add_arm : u ≡ (eqb a 0 && (eqb b 0 && eqb i 0)) → Arm functions a b i u 2 Add (these (a_number ∷ a_number ∷ [])) (lastly AddItem)
+  if_zero_arm : u ≡ (eqb a 0 && (eqb b 0 && eqb i 0)) → Arm functions a b i u 3 IfZero (these (a_number ∷ as_whole ∷ as_whole ∷ [])) (parted None (One Ifnot) (One Jump))
+  let_arm : u ≡ (eqb a 0 && (eqb b 0 && eqb i 0)) → Arm functions a b i u 4 Let (these (a_number ∷ under_number ∷ [])) (lastly End)
+  leaf_arm : u ≡ (eqb a 0 && (eqb b 0 && eqb i 0)) → Arm functions a b i u 5 Leaf (these (a_number ∷ [])) (record { first = One LeafTag; second = None; third = None; last = One WriteNumber })
+  node_arm : u ≡ (eqb a 0 && (eqb b 0 && eqb i 0)) → Arm functions a b i u 6 Node (these (a_tree ∷ a_tree ∷ [])) (parted (One NodeTag) None None)
+  case_arm : u ≡ (eqb b 0 && eqb i 0) → Arm functions a b i u 7 (Case a) (these (under_number ∷ under_trees ∷ [])) (parted (Two ReadTag ReadNumber) (Two End Jump) None)
+  call_arm : u ≡ (ltb b functions && eqb i 0) → Arm functions a b i u 8 (Call a b) (arguments_of b) (lastly (CallItem b))
 
 -- What an arm says: the kind of that number, whether its unused fields are zero, its parts and its
 -- template.
-record Says (functions a b i u x : ℕ) (k : Kind) (parts : Parts) (t : Template) : Type 0 where
+record Says (functions a b i : ℕ) (u : Bool) (x : ℕ) (k : Kind) (parts : Parts) (t : Template) : Type 0 where
   kind : (edition : ℕ) → kind_of edition (fields x a b i) ≡ some k
-  unused : (same_fields (fields_of k) (fields x a b i) && function_below functions k) ≡ eqb u 0
+  unused : (same_fields (fields_of k) (fields x a b i) && function_below functions k) ≡ u
   its_parts : parts ≡ parts_of k
   column : column_of t ≡ template_of k
 
-says : {functions a b i u x : ℕ} {k : Kind} {parts : Parts} {t : Template} → Arm functions a b i u x k parts t → Says functions a b i u x k parts t
+says : {functions a b i : ℕ} {u : Bool} {x : ℕ} {k : Kind} {parts : Parts} {t : Template} → Arm functions a b i u x k parts t → Says functions a b i u x k parts t
 unfolding kind_of kinds nth fields_of function_below parts_of template_of
 says (const_arm e) = record { kind = λ edition. refl; unused = and-true _ ∙ numbered _ _ _ _ _ e; its_parts = refl; column = refl }
 says (var_arm e) = record { kind = λ edition. refl; unused = and-true _ ∙ named _ _ _ _ _ e; its_parts = refl; column = refl }
@@ -115,18 +106,18 @@ says (node_arm e) = record { kind = λ edition. refl; unused = and-true _ ∙ no
 says (case_arm e) = record { kind = λ edition. refl; unused = and-true _ ∙ named _ _ _ _ _ e; its_parts = refl; column = refl }
 says {functions = functions} {b = b} {i = i} (call_arm e) = record {
   kind = λ edition. refl;
-  unused = ap (λ t. t && ltb b functions) (sum_test _ _ _ _ _ _ _ _ i (λ z. (refl, refl, refl, sym z)) (λ p q s t. sym t)) ∙ and_comm (eqb i 0) (ltb b functions) ∙ sym e;
+  unused = ap (λ t. t && ltb b functions) (called _ _ b i) ∙ and_comm (eqb i 0) (ltb b functions) ∙ sym e;
   its_parts = refl;
   column = refl;
 }
 
 -- the one law of all arms
 pub of_arm :
-    (functions position x n a b i u : ℕ) (k : Kind) (parts : Parts) (t own : Template) (r : RecordRead)
+    (functions position x n a b i : ℕ) (u : Bool) (k : Kind) (parts : Parts) (t own : Template) (r : Answer Described Refused)
     → x ≡ n
     → t ≡ own
     → Arm functions a b i u n k parts own
-    → described r ≡ value_if (eqb u 0) node_field position (record { kind = k; parts = parts; template = column_of t })
+    → described r ≡ value_if u node_field position (record { kind = k; parts = parts; template = column_of t })
     → OfKind functions position x a b i r
 unfolding node_record
 of_arm functions position x n a b i u k parts t own r number is arm reported =
@@ -134,12 +125,12 @@ of_arm functions position x n a b i u k parts t own r number is arm reported =
     record {
       is = λ edition.
           reported
-          ∙ ap₂ (λ p c. value_if (eqb u 0) node_field position (record { kind = k; parts = p; template = c })) s.its_parts (ap column_of is ∙ s.column)
-          ∙ checked (eqb u 0)
+          ∙ ap₂ (λ p c. value_if u node_field position (record { kind = k; parts = p; template = c })) s.its_parts (ap column_of is ∙ s.column)
+          ∙ checked u
           ∙ ap (on_value shape_of) (sym (ap (λ m. node_record edition functions position (fields m a b i)) number ∙ reads s edition));
     }
   where
-    reads : Says functions a b i u n k parts own → (edition : ℕ) → node_record edition functions position (fields n a b i) ≡ value_if (eqb u 0) node_field position k
+    reads : Says functions a b i u n k parts own → (edition : ℕ) → node_record edition functions position (fields n a b i) ≡ value_if u node_field position k
     reads s edition = rw (node_record, s.kind edition, s.unused)
 
     checked : (t : Bool) → value_if t node_field position (shape_of k) ≡ on_value shape_of (value_if t node_field position k)
@@ -148,7 +139,8 @@ of_arm functions position x n a b i u k parts t own r number is arm reported =
 
 -- a kind number above the last
 pub of_none :
-    (functions position x a b i : ℕ)
+    (functions position x a b i : ℕ) (r : Refused)
+    → r ≡ record { why = NodeField; position = position }
     → x ≢ 0
     → x ≢ 1
     → x ≢ 2
@@ -158,47 +150,52 @@ pub of_none :
     → x ≢ 6
     → x ≢ 7
     → x ≢ 8
-    → OfKind functions position x a b i (Refused NodeField position)
+    → OfKind functions position x a b i (Err r)
 unfolding node_record kind_of kinds
-of_none functions position x a b i n0 n1 n2 n3 n4 n5 n6 n7 n8 =
+of_none functions position x a b i r e n0 n1 n2 n3 n4 n5 n6 n7 n8 =
     let above : 9 ≤ x = but 8 x (but 7 x (but 6 x (but 5 x (but 4 x (but 3 x (but 2 x (but 1 x (but 0 x (omega arith) n0) n1) n2) n3) n4) n5) n6) n7) n8 in
-    record { is = λ edition. simp (node_record, kind_of, none_past (kinds edition a b i) x above) }
+    rw e (record { is = λ edition. simp (node_record, kind_of, none_past (kinds edition a b i) x above) })
 
 pub ruleset arms =
     (of_arm, const_arm, var_arm, add_arm, if_zero_arm, let_arm, leaf_arm, node_arm, case_arm, call_arm, of_none)
 
 -- ---- the other functions
 
-pub row_zero : (sum position : ℕ) (x : Shape) → sum ≡ 0 → done x ≡ value_if (eqb sum 0) node_field position x
-row_zero sum position x h = rw (eq-eqb _ _ h)
-
-pub row_other : (sum position : ℕ) (x : Shape) → sum ≢ 0 → refusal node_field position ≡ value_if (eqb sum 0) node_field position x
-row_other sum position x h = rw (ne_eqb _ _ h)
-
-pub call_below : (b i functions : ℕ) → b < functions → eqb i 0 ≡ (ltb b functions && eqb i 0)
-call_below b i functions h = rw (lt-ltb _ _ h)
-
-pub call_above : (b i functions : ℕ) → functions ≤ b → eqb 1 0 ≡ (ltb b functions && eqb i 0)
-call_above b i functions h = rw (le-ltb _ _ h)
-
 -- past the end all fields read as 0, at every offset
-pub stands_past : (s : List ℕ) (k : ℕ) → length s / record_bytes < k → StandsAt s k (length s)
-stands_past s k h =
-    let past : length s < record_bytes * k = omega arith in
-    record {
-      within = le_refl _;
-      byte_0 = get_or-eq_default s 0 (le_refl _) ∙ sym (get_or-eq_default s 0 (omega arith));
-      byte_1 = get_or-eq_default s 0 (omega arith) ∙ sym (get_or-eq_default s 0 (omega arith));
-      bytes_2 = number_at_cut 2 s _ (omega arith) ∙ sym (number_at_cut 2 s _ (omega arith));
-      bytes_4 = number_at_cut 4 s _ (omega arith) ∙ sym (number_at_cut 4 s _ (omega arith));
-    }
+past_end : (s : List ℕ) (k : ℕ) → length s < record_bytes * k → StandsAt s k (length s)
+past_end s k past = record {
+  within = le_refl _;
+  byte_0 = get_or-eq_default s 0 (le_refl _) ∙ sym (get_or-eq_default s 0 (omega arith));
+  byte_1 = get_or-eq_default s 0 (omega arith) ∙ sym (get_or-eq_default s 0 (omega arith));
+  bytes_2 = number_at_cut 2 s _ (omega arith) ∙ sym (number_at_cut 2 s _ (omega arith));
+  bytes_4 = number_at_cut 4 s _ (omega arith) ∙ sym (number_at_cut 4 s _ (omega arith));
+}
 
-pub stands_there : (s : List ℕ) (k : ℕ) → k ≤ length s / record_bytes → StandsAt s k (record_bytes * k)
-stands_there s k h = record { within = omega arith; byte_0 = refl; byte_1 = refl; bytes_2 = refl; bytes_4 = refl }
+there : (s : List ℕ) (k : ℕ) → record_bytes * k ≤ length s → StandsAt s k (record_bytes * k)
+there s k within = record { within = within; byte_0 = refl; byte_1 = refl; bytes_2 = refl; bytes_4 = refl }
+
+-- the lesser of both, where a product that is too large is the largest number
+pub stands :
+    (s : List ℕ) (k q p largest : ℕ)
+    → p ≡ min q (length s)
+    → q ≡ min (k * record_bytes) largest
+    → length s ≤ largest
+    → StandsAt s k p
+stands s k q p largest lesser product fits = by_test (ltb (length s) (record_bytes * k)) refl
+  where
+    by_test : (test : Bool) → ltb (length s) (record_bytes * k) ≡ test → StandsAt s k p
+    by_test true h =
+        let past : length s < record_bytes * k = ltb-true _ _ h in
+        let end : length s ≡ p = omega arith in
+        rw end at (past_end s k past)
+    by_test false h =
+        let within : record_bytes * k ≤ length s = ltb-false _ _ h in
+        let own : record_bytes * k ≡ p = omega arith in
+        rw own at (there s k within)
 
 -- the record read at its offset, with the header's number of functions
 pub read_there :
-    (s : List ℕ) (k p x a b i f : ℕ) (r : RecordRead)
+    (s : List ℕ) (k p x a b i f : ℕ) (r : Answer Described Refused)
     → StandsAt s k p
     → x ≡ get_or s p 0
     → a ≡ get_or s (p + 1) 0

@@ -2,44 +2,43 @@
 // 8 bytes each.
 #![tactic(auto)]
 
-ghost use Rattle.std.specs.Prelude.{◌+◌, ◌≡◌, ◌&&◌, eqb, ltb};
+ghost use Rattle.std.specs.Prelude.{◌≡◌, ◌&&◌, eqb, ltb};
 ghost use Rattle.formats.specs.Refusals.{node_field};
 ghost use Rattle.formats.specs.Results.{value_if, on_value};
 ghost use Rattle.formats.specs.Inner.Fields.{node_in};
 ghost use Rattle.records.specs.Inner.Read.{OfKind, StandsAt, described, shaped, shape_of};
 ghost use Rattle.records.specs.declared.Items.TheVariants.{None, One};
 
-use refusal::Refusal;
-
-const RECORD_BYTES: usize = 8;
+use refusal::{Refusal, Refused};
+use signatures::RECORD_BYTES;
 
 // Const's operand.
-#[derive(Clone, Copy)]
+#[derive(Clone, Copy, Debug, PartialEq, Eq)]
 pub struct Constant {
     pub i: u32,
 }
 
 // Var's operand: a number name.
-#[derive(Clone, Copy)]
+#[derive(Clone, Copy, Debug, PartialEq, Eq)]
 pub struct NumberName {
     pub a: u8,
 }
 
 // Case's operand: a tree name.
-#[derive(Clone, Copy)]
+#[derive(Clone, Copy, Debug, PartialEq, Eq)]
 pub struct TreeName {
     pub a: u8,
 }
 
 // Call's operands: a tree name and a function.
-#[derive(Clone, Copy)]
+#[derive(Clone, Copy, Debug, PartialEq, Eq)]
 pub struct Called {
     pub a: u8,
     pub b: u16,
 }
 
 // A node record: its kind with its operands.
-#[derive(Clone, Copy)]
+#[derive(Clone, Copy, Debug, PartialEq, Eq)]
 pub enum Record {
     Const(Constant),
     Var(NumberName),
@@ -54,7 +53,7 @@ pub enum Record {
 
 // A part: a number or a tree is expected; or what is expected of the whole, as it is, with one
 // number name more, or with two tree names more.
-#[derive(Clone, Copy)]
+#[derive(Clone, Copy, Debug, PartialEq, Eq)]
 pub enum Part {
     Number,
     Tree,
@@ -64,7 +63,7 @@ pub enum Part {
 }
 
 // A record's parts in order: none to three, or the number arguments of a function.
-#[derive(Clone, Copy)]
+#[derive(Clone, Copy, Debug, PartialEq, Eq)]
 pub enum Parts {
     None,
     One(Part),
@@ -76,7 +75,7 @@ pub enum Parts {
 // An item of a template: an instruction whose address or word is found when it is emitted. `Ifnot`
 // and `ReadTag` go to the last part, `Jump` goes after the whole; `Get` is of a number name, `Call`
 // of a function.
-#[derive(Clone, Copy)]
+#[derive(Clone, Copy, Debug, PartialEq, Eq)]
 pub enum Item {
     Push(u32),
     Get(u8),
@@ -93,15 +92,16 @@ pub enum Item {
 }
 
 // Items in a row.
-#[derive(Clone, Copy)]
+#[derive(Clone, Copy, Debug, Default, PartialEq, Eq)]
 pub enum Items {
+    #[default]
     None,
     One(Item),
     Two(Item, Item),
 }
 
 // A kind's template: what stands before its first, second and third part, and after them all.
-#[derive(Clone, Copy)]
+#[derive(Clone, Copy, Debug, Default, PartialEq, Eq)]
 pub struct Template {
     pub first: Items,
     pub second: Items,
@@ -109,30 +109,26 @@ pub struct Template {
     pub last: Items,
 }
 
-// A record read: its kind with its operands, its parts and its template; or why it is refused, and
-// the position, which is the record's number.
-#[derive(Clone, Copy)]
-pub enum RecordRead {
-    Read(Record, Parts, Template),
-    Refused(Refusal, usize),
+// A record read: its kind with its operands, its parts and its template.
+#[derive(Clone, Copy, Debug, PartialEq, Eq)]
+pub struct Described {
+    pub node: Record,
+    pub parts: Parts,
+    pub template: Template,
 }
 
-// The sum of fields that must be zero: 0 exactly where each of them is.
-fn sum_of(a: u8, b: u16, i: u32) -> u64
-    ensures { result ≡ a + b + i }
+// Whether fields that must be zero are.
+fn zero(a: u8, b: u16, i: u32) -> bool
+    ensures { result ≡ (eqb a 0 && (eqb b 0 && eqb i 0)) }
 {
-    (a as u64) + (b as u64) + (i as u64)
+    a == 0 && b == 0 && i == 0
 }
 
-// The same for a Call, whose b must also be below the number of functions: 0 exactly where it is
-// and i is 0.
-fn call_sum(b: u16, i: u32, functions: u8) -> u64
-    ensures { eqb result 0 ≡ (ltb b functions && eqb i 0) }
+// The same for a Call, whose b must be below the number of functions, and whose i zero.
+fn callable(b: u16, i: u32, functions: u8) -> bool
+    ensures { result ≡ (ltb b functions && eqb i 0) }
 {
-    if b < (functions as u16) {
-        return i as u64;
-    }
-    1
+    b < (functions as u16) && i == 0
 }
 
 // An item after all parts.
@@ -140,10 +136,8 @@ fn last(item: Item) -> Template
     ensures { result ≡ record { first = None; second = None; third = None; last = One item } }
 {
     Template {
-        first: Items::None,
-        second: Items::None,
-        third: Items::None,
         last: Items::One(item),
+        ..Template::default()
     }
 }
 
@@ -152,10 +146,10 @@ fn before(first: Items, second: Items, third: Items) -> Template
     ensures { result ≡ record { first = first; second = second; third = third; last = None } }
 {
     Template {
-        first: first,
-        second: second,
-        third: third,
-        last: Items::None,
+        first,
+        second,
+        third,
+        ..Template::default()
     }
 }
 
@@ -166,41 +160,58 @@ fn around(first: Item, last: Item) -> Template
 {
     Template {
         first: Items::One(first),
-        second: Items::None,
-        third: Items::None,
         last: Items::One(last),
+        ..Template::default()
     }
 }
 
-// The record with its parts and its template where the fields that it does not use sum to 0; else
+// The record with its parts and its template where the fields that it does not use are right; else
 // refused with 6 at record `at`.
-fn row(node: Record, parts: Parts, template: Template, sum: u64, at: usize) -> RecordRead
-    ensures { described result ≡ value_if (eqb sum 0) node_field at (shaped node parts template) }
+fn row(
+    node: Record,
+    parts: Parts,
+    template: Template,
+    right: bool,
+    at: usize,
+) -> Result<Described, Refused>
+    ensures { described result ≡ value_if right node_field at
+        (shaped (record { node = node; parts = parts; template = template })) }
 {
-    if sum == 0 {
-        return RecordRead::Read(node, parts, template);
+    if right {
+        return Ok(Described {
+            node,
+            parts,
+            template,
+        });
     }
-    RecordRead::Refused(Refusal::NodeField, at)
+    Err(Refusal::NodeField.at(at))
 }
 
 // The one match over the kind number. Each arm has the kind's operands, its parts with what is
-// expected and named in each, its template, and the sum of the fields that it does not use.
-fn record_of(kind: u8, a: u8, b: u16, i: u32, functions: u8, at: usize) -> RecordRead
+// expected and named in each, its template, and whether the fields that it does not use are right.
+fn record_of(
+    kind: u8,
+    a: u8,
+    b: u16,
+    i: u32,
+    functions: u8,
+    at: usize,
+) -> Result<Described, Refused>
     ensures { OfKind functions at kind a b i result }
 {
-    let ab = sum_of(a, b, 0);
-    let bi = sum_of(0, b, i);
-    let abi = sum_of(a, b, i);
+    let ab = zero(a, b, 0);
+    let bi = zero(0, b, i);
+    let abi = zero(a, b, i);
     match kind {
         0 => row(
-            Record::Const(Constant { i: i }),
+            Record::Const(Constant { i }),
             Parts::None,
             last(Item::Push(i)),
             ab,
             at,
         ),
         1 => row(
-            Record::Var(NumberName { a: a }),
+            Record::Var(NumberName { a }),
             Parts::None,
             last(Item::Get(a)),
             bi,
@@ -242,7 +253,7 @@ fn record_of(kind: u8, a: u8, b: u16, i: u32, functions: u8, at: usize) -> Recor
             at,
         ),
         7 => row(
-            Record::Case(TreeName { a: a }),
+            Record::Case(TreeName { a }),
             Parts::Two(Part::UnderNumber, Part::UnderTrees),
             before(
                 Items::Two(Item::ReadTag, Item::ReadNumber),
@@ -253,13 +264,13 @@ fn record_of(kind: u8, a: u8, b: u16, i: u32, functions: u8, at: usize) -> Recor
             at,
         ),
         8 => row(
-            Record::Call(Called { a: a, b: b }),
+            Record::Call(Called { a, b }),
             Parts::Arguments(b),
             last(Item::Call(b)),
-            call_sum(b, i, functions),
+            callable(b, i, functions),
             at,
         ),
-        _ => RecordRead::Refused(Refusal::NodeField, at),
+        _ => Err(Refusal::NodeField.at(at)),
     }
 }
 
@@ -267,15 +278,12 @@ fn record_of(kind: u8, a: u8, b: u16, i: u32, functions: u8, at: usize) -> Recor
 fn offset_of(flat: &[u8], k: usize) -> usize
     ensures { StandsAt flat.now k result }
 {
-    if flat.len() / RECORD_BYTES < k {
-        return flat.len();
-    }
-    RECORD_BYTES * k
+    k.saturating_mul(RECORD_BYTES).min(flat.len())
 }
 
 // Record k of flat records, read as a node of the program that their header describes. Where the
 // record is not there, its fields read as 0.
-pub fn record_at(flat: &[u8], k: usize) -> RecordRead
+pub fn record_at(flat: &[u8], k: usize) -> Result<Described, Refused>
     ensures { described result ≡ on_value shape_of (node_in flat.now k) }
 {
     let p = offset_of(flat, k);

@@ -7,15 +7,15 @@ use lib.ListN.{length}
 use Rattle.formats.specs.Results.{Result, done, refusal}
 use Rattle.formats.specs.Blocks.{buffer_after}
 use Rattle.formats.specs.Written.{written}
-use Rattle.refusal.specs.declared.Refusal.{Refusal}
 use Rattle.refusal.specs.Inner.Numbers.{number}
 use Rattle.refusal.specs.Inner.FilledBuffer.{FilledBuffer}
-use Rattle.refusal.specs.declared.Filled.TheVariants.{Written, Refused}
+use Rattle.std.specs.Prelude.{Ok, Err}
+use Rattle.refusal.specs.declared.Refused.{Refused}
 
-pub put_refused : (due : Result (List ℕ)) (before : List ℕ) (why : Refusal) (position : ℕ) → due ≡ refusal (number why) position → FilledBuffer due before before (Refused why position)
+pub put_refused : (due : Result (List ℕ)) (before : List ℕ) (r : Refused) → due ≡ refusal (number r.why) r.position → FilledBuffer due before before (Err r)
 unfolding buffer_after
-put_refused due before why position e = rw e (record { answer = refl; buffer = refl })
+put_refused due before r e = rw e (record { answer = refl; buffer = refl })
 
-pub put_done : (due : Result (List ℕ)) (before after bytes : List ℕ) (n : ℕ) → due ≡ done bytes → length bytes ≡ n → after ≡ written before 0 bytes → FilledBuffer due before after (Written n)
+pub put_done : (due : Result (List ℕ)) (before after bytes : List ℕ) (n : ℕ) → due ≡ done bytes → length bytes ≡ n → after ≡ written before 0 bytes → FilledBuffer due before after (Ok n)
 unfolding buffer_after
 put_done due before after bytes n e size wrote = rw e (record { answer = ap done (sym size); buffer = wrote })

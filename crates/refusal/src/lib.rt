@@ -1,12 +1,12 @@
-// The refusals of 01, The table of refusals, with their numbers; the answer of a check, and that of
-// a call that fills a lent buffer.
+// The refusals of 01, The table of refusals, with their numbers; and a refusal with its position,
+// the error of every call that can be refused.
 #![tactic(auto)]
 
 ghost use Rattle.std.specs.Prelude.{◌≡◌};
 ghost use Rattle.refusal.specs.Inner.Numbers.{number};
 
 // Why an input is refused.
-#[derive(Clone, Copy)]
+#[derive(Clone, Copy, Debug, PartialEq, Eq)]
 pub enum Refusal {
     // 1: the file's length is not 1 to 17 whole blocks
     FileLength,
@@ -52,47 +52,52 @@ pub enum Refusal {
     OutOfRange,
 }
 
-// What a check answers: passed, or the first refusal and its position. What a run answers: passed
-// where it ended, or its refusal and its position.
-#[derive(Clone, Copy)]
-pub enum Verdict {
-    Passed,
-    Refused(Refusal, usize),
+// A refusal and its position.
+#[derive(Clone, Copy, Debug, PartialEq, Eq)]
+pub struct Refused {
+    pub why: Refusal,
+    pub position: usize,
 }
 
-// What a call that fills a lent buffer answers: the bytes written from its start on; or the refusal
-// and its position, and then the buffer is untouched.
-#[derive(Clone, Copy)]
-pub enum Filled {
-    Written(usize),
-    Refused(Refusal, usize),
+impl Refusal {
+    // This refusal, at a position.
+    pub fn at(self, position: usize) -> Refused
+        ensures { result ≡ record { why = self; position = position } }
+    {
+        Refused {
+            why: self,
+            position: position,
+        }
+    }
 }
 
 // The number of a refusal in 01, The table of refusals.
-pub fn number_of(r: Refusal) -> u32
-    ensures { result ≡ number r }
-{
-    match r {
-        Refusal::FileLength => 1,
-        Refusal::BlockCheck => 2,
-        Refusal::BlockField => 3,
-        Refusal::HeaderField => 4,
-        Refusal::FunctionField => 5,
-        Refusal::NodeField => 6,
-        Refusal::PrefixForm => 7,
-        Refusal::WrongType => 8,
-        Refusal::NotBound => 9,
-        Refusal::TooManyWords => 10,
-        Refusal::OutOfOrder => 11,
-        Refusal::TooManyPending => 12,
-        Refusal::SpaceTooShort => 13,
-        Refusal::FuelUsedUp => 14,
-        Refusal::InputEnded => 15,
-        Refusal::NotATag => 16,
-        Refusal::OutputFull => 17,
-        Refusal::TooManyCalls => 18,
-        Refusal::CannotPerform => 19,
-        Refusal::TooDeep => 20,
-        Refusal::OutOfRange => 21,
+impl From<Refusal> for u32 {
+    ghost from_gives = { λ why n. n ≡ number why };
+
+    fn from(why: Refusal) -> u32 {
+        match why {
+            Refusal::FileLength => 1,
+            Refusal::BlockCheck => 2,
+            Refusal::BlockField => 3,
+            Refusal::HeaderField => 4,
+            Refusal::FunctionField => 5,
+            Refusal::NodeField => 6,
+            Refusal::PrefixForm => 7,
+            Refusal::WrongType => 8,
+            Refusal::NotBound => 9,
+            Refusal::TooManyWords => 10,
+            Refusal::OutOfOrder => 11,
+            Refusal::TooManyPending => 12,
+            Refusal::SpaceTooShort => 13,
+            Refusal::FuelUsedUp => 14,
+            Refusal::InputEnded => 15,
+            Refusal::NotATag => 16,
+            Refusal::OutputFull => 17,
+            Refusal::TooManyCalls => 18,
+            Refusal::CannotPerform => 19,
+            Refusal::TooDeep => 20,
+            Refusal::OutOfRange => 21,
+        }
     }
 }

@@ -1,14 +1,16 @@
 -- Bytes counted and written: a law for each way out of the functions.
-use Prim.Native.Nat.{ℕ, ◌+◌, ◌-◌, ◌≤◌, ◌<◌}
+use Prim.Native.Nat.{ℕ, ◌+◌, ◌≤◌, ◌<◌}
 use mathlib.Core.Bool.{Bool, true, false}
 use mathlib.Core.List.{List, [], ◌∷◌}
 use mathlib.Core.Logic.{◌≢◌}
 use mathlib.Core.Path.{◌≡◌, refl, sym, ap, ◌∙◌}
+use native.Mathlib.Decide.{dec_le}
 use native.Mathlib.Nat.{add-zero}
 use native.Mathlib.Omega.{arith}
 use borrow.Author.Tests.{lt-ltb, le-ltb}
 use lib.Dec.{ltb}
-use lib.ListN.{length}
+use lib.ListN.{length, set}
+use lib.Seq.{set_out}
 use Rattle.formats.specs.Numbers.{bytes_of}
 use Rattle.formats.specs.Tokens.{leaf, leaf_tag, node_tag, tokens}
 use Rattle.formats.specs.Inner.Trees.{leaf_bytes}
@@ -41,36 +43,35 @@ counted_none at = by (ltb at count_limit)
 
 pub ruleset counting = (count_few, count_many)
 
--- ---- `put_byte`
+-- ---- one byte
 
-pub byte_none : (l : List ℕ) (at x : ℕ) → length l ≤ at → l ≡ written l at (x ∷ [])
-byte_none l at x h = sym (written_short l at (x ∷ []) (omega arith))
-
-pub ruleset bytes = (written_one, byte_none)
+-- a byte is put where it is written: past the end nothing is
+put_written : (l : List ℕ) (at x : ℕ) → set l at x ≡ written l at (x ∷ [])
+put_written l at x =
+    elim (dec_le (length l) at) [
+      | yes past ↦ set_out l at x past ∙ sym (written_short l at (x ∷ []) (omega arith))
+      | no here ↦ written_one l at x (omega arith)
+    ]
 
 -- ---- `write_leaf`
 
 module _ (output : List ℕ) (at label : ℕ) where
-  pub leaf_fits : (tagged output' : List ℕ) → leaf_bytes ≤ length output → at ≤ length output - leaf_bytes → tagged ≡ written output at (leaf_tag ∷ [])
+  pub leaf_fits : (tagged output' : List ℕ) → at + leaf_bytes ≤ length output → tagged ≡ set output at leaf_tag
       → output' ≡ written tagged (at + 1) (bytes_of 4 label)
       → output' ≡ written output at (tokens (leaf label))
   unfolding tokens
-  leaf_fits tagged output' long low tag e =
+  leaf_fits tagged output' room tag e =
       let fits : at + length (leaf_tag ∷ bytes_of 4 label) ≤ length output = omega (arith, length_bytes_of 4 label) in
-      e ∙ ap (λ (l : List ℕ). written l (at + 1) (bytes_of 4 label)) tag ∙ written_append output at (leaf_tag ∷ []) (bytes_of 4 label) fits
+      e
+      ∙ ap (λ (l : List ℕ). written l (at + 1) (bytes_of 4 label)) (tag ∙ put_written output at leaf_tag)
+      ∙ written_append output at (leaf_tag ∷ []) (bytes_of 4 label) fits
 
   -- it does not fit
-  leaf_short : length output < at + leaf_bytes → output ≡ written output at (tokens (leaf label))
+  pub leaf_short : length output < at + leaf_bytes → output ≡ written output at (tokens (leaf label))
   unfolding tokens
   leaf_short h = sym (written_short output at (tokens (leaf label)) (omega (arith, length_bytes_of 4 label)))
 
-  pub leaf_too_long : length output < leaf_bytes → output ≡ written output at (tokens (leaf label))
-  leaf_too_long h = leaf_short (omega arith)
-
-  pub leaf_too_near : leaf_bytes ≤ length output → length output - leaf_bytes < at → output ≡ written output at (tokens (leaf label))
-  leaf_too_near long h = leaf_short (omega arith)
-
-pub ruleset leaves = (leaf_fits, leaf_too_long, leaf_too_near)
+pub ruleset leaves = (leaf_fits, leaf_short)
 
 -- ---- `emit_first`, `emit_last`
 
@@ -80,11 +81,11 @@ module _ (T output : List ℕ) (r at : ℕ) where
       let none : emitted_first T r ≡ [] = said_nothing T r (rw (← e) h) in
       record { wrote = rw none (sym (written_none output at)); count = rw none (sym (counted_none at)) }
 
-  pub first-node : (k n : ℕ) (output' : List ℕ) → k ≡ action_at T r → k ≡ tags_node → output' ≡ written output at (node_tag ∷ []) → n ≡ counted at 1
+  pub first-node : (k n : ℕ) (output' : List ℕ) → k ≡ action_at T r → k ≡ tags_node → output' ≡ set output at node_tag → n ≡ counted at 1
       → Says (emitted_first T r) output output' at n
   first-node k n output' e h w c =
       let one : emitted_first T r ≡ node_tag ∷ [] = said_node T r (sym e ∙ h) in
-      record { wrote = rw one w; count = rw one c }
+      record { wrote = rw one (w ∙ put_written output at node_tag); count = rw one c }
 
   pub last_nothing : (x k : ℕ) → k ≡ role_at T r → k ≢ labelled → Says (emitted_last T r x) output output at at
   last_nothing x k e h =

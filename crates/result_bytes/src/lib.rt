@@ -1,7 +1,7 @@
 // The bytes of a result. The source run writes them as its records begin and are finished.
 #![tactic(auto)]
 
-ghost use Rattle.std.specs.Prelude.{[], ◌∷◌, ◌≡◌};
+ghost use Rattle.std.specs.Prelude.{◌≡◌};
 ghost use Rattle.formats.specs.Tokens.{leaf, tokens};
 ghost use Rattle.formats.specs.Written.{written};
 ghost use Rattle.stepwise.specs.Inner.Steps.{emitted_first, emitted_last};
@@ -9,45 +9,30 @@ ghost use Rattle.result_bytes.specs.Inner.Bytes.{counted, Says};
 
 use frames::{ACTION, LABELLED, ROLE, TAGS_NODE};
 use stages::Stage;
-
-const LEAF_TAG: u8 = 1;
-
-const NODE_TAG: u8 = 2;
-
-const LEAF_BYTES: usize = 5;
+use tree::{LEAF_BYTES, LEAF_TAG, NODE_TAG};
 
 // 2^63: no buffer is so long, and from there on bytes are not counted.
 const COUNT_LIMIT: usize = 9223372036854775808;
 
 // The count after n bytes more.
+#[tactic(auto, using(crate::proofs::Bytes::counting))]
 fn count(at: usize, n: u8) -> usize
     ensures { result ≡ counted at n }
 {
     if at < COUNT_LIMIT {
-        return at + (n as usize);
-    }
-    at
-}
-
-// Writes a byte at an offset, if the output reaches so far.
-fn put_byte(output: &mut [u8], at: usize, x: u8)
-    ensures { output.new ≡ written output.old at (x ∷ []) }
-{
-    if at < output.len() {
-        output[at] = x;
+        at + usize::from(n)
+    } else {
+        at
     }
 }
 
 // Writes a leaf at an offset, or nothing where it does not fit.
+#[tactic(auto, using(crate::proofs::Bytes::leaves))]
 fn write_leaf(output: &mut [u8], at: usize, label: u32)
     ensures { output.new ≡ written output.old at (tokens (leaf label)) }
 {
-    let len = output.len();
-    if len < LEAF_BYTES {
-        return;
-    }
-    if at <= len - LEAF_BYTES {
-        put_byte(output, at, LEAF_TAG);
+    if at.saturating_add(LEAF_BYTES) <= output.len() {
+        frames::put(output, at, LEAF_TAG);
         words32::write32(output, at + 1, label);
     }
 }
@@ -60,7 +45,7 @@ pub fn emit_first(table: &[u16], output: &mut [u8], s: Stage) -> usize
     if frames::field(table, s.node, ACTION) != TAGS_NODE {
         return s.written;
     }
-    put_byte(output, s.written, NODE_TAG);
+    frames::put(output, s.written, NODE_TAG);
     count(s.written, 1)
 }
 

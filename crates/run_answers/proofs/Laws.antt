@@ -1,39 +1,24 @@
--- The answer of a stream run: a law for each way out of the functions that report it.
+-- The answer of a stream run: the law of the function that reports it.
 use Prim.Native.Nat.{ℕ}
 use mathlib.Core.List.{List, [], ◌∷◌}
 use mathlib.Core.Path.{◌≡◌, refl}
-use Rattle.refusal.specs.declared.Refusal.{Refusal}
-use Rattle.refusal.specs.Inner.Numbers.{number}
-use Rattle.refusal.specs.declared.Verdict.TheVariants.{Passed, Refused}
+use Rattle.refusal.specs.Inner.Answered.{answered}
+use Rattle.refusal.specs.Inner.Verdicts.{verdict_result}
+use Rattle.answers.specs.Slots.{refusal_of, position_of}
 use Rattle.answers.specs.Inner.Stores.{Stored}
-use Rattle.answers.proofs.Slots.{reported_ended, reported_refused}
+use Rattle.answers.proofs.Slots.{stored_reported}
 use Rattle.machine_state.specs.Inner.Answers.{run_answer}
 use Rattle.machine_state.specs.declared.Answer.{Answer}
 use Rattle.run_answers.specs.RunSlots.{run_slots, sign_extended, run_slots_of}
-use Rattle.run_answers.specs.Inner.Stores.{StoresRun, AnswersRun}
-
--- ---- `store`
+use Rattle.run_answers.specs.Inner.Stores.{AnswersRun}
 
 -- the row, with its last number sign-extended
-pub store_row :
+pub run_reported :
     (ran : Answer) (n position word : ℕ) (before after : List ℕ) (r : ℕ)
+    → n ≡ refusal_of (answered (λ x. tt) ran.verdict)
+    → position ≡ position_of (answered (λ x. tt) ran.verdict)
     → word ≡ sign_extended ran.number
     → Stored (position ∷ ran.units ∷ ran.read ∷ ran.written ∷ word ∷ []) n before after r
-    → StoresRun (run_answer ran) n position before after r
-store_row ran n position word before after r e s = rw (← e) s
-
--- ---- `report_run`
-
-module _ (ran : Answer) (before after : List ℕ) (r : ℕ) where
-  pub run_ended : ran.verdict ≡ Passed → StoresRun (run_answer ran) 0 0 before after r → AnswersRun (run_answer ran) before after r
-  run_ended = reported_ended run_slots (λ position. run_slots_of position (run_answer ran)) (λ position. refl) before after r ran.verdict
-
-  pub run_refused :
-      (why : Refusal) (position n : ℕ)
-      → ran.verdict ≡ Refused why position
-      → n ≡ number why
-      → StoresRun (run_answer ran) n position before after r
-      → AnswersRun (run_answer ran) before after r
-  run_refused = reported_refused run_slots (λ position. run_slots_of position (run_answer ran)) (λ position. refl) before after r ran.verdict
-
-pub ruleset run_ways = (run_ended, run_refused)
+    → AnswersRun (run_answer ran) before after r
+run_reported ran n position word before after r is there extended s =
+    stored_reported run_slots (λ p. run_slots_of p (run_answer ran)) (λ p. refl) before after r (verdict_result ran.verdict) n position is there (rw extended at s)

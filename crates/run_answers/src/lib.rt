@@ -5,22 +5,18 @@
 ghost use Rattle.std.specs.Prelude.{◌≡◌, leb, length};
 ghost use Rattle.machine_state.specs.Inner.Answers.{run_answer};
 ghost use Rattle.run_answers.specs.RunSlots.{run_slots, sign_extended};
-ghost use Rattle.run_answers.specs.Inner.Stores.{StoresRun, AnswersRun};
+ghost use Rattle.run_answers.specs.Inner.Stores.{AnswersRun};
 
 use machine_state::Answer;
-use refusal::Verdict;
 
 // How many slots an answer takes.
 const RUN_SLOTS: usize = 5;
-
-// 2^64 - 2^32: the upper 32 bits of a 64-bit word.
-const UPPER_BITS: u64 = 18446744069414584320;
 
 // Whether the answer array has all slots.
 pub fn has_room(answer: &[u64]) -> bool
     ensures { result ≡ leb run_slots (length answer.now) }
 {
-    RUN_SLOTS <= answer.len()
+    answers::has_slots::<RUN_SLOTS>(answer)
 }
 
 // The number that a 32-bit word stands for in two's complement, as a 64-bit word: sign-extended.
@@ -28,19 +24,15 @@ pub fn has_room(answer: &[u64]) -> bool
 pub fn sign_extended(word: u32) -> u64
     ensures { result ≡ sign_extended word }
 {
-    if word < 2147483648 {
-        word as u64
-    } else {
-        word as u64 + UPPER_BITS
-    }
+    i64::from(word.cast_signed()).cast_unsigned()
 }
 
-// Stores the position of a refusal, units, bytes read, bytes written and the number, sign-extended
-// to 64 bits, and gives `number`.
-fn store(ran: Answer, number: u32, position: usize, answer: &mut [u64]) -> u32
-    ensures { StoresRun (run_answer ran) number position answer.old
-        answer.new result }
+// Stores the answer of a stream run: the position of a refusal, units, bytes read, bytes written
+// and the number, sign-extended to 64 bits. Gives 0 or the number of the refusal.
+pub fn report_run(ran: Answer, answer: &mut [u64]) -> u32
+    ensures { AnswersRun (run_answer ran) answer.old answer.new result }
 {
+    let (number, position) = answers::number_and_position(ran.verdict);
     let row = [
         position as u64,
         ran.units,
@@ -49,15 +41,4 @@ fn store(ran: Answer, number: u32, position: usize, answer: &mut [u64]) -> u32
         sign_extended(ran.number),
     ];
     answers::store_row(answer, &row, number)
-}
-
-// Stores the answer of a stream run, and gives 0 or the number of the refusal.
-pub fn report_run(ran: Answer, answer: &mut [u64]) -> u32
-    ensures { AnswersRun (run_answer ran) answer.old answer.new result }
-{
-    let verdict = ran.verdict;
-    match verdict {
-        Verdict::Passed => store(ran, 0, 0, answer),
-        Verdict::Refused(why, position) => store(ran, refusal::number_of(why), position, answer),
-    }
 }

@@ -28,7 +28,7 @@ pub fn run(
         answer.new fuel result }
 {
     if !run_answers::has_room(answer) {
-        return refusal::number_of(Refusal::SpaceTooShort);
+        return u32::from(Refusal::SpaceTooShort);
     }
     let ran = runner::run(file, input, fuel, output, code, values, returns);
     run_answers::report_run(ran, answer)

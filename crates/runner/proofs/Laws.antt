@@ -4,7 +4,7 @@ use Prim.Native.Nat.{ℕ, ◌+◌, ◌≤◌}
 use mathlib.Core.List.{List}
 use mathlib.Core.Path.{◌≡◌, refl, sym, ap, ap₂, ◌∙◌}
 use native.Mathlib.Omega.{arith}
-use lib.ListN.{length, take}
+use lib.ListN.{length, take, replicate, length-replicate}
 use Rattle.formats.specs.Numbers.{Bytes}
 use Rattle.formats.specs.Results.{done, refusal}
 use Rattle.formats.specs.Blocks.{buffer_after}
@@ -12,23 +12,22 @@ use Rattle.formats.proofs.Results.{value_inv, value_refused}
 use Rattle.formats.proofs.Written.{front_written, wrote}
 use Rattle.refusal.specs.Inner.Numbers.{number}
 use Rattle.refusal.specs.Inner.FilledBuffer.{FilledBuffer, filled_result as filled_with}
-use Rattle.refusal.specs.declared.Refusal.{Refusal}
-use Rattle.refusal.specs.declared.Filled.{Filled}
-use Rattle.refusal.specs.declared.Filled.TheVariants.{Written, Refused}
+use Rattle.std.specs.Prelude.{Result as Filled, Ok, Err}
+use Rattle.refusal.specs.declared.Refused.{Refused}
 use Rattle.meaning.specs.Running.{value_words, return_words, of_code, stream_run}
 use Rattle.meaning.specs.WorkWords.{WorkWords, before_stream}
 use Rattle.meaning.proofs.WorkWords.{untouched}
-use Rattle.machine_state.specs.Inner.Answers.{run_answer, Performed}
+use Rattle.machine_state.specs.Inner.Answers.{run_answer, nothing_done, Performed}
 use Rattle.machine_state.specs.declared.Answer.{Answer}
 use Rattle.translation.specs.TranslateAndRun.{FileRan, prepared, refused_before, run_file}
 use Rattle.translation.proofs.Calls.{prepared_inv, called_refused, called_runs, program_run}
 use Rattle.translation.proofs.PreparedCode.{own_program, never_cannot}
-use Rattle.operations.specs.Inner.Checked.{Safe}
+use Rattle.operations.specs.Inner.Checked.{Safe, NeverCannot}
 use Rattle.runner.specs.Inner.RunnerCall.{RunnerCall}
 
 -- ---- what was prepared
 
-module _ (file code : List ℕ) (values returns : ℕ) (emitted : Filled) (code' : List ℕ) (put : FilledBuffer (prepared (length code) values returns file) code code' emitted) where
+module _ (file code : List ℕ) (values returns : ℕ) (emitted : Filled ℕ Refused) (code' : List ℕ) (put : FilledBuffer (prepared (length code) values returns file) code code' emitted) where
   -- the code stands at the start of the buffer
   pub record Emitted (bytes : ℕ) : Type 0 where
     pub own : List ℕ
@@ -37,7 +36,7 @@ module _ (file code : List ℕ) (values returns : ℕ) (emitted : Filled) (code'
     pub buffer : code' ≡ buffer_after code (done own)
     pub inside : bytes ≤ length code'
 
-  pub emitted_there : (bytes : ℕ) → emitted ≡ Written bytes → Emitted bytes
+  pub emitted_there : (bytes : ℕ) → emitted ≡ Ok bytes → Emitted bytes
   unfolding buffer_after
   emitted_there bytes is =
       let v = value_inv length (prepared (length code) values returns file) bytes (sym put.answer ∙ ap filled_with is) in
@@ -54,14 +53,14 @@ module _ (file code : List ℕ) (values returns : ℕ) (emitted : Filled) (code'
         inside = omega (arith, ap length there, (wrote code 0 v.value).same_length);
       }
 
-  pub run_inside : (bytes : ℕ) → emitted ≡ Written bytes → bytes ≤ length code'
+  pub run_inside : (bytes : ℕ) → emitted ≡ Ok bytes → bytes ≤ length code'
   run_inside bytes is = (emitted_there bytes is).inside
 
   -- and the words are lent
-  pub values_lent : (bytes : ℕ) → emitted ≡ Written bytes → value_words ≤ values
+  pub values_lent : (bytes : ℕ) → emitted ≡ Ok bytes → value_words ≤ values
   values_lent bytes is = let l = emitted_there bytes is in (own_program file code values returns l.own l.is).ready.words_lent
 
-  pub returns_lent : (bytes : ℕ) → emitted ≡ Written bytes → return_words ≤ returns
+  pub returns_lent : (bytes : ℕ) → emitted ≡ Ok bytes → return_words ≤ returns
   returns_lent bytes is = let l = emitted_there bytes is in (own_program file code values returns l.own l.is).ready.returns_lent
 
   -- what the definition gives, where it is refused ..
@@ -69,14 +68,14 @@ module _ (file code : List ℕ) (values returns : ℕ) (emitted : Filled) (code'
     pub gives : run_file file input output code fuel values returns ≡ record { answer = refused_before n position; output = output; code = code }
     pub still : code' ≡ code
 
-  pub not_run : (input output : List ℕ) (fuel : ℕ) (why : Refusal) (position : ℕ) → emitted ≡ Refused why position → NotRun input output fuel (number why) position
+  pub not_run : (input output : List ℕ) (fuel : ℕ) (r : Refused) → emitted ≡ Err r → NotRun input output fuel (number r.why) r.position
   unfolding buffer_after
-  not_run input output fuel why position is =
-      let stop : prepared (length code) values returns file ≡ refusal (number why) position = value_refused length _ (number why) position (sym put.answer ∙ ap filled_with is) in
-      record { gives = called_refused file input output code fuel values returns (number why) position stop; still = put.buffer ∙ ap (buffer_after code) stop }
+  not_run input output fuel r is =
+      let stop : prepared (length code) values returns file ≡ refusal (number r.why) r.position = value_refused length _ (number r.why) r.position (sym put.answer ∙ ap filled_with is) in
+      record { gives = called_refused file input output code fuel values returns (number r.why) r.position stop; still = put.buffer ∙ ap (buffer_after code) stop }
 
   -- .. and where it is run
-  pub is_run : (input output : List ℕ) (fuel bytes : ℕ) → emitted ≡ Written bytes
+  pub is_run : (input output : List ℕ) (fuel bytes : ℕ) → emitted ≡ Ok bytes
       → run_file file input output code fuel values returns
       ≡ record {
         answer = (stream_run (take bytes code') input output fuel values returns).answer;
@@ -113,23 +112,30 @@ module _ (file input output code values returns : List ℕ) (fuel : ℕ) (file_b
         program_run = program_run file code (length values) (length returns) file_bytes input output fuel (run_answer r) output' input_bytes answer' out';
       }
 
-  module _ (emitted : Filled) (code' : List ℕ) (put : FilledBuffer (prepared (length code) (length values) (length returns) file) code code' emitted) where
-    pub run_refused : (r : Answer) (why : Refusal) (position : ℕ) → emitted ≡ Refused why position → run_answer r ≡ refused_before (number why) position
+  module _ (emitted : Filled ℕ Refused) (code' : List ℕ) (put : FilledBuffer (prepared (length code) (length values) (length returns) file) code code' emitted) where
+    pub run_refused : (r : Answer) (why : Refused) → emitted ≡ Err why → run_answer r ≡ nothing_done why
         → RunnerCall file input output output code code' values values returns returns fuel r
-    run_refused r why position is answer =
-        let n = not_run file code (length values) (length returns) emitted code' put input output fuel why position is in
+    run_refused r why is answer =
+        let n = not_run file code (length values) (length returns) emitted code' put input output fuel why is in
         runs_as output code' values returns r _ n.gives answer refl n.still (untouched before_stream _ values returns)
 
-    -- the code is a checked program's own, so its run is never refused with 19
-    pub run_safe : (bytes : ℕ) → emitted ≡ Written bytes → Safe (of_code (take bytes code') input (length output))
+    -- the code is a checked program's own, so it is never refused with 19
+    pub run_safe : (bytes : ℕ) → emitted ≡ Ok bytes → NeverCannot (take bytes code')
     run_safe bytes is =
         let l = emitted_there file code (length values) (length returns) emitted code' put bytes is in
+        let own : prepared (length code) (length values) (length returns) file ≡ done (take bytes code') = l.is ∙ ap done (sym l.there) in
         record {
-          safe = λ past t led.
-              never_cannot file code (length values) (length returns) file_bytes (take bytes code') (l.is ∙ ap done (sym l.there)) input output input_bytes past t led;
+          safe = λ other space other_bytes.
+              let zeros : List ℕ = replicate space 0 in
+              let long : length zeros ≡ space = length-replicate space 0 in
+              let safe : Safe (of_code (take bytes code') other (length zeros)) = record {
+                safe = λ past t led.
+                    never_cannot file code (length values) (length returns) file_bytes (take bytes code') own other zeros other_bytes past t led;
+              } in
+              rw long at safe;
         }
 
-    pub run_made : (r : Answer) (bytes : ℕ) (output' values' returns' : List ℕ) → emitted ≡ Written bytes
+    pub run_made : (r : Answer) (bytes : ℕ) (output' values' returns' : List ℕ) → emitted ≡ Ok bytes
         → Performed (stream_run (take bytes code') input output fuel (length values) (length returns)) output' values values' returns returns' r
         → RunnerCall file input output output' code code' values values' returns returns' fuel r
     run_made r bytes output' values' returns' is p =

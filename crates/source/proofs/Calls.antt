@@ -2,7 +2,7 @@
 use Prim.Native.Nat.{ℕ, zero, suc, ◌+◌, ◌*◌, ◌≤◌, ◌<◌}
 use mathlib.Core.Bool.{true, false, false≢true}
 use mathlib.Core.List.{List}
-use mathlib.Core.Logic.{◌⊎◌, inl, inr}
+use mathlib.Core.Logic.{◌⊎◌}
 use mathlib.Core.Path.{◌≡◌, refl, sym, ap, ◌∙◌}
 use native.Mathlib.Omega.{arith}
 use borrow.Author.Tests.{le-leb}
@@ -28,16 +28,11 @@ use Rattle.walks.proofs.Walks.{program_held}
 use Rattle.refusal.specs.Inner.Numbers.{number as number_of}
 use Rattle.refusal.specs.Inner.FilledBuffer.{FilledBuffer}
 use Rattle.refusal.specs.Inner.Verdicts.{verdict_result}
-use Rattle.refusal.specs.declared.Refusal.{Refusal}
 use Rattle.refusal.specs.declared.Refusal.TheVariants.{SpaceTooShort}
-use Rattle.refusal.specs.declared.Verdict.{Verdict}
-use Rattle.refusal.specs.declared.Verdict.TheVariants as verdict_is
-use Rattle.refusal.specs.declared.Filled.{Filled}
-use Rattle.refusal.specs.declared.Filled.TheVariants.{Written, Refused}
+use Rattle.refusal.specs.declared.Refused.{Refused}
+use Rattle.std.specs.Prelude.{Result as Answer, Ok, Err}
 use Rattle.block_reader.proofs.Taken.{not_taken, taken_out, taken_inside}
 use Rattle.tree.specs.declared.Measures.{Measures}
-use Rattle.tree.specs.declared.TreeAnswer.{TreeAnswer}
-use Rattle.tree.specs.declared.TreeAnswer.TheVariants as tree_is
 use Rattle.tree.specs.Inner.TreeResults.{measured, tree_result as tree_answered}
 use Rattle.decode.specs.Inner.Decoding.{table_words, decoded, or_else, Decodes}
 use Rattle.meaning.specs.Running.{value_words, return_words, most_calls}
@@ -117,7 +112,7 @@ pub record Ready (s after input values returns : List ℕ) (first : ℕ) : Type 
   pub return-words : return_words ≤ length returns
   pub always : (t : Tree) → first_tree input ≡ done t → Always after input first (followed_by (evaluation program most_calls t) reported_of)
 
-module _ (s table after input output values returns : List ℕ) (fuel : ℕ) (size : length table ≡ table_words) (v : Verdict) (d : Decodes s table after v) where
+module _ (s table after input output values returns : List ℕ) (fuel : ℕ) (size : length table ≡ table_words) (v : Answer (Unit {0}) Refused) (d : Decodes s table after v) where
   -- the program of a file with these flat records
   in_file : (file : List ℕ) → flat_in file ≡ done s → program_in file ≡ read_program s
   unfolding program_in
@@ -149,23 +144,23 @@ module _ (s table after input output values returns : List ℕ) (fuel : ℕ) (si
       of_rows (refusal n q) is e = by_rows (is ∙ cc)
       of_rows (done program) is e = of_pass program is (pass_one program) refl e
 
-  pub records_refused : (why : Refusal) (position : ℕ) (r : SourceAnswer) → v ≡ verdict_is.Refused why position
-      → RefusedAs (number_of why) position 0 r
+  pub records_refused : (why : Refused) (r : SourceAnswer) → v ≡ Err why
+      → RefusedAs (number_of why.why) why.position 0 r
       → OfFile s input output output values values returns returns fuel r
-  records_refused why position r is reported =
+  records_refused why r is reported =
       record {
         is = λ file e.
-            refused-before file input output values returns fuel (number_of why) position r
-            (by file e (refuses (number_of why) position (refused_is (decoded s table) (number_of why) position (sym d.said_so ∙ ap verdict_result is))))
+            refused-before file input output values returns fuel (number_of why.why) why.position r
+            (by file e (refuses (number_of why.why) why.position (refused_is (decoded s table) (number_of why.why) why.position (sym d.said_so ∙ ap verdict_result is))))
             reported;
       }
     where
-      by : (file : List ℕ) → flat_in file ≡ done s → Refuses (number_of why) position → check_source file input (length values) (length returns) ≡ refusal (number_of why) position
-      by file e (by_rows h) = file_stops file input (length values) (length returns) (number_of why) position (in_file file e ∙ h)
+      by : (file : List ℕ) → flat_in file ≡ done s → Refuses (number_of why.why) why.position → check_source file input (length values) (length returns) ≡ refusal (number_of why.why) why.position
+      by file e (by_rows h) = file_stops file input (length values) (length returns) (number_of why.why) why.position (in_file file e ∙ h)
       by file e (by_pass program reads h) =
-          pass_one_stops file input (length values) (length returns) program (in_file file e ∙ reads) (number_of why) position h
+          pass_one_stops file input (length values) (length returns) program (in_file file e ∙ reads) (number_of why.why) why.position h
 
-  module _ (passed : v ≡ verdict_is.Passed) where
+  module _ (u : Unit {0}) (passed : v ≡ Ok u) where
     -- the program, whose rows the table has
     record Prepared : Type 0 where
       program : Program
@@ -188,10 +183,12 @@ module _ (s table after input output values returns : List ℕ) (fuel : ℕ) (si
         }
 
     -- too few work words
-    few_words : (r : SourceAnswer) → (length values < value_words) ⊎ (length returns < return_words)
-        → RefusedAs (number_of SpaceTooShort) 0 0 r
+    pub records_few : (why : Refused) (r : SourceAnswer) → (length values < value_words) ⊎ (length returns < return_words)
+        → why ≡ record { why = SpaceTooShort; position = 0 }
+        → RefusedAs (number_of why.why) why.position 0 r
         → OfFile s input output output values values returns returns fuel r
-    few_words r few reported =
+    records_few why r few is refuses =
+        let reported : RefusedAs space_too_short 0 0 r = rw is at refuses in
         record {
           is = λ file e.
               refused-before file input output values returns fuel space_too_short 0 r
@@ -199,29 +196,19 @@ module _ (s table after input output values returns : List ℕ) (fuel : ℕ) (si
               reported;
         }
 
-    pub records_few_values : (r : SourceAnswer) → length values < value_words
-        → RefusedAs (number_of SpaceTooShort) 0 0 r
-        → OfFile s input output output values values returns returns fuel r
-    records_few_values r few reported = few_words r (inl few) reported
-
-    pub records_few_returns : (r : SourceAnswer) → length returns < return_words
-        → RefusedAs (number_of SpaceTooShort) 0 0 r
-        → OfFile s input output output values values returns returns fuel r
-    records_few_returns r few reported = few_words r (inr few) reported
-
-    module _ (vs : value_words ≤ length values) (ps : return_words ≤ length returns) (t : TreeAnswer) (read : tree_answered t ≡ first_measures input) where
+    module _ (vs : value_words ≤ length values) (ps : return_words ≤ length returns) (t : Answer Measures Refused) (read : tree_answered t ≡ first_measures input) where
       only_tree : (file : List ℕ) → flat_in file ≡ done s
           → check_source file input (length values) (length returns) ≡ and_then (first_tree input) (λ t. done (record { program = prepared.program; tree = t }))
       only_tree file e = tree_left file input (length values) (length returns) prepared.program (in_file file e ∙ prepared.reads) prepared.passes vs ps
 
-      pub records_no_tree : (why : Refusal) (position : ℕ) (r : SourceAnswer) → t ≡ tree_is.Refused why position
-          → RefusedAs (number_of why) position 0 r
+      pub records_no_tree : (why : Refused) (r : SourceAnswer) → t ≡ Err why
+          → RefusedAs (number_of why.why) why.position 0 r
           → OfFile s input output output values values returns returns fuel r
-      records_no_tree why position r is reported =
+      records_no_tree why r is reported =
           record {
             is = λ file e.
-                refused-before file input output values returns fuel (number_of why) position r
-                (only_tree file e ∙ then_refused _ (stopped-by input (number_of why) position (sym read ∙ ap tree_answered is)))
+                refused-before file input output values returns fuel (number_of why.why) why.position r
+                (only_tree file e ∙ then_refused _ (stopped-by input (number_of why.why) why.position (sym read ∙ ap tree_answered is)))
                 reported;
           }
 
@@ -247,10 +234,10 @@ module _ (s table after input output values returns : List ℕ) (fuel : ℕ) (si
         }
 
 pub records_run :
-    (s after input output values returns : List ℕ) (first fuel : ℕ) (m : Measures) (t : TreeAnswer) (output' values' returns' : List ℕ) (r : SourceAnswer)
+    (s after input output values returns : List ℕ) (first fuel : ℕ) (m : Measures) (t : Answer Measures Refused) (output' values' returns' : List ℕ) (r : SourceAnswer)
     → Ready s after input values returns first
     → tree_answered t ≡ first_measures input
-    → t ≡ tree_is.Tree m
+    → t ≡ Ok m
     → Evaluates after input (measured m) first fuel output output' values values' returns returns' r
     → OfFile s input output output' values values' returns returns' fuel r
 unfolding program_in measures_or0
@@ -273,24 +260,24 @@ records_run s after input output values returns first fuel m t output' values' r
           });
     }
 
-pub ruleset records_ways = (records_refused, records_few_values, records_few_returns, records_no_tree, records_run)
+pub ruleset records_ways = (records_refused, records_no_tree)
 
 -- ---- `run`
 
-module _ (file space : List ℕ) (size : length space ≡ most_bytes) (after : List ℕ) (taken : Filled) (put : FilledBuffer (flat_in file) space after taken)
+module _ (file space : List ℕ) (size : length space ≡ most_bytes) (after : List ℕ) (taken : Answer ℕ Refused) (put : FilledBuffer (flat_in file) space after taken)
     (input output values returns : List ℕ) (fuel : ℕ)
   where
-    pub file_refused : (why : Refusal) (position : ℕ) (r : SourceAnswer) → taken ≡ Refused why position
-        → RefusedAs (number_of why) position 0 r
+    pub file_refused : (why : Refused) (r : SourceAnswer) → taken ≡ Err why
+        → RefusedAs (number_of why.why) why.position 0 r
         → Sourced (due file input output values returns fuel) input output values values returns returns r
     unfolding program_in
-    file_refused why position r is reported =
-        refused-before file input output values returns fuel (number_of why) position r
-        (file_stops file input (length values) (length returns) (number_of why) position
-        (then_refused read_program (not_taken file space size after taken put why position is)))
+    file_refused why r is reported =
+        refused-before file input output values returns fuel (number_of why.why) why.position r
+        (file_stops file input (length values) (length returns) (number_of why.why) why.position
+        (then_refused read_program (not_taken file space size after taken put why is)))
         reported
 
-    pub file_run : (bytes : ℕ) (output' values' returns' : List ℕ) (r : SourceAnswer) → taken ≡ Written bytes
+    pub file_run : (bytes : ℕ) (output' values' returns' : List ℕ) (r : SourceAnswer) → taken ≡ Ok bytes
         → OfFile (take bytes after) input output output' values values' returns returns' fuel r
         → Sourced (due file input output values returns fuel) input output' values values' returns returns' r
     file_run bytes output' values' returns' r is o =

@@ -2,22 +2,22 @@
 use Prim.Native.Nat.{ℕ, zero, suc, ◌+◌, ◌≤◌, ◌<◌}
 use mathlib.Core.List.{List, [], ◌∷◌}
 use mathlib.Core.Bool.{false}
-use mathlib.Core.Logic.{◌≢◌}
-use mathlib.Core.Path.{◌≡◌, refl, sym, ap, ap₂, ◌∙◌}
+use mathlib.Core.Path.{◌≡◌, refl, sym, ap, ◌∙◌}
 use native.Mathlib.Decide.{dec_le}
 use native.Mathlib.Nat.{zero-add}
 use native.Mathlib.Omega.{arith}
 use borrow.Author.Tests.{le-leb, lt-leb}
 use lib.ListN.{length}
-use Rattle.formats.specs.Refusals.{fuel_used_up, output_full, too_many_calls, out_of_range}
+use Rattle.formats.specs.Refusals.{output_full}
 use Rattle.formats.specs.Results.{Result as Reading, done, refusal}
 use Rattle.formats.specs.Written.{written}
 use Rattle.formats.proofs.Results.{done_not, refusal_injective}
 use Rattle.formats.proofs.Written.{written_none}
 use Rattle.refusal.specs.Inner.Numbers.{number as number_of}
-use Rattle.refusal.specs.declared.Refusal.{Refusal}
-use Rattle.refusal.specs.declared.Refusal.TheVariants.{FuelUsedUp, TooManyCalls, OutputFull, OutOfRange}
-use Rattle.refusal.specs.declared.Verdict.TheVariants.{Passed}
+use Rattle.std.specs.Prelude.{Ok, Err}
+use Rattle.refusal.specs.Inner.Verdicts.{verdict_result}
+use Rattle.refusal.specs.declared.Refusal.TheVariants.{OutputFull}
+use Rattle.refusal.specs.declared.Refused.{Refused}
 use Rattle.meaning.specs.Running.{value_words, return_words}
 use Rattle.meaning.specs.OpenCalls.{Reason, no_fuel, no_call, no_result, refusal_of, Outcome, gives, stops, after_begun, with_fuel}
 use Rattle.meaning.specs.SourceRun.{refused_after, position_of, unless_refused}
@@ -32,26 +32,7 @@ use Rattle.source_walk.specs.Inner.Loop.{Walks}
 use Rattle.result_bytes.specs.Inner.Bytes.{count_limit}
 use Rattle.walk_outcome.specs.Inner.Outcomes.{Counts, Reports, reports_value, reports_stop}
 use Rattle.walk_outcome.proofs.Walks.{walk_reports}
-use Rattle.source.specs.Inner.SourceAnswers.{RefusedAs, Gave, Named, reported_result, report_steps, Room, Always, Evaluates}
-
--- ---- `why_stopped`
-
-pub stop_fuel : (stop : ℕ) → stop ≡ fuel_used_up → Named stop FuelUsedUp
-stop_fuel stop e = record { is = λ reason h. sym e }
-
-pub stop_calls : (stop : ℕ) → stop ≡ too_many_calls → Named stop TooManyCalls
-stop_calls stop e = record { is = λ reason h. sym e }
-
-pub stop_range : (stop : ℕ) → stop ≢ fuel_used_up → stop ≢ too_many_calls → Named stop OutOfRange
-unfolding refusal_of
-stop_range stop f c = record { is = by }
-  where
-    by : (reason : Reason) → stop ≡ refusal_of reason → out_of_range ≡ stop
-    by no_fuel e = absurd (f e)
-    by no_call e = absurd (c e)
-    by (no_result op i j) e = sym e
-
-pub ruleset stopping = (stop_fuel, stop_calls, stop_range)
+use Rattle.source.specs.Inner.SourceAnswers.{RefusedAs, Gave, reported_result, report_steps, Room, Always, Evaluates}
 
 -- ---- the refusals of an evaluation
 
@@ -68,13 +49,6 @@ unfolding before_source refusal_of
 stop_late no_fuel = refl
 stop_late no_call = refl
 stop_late (no_result op i j) = refl
-
--- none is 0, the number of a walk that ended
-stop_some : (why : Reason) → refusal_of why ≡ 0 → ⊥
-unfolding refusal_of
-stop_some no_fuel e = absurd (omega arith)
-stop_some no_call e = absurd (omega arith)
-stop_some (no_result op i j) e = absurd (omega arith)
 
 -- ---- how an outcome is reported
 
@@ -125,11 +99,11 @@ module _ (T input : List ℕ) (found : Found) (first fuel : ℕ) (output values 
     the_first o always v p =
         walk_reports T input first fuel nothing nothing' values values₁ returns returns₁ c counted o (always.comes values returns v p)
 
-    pub evaluate_stops : (why : Refusal) (r : SourceAnswer) → c.stop ≢ 0 → Named c.stop why
-        → RefusedAs (number_of why) c.position c.begun r
+    pub evaluate_stops : (why : Refused) (r : SourceAnswer) → c.verdict ≡ Err why
+        → RefusedAs (number_of why.why) why.position c.begun r
         → Evaluates T input (measured found) first fuel output output values values₁ returns returns₁ r
     unfolding unless_refused
-    evaluate_stops why r some named e =
+    evaluate_stops why r refuses e =
         record {
           gave = λ o always v p. by o (the_first o always v p);
           long_values = counted.long_values;
@@ -137,17 +111,17 @@ module _ (T input : List ℕ) (found : Found) (first fuel : ℕ) (output values 
         }
       where
         by : (o : Outcome Reported) → Reports (with_fuel fuel o) nothing nothing' c → Gave (report_steps 0 (with_fuel fuel o) output) (measured found) output r
-        by o (reports_value out is stop counts wrote) = absurd (some stop)
-        by o (reports_stop reason at is stop position) =
+        by o (reports_value out is passes counts wrote) = cc
+        by o (reports_stop reason at is stop) =
             rw (reported_stop output c.begun reason at (with_fuel fuel o) is)
             (record {
-              answer = e.answer ∙ ap₂ (λ n p. (refused_after c.begun n p output).answer) (named.is reason stop ∙ stop) position;
+              answer = e.answer ∙ ap (λ x. record { outcome = x; begun = c.begun; bytes_written = 0; number = 0 }) (sym (ap verdict_result refuses) ∙ stop);
               output = refl;
               measures = e.measures;
               late = λ number place. late_stop (refusal_of reason) (position_of reason at) number place (stop_late reason);
             })
 
-    module _ (ended : c.stop ≡ 0) where
+    module _ (u : Unit {0}) (ended : c.verdict ≡ Ok u) where
       -- The result: its bytes, as many as were counted.
       record Result (o : Outcome Reported) : Type 0 where
         bytes : List ℕ
@@ -155,14 +129,15 @@ module _ (T input : List ℕ) (found : Found) (first fuel : ℕ) (output values 
         counts : Counts c.written bytes
 
       result : (o : Outcome Reported) → Reports (with_fuel fuel o) nothing nothing' c → Result o
-      result o (reports_value out is stop counts wrote) = record { bytes = out; is = is; counts = counts }
-      result o (reports_stop reason at is stop position) = absurd (stop_some reason (sym stop ∙ ended))
+      result o (reports_value out is passes counts wrote) = record { bytes = out; is = is; counts = counts }
+      result o (reports_stop reason at is stop) = done_not refl (sym (ap verdict_result ended) ∙ stop)
 
-      pub evaluate_full : (n : ℕ) (r : SourceAnswer) → Room output n → n < c.written
-          → RefusedAs (number_of OutputFull) 0 c.begun r
+      pub evaluate_full : (n : ℕ) (why : Refused) (r : SourceAnswer) → Room output n → n < c.written → why ≡ record { why = OutputFull; position = 0 }
+          → RefusedAs (number_of why.why) why.position c.begun r
           → Evaluates T input (measured found) first fuel output output values values₁ returns returns₁ r
       unfolding unless_refused
-      evaluate_full n r room full e =
+      evaluate_full n why r room full is refuses =
+          let e : RefusedAs output_full 0 c.begun r = rw is at refuses in
           record {
             gave = λ o always v p.
                 let size = room.is in
@@ -186,7 +161,7 @@ module _ (T input : List ℕ) (found : Found) (first fuel : ℕ) (output values 
 
         -- The answer of a run that ended.
         abbrev ends : SourceAnswer
-        ends = record { verdict = Passed; begun = c.begun; written = c.written; number = c.number; measures = found }
+        ends = record { verdict = Ok tt; begun = c.begun; written = c.written; number = c.number; measures = found }
 
         gives_it : (o : Outcome Reported) (t : Result o) (output' : List ℕ) → output' ≡ written output 0 t.bytes → Gave (report_steps 0 (with_fuel fuel o) output) (measured found) output' ends
         unfolding unless_refused
@@ -227,10 +202,10 @@ module _ (T input : List ℕ) (found : Found) (first fuel : ℕ) (output values 
             }
           where
             by : (o : Outcome Reported) (t : Result o) → Reports (with_fuel fuel o) output output' d → output' ≡ written output 0 t.bytes
-            by o t (reports_value out is stop counts wrote) =
+            by o t (reports_value out is passes counts wrote) =
                 let same : reported d.number out ≡ reported c.number t.bytes = same_value d.begun c.begun _ _ (sym is ∙ t.is) in
                 let bytes : out ≡ t.bytes = ap (λ x. x.bytes) same in
                 wrote (rw bytes (fits o t)) ∙ ap (written output 0) bytes
-            by o t (reports_stop reason at is stop position) = absurd (gives_not c.begun d.begun reason at _ (sym t.is ∙ is))
+            by o t (reports_stop reason at is stop) = absurd (gives_not c.begun d.begun reason at _ (sym t.is ∙ is))
 
 pub ruleset evaluates = (evaluate_stops, evaluate_full, evaluate_none, evaluate_again)

@@ -7,33 +7,19 @@ ghost use Rattle.formats.specs.Inner.Fields.{header_in};
 ghost use Rattle.refusal.specs.Inner.Numbers.{number};
 ghost use Rattle.meaning.specs.SourceRun.{source_run};
 ghost use Rattle.tree.specs.Inner.TreeResults.{measured};
-ghost use Rattle.source.specs.Inner.SourceAnswers.{RefusedAs, Named, Room, Evaluates, OfFile, Sourced};
+ghost use Rattle.source.specs.Inner.SourceAnswers.{RefusedAs, Room, Evaluates, OfFile, Sourced};
 
 use block_reader::MOST_BYTES;
-use refusal::{Filled, Refusal, Verdict};
-use tree::{Measures, TreeAnswer};
-
-// How a walk stops: it ended, the fuel is used up, a call is one too many, or else a sum is out of
-// range.
-const NOT_REFUSED: u32 = 0;
-
-const FUEL_USED_UP: u32 = 14;
-
-const TOO_MANY_CALLS: u32 = 18;
-
-// How many words a program's table has: a row for each of 1,057 records.
-const TABLE_WORDS: usize = 8456;
-
-// How many work words a run needs.
-const VALUE_WORDS: usize = 16384;
-
-const RETURN_WORDS: usize = 2048;
+use decode::TABLE_WORDS;
+use machine_state::{RETURN_WORDS, VALUE_WORDS};
+use refusal::{Refusal, Refused};
+use tree::Measures;
 
 // What a source run answers: ended or refused, expressions begun, bytes written, the number, and
 // the tree's measures, all 0 where the run is refused.
-#[derive(Clone, Copy)]
+#[derive(Clone, Copy, Debug, PartialEq, Eq)]
 pub struct SourceAnswer {
-    pub verdict: Verdict,
+    pub verdict: Result<(), Refused>,
     pub begun: u64,
     pub written: usize,
     pub number: u32,
@@ -41,26 +27,15 @@ pub struct SourceAnswer {
 }
 
 // The answer of a run that is refused.
-fn refused(why: Refusal, position: usize, begun: u64) -> SourceAnswer
-    ensures { RefusedAs (number why) position begun result }
+fn refused(why: Refused, begun: u64) -> SourceAnswer
+    ensures { RefusedAs (number why.why) why.position begun result }
 {
     SourceAnswer {
-        verdict: Verdict::Refused(why, position),
-        begun: begun,
+        verdict: Err(why),
+        begun,
         written: 0,
         number: 0,
-        measures: tree::no_measures(),
-    }
-}
-
-// The refusal of a walk that has not ended.
-fn why_stopped(stop: u32) -> Refusal
-    ensures { Named stop result }
-{
-    match stop {
-        FUEL_USED_UP => Refusal::FuelUsedUp,
-        TOO_MANY_CALLS => Refusal::TooManyCalls,
-        _ => Refusal::OutOfRange,
+        measures: Measures::default(),
     }
 }
 
@@ -78,7 +53,7 @@ fn room_of(output: &[u8]) -> usize
 fn count_then_write(
     table: &[u16],
     input: &[u8],
-    measures: Measures,
+    found: Measures,
     first: u16,
     fuel: u64,
     counting: &mut [u8],
@@ -86,26 +61,26 @@ fn count_then_write(
     values: &mut [u32],
     returns: &mut [u64],
 ) -> SourceAnswer
-    ensures { Evaluates table.now input.now (measured measures)
+    ensures { Evaluates table.now input.now (measured found)
         first fuel output.old output.new values.old
         values.new returns.old returns.new result }
 {
     let counted = source_walk::walk(table, input, first, fuel, counting, values, returns);
-    if counted.stop != NOT_REFUSED {
-        return refused(why_stopped(counted.stop), counted.position, counted.begun);
+    if let Err(why) = counted.verdict {
+        return refused(why, counted.begun);
     }
     if room_of(output) < counted.written {
-        return refused(Refusal::OutputFull, 0, counted.begun);
+        return refused(Refusal::OutputFull.at(0), counted.begun);
     }
     if counted.written != 0 {
         source_walk::walk(table, input, first, fuel, output, values, returns);
     }
     SourceAnswer {
-        verdict: Verdict::Passed,
+        verdict: Ok(()),
         begun: counted.begun,
         written: counted.written,
         number: counted.number,
-        measures: measures,
+        measures: found,
     }
 }
 
@@ -160,20 +135,15 @@ fn run_records(
         returns.new fuel result }
 {
     let mut table = [0u16; TABLE_WORDS];
-    let decoded = decode::decode(flat, &mut table);
-    if let Verdict::Refused(why, position) = decoded {
-        return refused(why, position, 0);
+    if let Err(why) = decode::decode(flat, &mut table) {
+        return refused(why, 0);
     }
-    if values.len() < VALUE_WORDS {
-        return refused(Refusal::SpaceTooShort, 0, 0);
+    if values.len() < VALUE_WORDS || returns.len() < RETURN_WORDS {
+        return refused(Refusal::SpaceTooShort.at(0), 0);
     }
-    if returns.len() < RETURN_WORDS {
-        return refused(Refusal::SpaceTooShort, 0, 0);
-    }
-    let tree = tree::tree_answer(input);
-    match tree {
-        TreeAnswer::Refused(why, position) => refused(why, position, 0),
-        TreeAnswer::Tree(found) => {
+    match tree::tree_answer(input) {
+        Err(why) => refused(why, 0),
+        Ok(found) => {
             let first = first_node(flat);
             evaluate(&table, input, found, first, fuel, output, values, returns)
         }
@@ -197,11 +167,8 @@ pub fn run(
         returns.old returns.new result }
 {
     let mut flat = [0u8; MOST_BYTES];
-    let taken = block_reader::from_blocks(file, &mut flat);
-    match taken {
-        Filled::Refused(why, position) => refused(why, position, 0),
-        Filled::Written(bytes) => {
-            run_records(&flat[..bytes], input, fuel, output, values, returns)
-        }
+    match block_reader::from_blocks(file, &mut flat) {
+        Err(why) => refused(why, 0),
+        Ok(bytes) => run_records(&flat[..bytes], input, fuel, output, values, returns),
     }
 }

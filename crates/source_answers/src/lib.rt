@@ -6,9 +6,8 @@ ghost use Rattle.std.specs.Prelude.{◌≡◌, leb, length};
 ghost use Rattle.source.specs.Inner.SourceAnswers.{source_answer};
 ghost use Rattle.tree.specs.Inner.TreeResults.{measured};
 ghost use Rattle.source_answers.specs.SourceSlots.{source_slots};
-ghost use Rattle.source_answers.specs.Inner.Stores.{StoresSource, AnswersSource};
+ghost use Rattle.source_answers.specs.Inner.Stores.{AnswersSource};
 
-use refusal::Verdict;
 use source::SourceAnswer;
 
 // How many slots an answer takes.
@@ -18,15 +17,17 @@ const SOURCE_SLOTS: usize = 6;
 pub fn has_room(answer: &[u64]) -> bool
     ensures { result ≡ leb source_slots (length answer.now) }
 {
-    SOURCE_SLOTS <= answer.len()
+    answers::has_slots::<SOURCE_SLOTS>(answer)
 }
 
-// Stores the position of a refusal, expressions begun, bytes written, the number, sign-extended to
-// 64 bits, and the tree's tips and depth, and gives `number`.
-fn store(ran: SourceAnswer, number: u32, position: usize, answer: &mut [u64]) -> u32
-    ensures { StoresSource (source_answer ran) (measured ran.measures) number position
+// Stores the answer of a source run: the position of a refusal, expressions begun, bytes written,
+// the number, sign-extended to 64 bits, and the tree's tips and depth. Gives 0 or the number of the
+// refusal.
+pub fn report_source(ran: SourceAnswer, answer: &mut [u64]) -> u32
+    ensures { AnswersSource (source_answer ran) (measured ran.measures)
         answer.old answer.new result }
 {
+    let (number, position) = answers::number_and_position(ran.verdict);
     let row = [
         position as u64,
         ran.begun,
@@ -36,16 +37,4 @@ fn store(ran: SourceAnswer, number: u32, position: usize, answer: &mut [u64]) ->
         ran.measures.depth as u64,
     ];
     answers::store_row(answer, &row, number)
-}
-
-// Stores the answer of a source run, and gives 0 or the number of the refusal.
-pub fn report_source(ran: SourceAnswer, answer: &mut [u64]) -> u32
-    ensures { AnswersSource (source_answer ran) (measured ran.measures)
-        answer.old answer.new result }
-{
-    let verdict = ran.verdict;
-    match verdict {
-        Verdict::Passed => store(ran, 0, 0, answer),
-        Verdict::Refused(why, position) => store(ran, refusal::number_of(why), position, answer),
-    }
 }

@@ -30,7 +30,7 @@ pub fn source(
         answer.new result }
 {
     if !source_answers::has_room(answer) {
-        return refusal::number_of(Refusal::SpaceTooShort);
+        return u32::from(Refusal::SpaceTooShort);
     }
     let ran = source::run(file, input, fuel, output, values, returns);
     source_answers::report_source(ran, answer)

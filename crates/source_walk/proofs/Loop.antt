@@ -7,16 +7,19 @@ use mathlib.Core.Path.{◌≡◌, refl, sym, ap, ap₂, ◌∙◌}
 use native.Mathlib.Decide.{dec_le}
 use native.Mathlib.Numerals.{add-one}
 use native.Mathlib.Omega.{arith}
-use borrow.Author.Tests.{eq-eqb, ne_eqb, eqb-true, eqb-false, lt-ltb, le-ltb}
-use lib.Dec.{eqb}
+use borrow.Author.Tests.{lt-ltb, le-ltb}
 use lib.ListN.{length}
-use Rattle.formats.specs.Refusals.{fuel_used_up, too_many_calls, out_of_range}
 use Rattle.formats.specs.Written.{written}
 use Rattle.formats.proofs.Written.{wrote}
 use Rattle.stepwise.specs.Inner.Steps.{emitted_first, emitted_last}
-use Rattle.stepwise.proofs.Steps.{off}
+use Rattle.std.specs.Prelude.{Ok}
+use Rattle.refusal.specs.declared.Refusal.TheVariants.{FuelUsedUp, TooManyCalls, OutOfRange}
+use Rattle.refusal.specs.declared.Refused.{Refused}
+use Rattle.stages.specs.declared.Mode.{Mode}
+use Rattle.stages.specs.declared.Mode.TheVariants.{Begin, Finished, Open, Ended, Stuck, Broken}
 use Rattle.stages.specs.declared.Stage.{Stage}
-use Rattle.stages.specs.Inner.Stages.{to_begin, is_finished, to_open, has_ended, is_stuck, is_broken, staged, with_written}
+use Rattle.stages.specs.Inner.Stages.{is_finished, staged, with_written}
+use Rattle.stages.proofs.Stages.{begin_true, begin_false, finished_true, finished_false, finished_mode, open_true, open_false, other_mode}
 use Rattle.begin_record.specs.Inner.Begins.{Begins}
 use Rattle.finish_record.specs.Inner.Rises.{Rises}
 use Rattle.open_call.specs.Inner.Opens.{Opens}
@@ -28,26 +31,39 @@ use Rattle.source_walk.specs.Inner.Loop.{BeginsOne, Climbs, OpensOne, Turns, Wal
 -- ---- `finish`, `weight_of`
 
 module _ (s : Stage) where
-  pub finish_ended : (begun : ℕ) → s.mode ≡ has_ended
-      → record { stop = 0; position = 0; begun = begun; written = s.written; number = s.number } ≡ answer_with s begun
+  pub finish_ended : (begun : ℕ) → s.mode ≡ Ended → record { verdict = Ok tt; begun = begun; written = s.written; number = s.number } ≡ answer_with s begun
   unfolding answer_with
-  finish_ended begun e = rw (answer_with, eq-eqb _ _ e)
+  finish_ended begun e = rw (answer_with, e)
 
-  pub finish_broken : (begun : ℕ) (r : Walked) → s.mode ≡ is_broken → r ≡ refused_with out_of_range s.node begun → r ≡ answer_with s begun
+  pub finish_broken : (begun : ℕ) (why : Refused) (r : Walked)
+      → s.mode ≡ Broken
+      → why ≡ record { why = OutOfRange; position = s.node }
+      → r ≡ refused_with why begun
+      → r ≡ answer_with s begun
   unfolding answer_with
-  finish_broken begun r e is = rw (answer_with, off _ is_broken has_ended e refl, eq-eqb _ _ e) is
+  finish_broken begun why r e at is = rw (answer_with, e, ← at) is
 
-  pub finish_deep : (begun : ℕ) (r : Walked) → s.mode ≢ has_ended → s.mode ≢ is_broken → r ≡ refused_with too_many_calls 0 begun → r ≡ answer_with s begun
+  pub finish_deep : (begun : ℕ) (why : Refused) (r : Walked)
+      → s.mode ≢ Ended
+      → s.mode ≢ Broken
+      → why ≡ record { why = TooManyCalls; position = 0 }
+      → r ≡ refused_with why begun
+      → r ≡ answer_with s begun
   unfolding answer_with
-  finish_deep begun r h g is = rw (answer_with, ne_eqb _ _ h, ne_eqb _ _ g) is
+  finish_deep begun why r h g at is = is ∙ ap (λ x. refused_with x begun) at ∙ by s.mode refl
+    where
+      by : (m : Mode) → s.mode ≡ m → refused_with (record { why = TooManyCalls; position = 0 }) begun ≡ answer_with s begun
+      by Ended e = absurd (h e)
+      by Broken e = absurd (g e)
+      by _ e = rw (answer_with, e)
 
-  pub weight_finished : s.mode ≡ is_finished → 1 + 65536 * s.calls + s.node ≡ weight_of s
+  pub weight_finished : s.mode ≡ Finished → 1 + 65536 * s.calls + s.node ≡ weight_of s
   unfolding weight_of
-  weight_finished e = rw (weight_of, eq-eqb _ _ e)
+  weight_finished e = rw (weight_of, e)
 
-  pub weight_none : s.mode ≢ is_finished → 0 ≡ weight_of s
+  pub weight_none : s.mode ≢ Finished → 0 ≡ weight_of s
   unfolding weight_of
-  weight_none h = rw (weight_of, ne_eqb _ _ h)
+  weight_none h = rw (weight_of, finished_false _ h)
 
 pub ruleset finishing = (finish_ended, finish_broken, finish_deep)
 
@@ -86,33 +102,33 @@ begin_one T input output output' values values' s n at said b =
 -- ---- `climb`
 
 module _ (T input : List ℕ) where
-  climb_stays : (n : ℕ) (p : Run) → p.stage.mode ≢ is_finished → climbing T input n p ≡ p
+  climb_stays : (n : ℕ) (p : Run) → p.stage.mode ≢ Finished → climbing T input n p ≡ p
   unfolding climbing
   climb_stays zero p h = refl
-  climb_stays (suc n) p h = simp (climbing, ne_eqb _ _ h)
+  climb_stays (suc n) p h = simp (climbing, finished_false _ h)
 
-  climb_falls : (n : ℕ) (p : Run) → p.stage.mode ≡ is_finished → weight_of (rise_step T input p).stage < weight_of p.stage
+  climb_falls : (n : ℕ) (p : Run) → p.stage.mode ≡ Finished → weight_of (rise_step T input p).stage < weight_of p.stage
       → climbing T input (suc n) p ≡ climbing T input n (rise_step T input p)
   unfolding climbing
-  climb_falls n p e falls = simp (climbing, eq-eqb _ _ e, lt-ltb _ _ falls)
+  climb_falls n p e falls = simp (climbing, finished_true _ e, lt-ltb _ _ falls)
 
-  climb_sticks : (n : ℕ) (p : Run) → p.stage.mode ≡ is_finished → weight_of p.stage ≤ weight_of (rise_step T input p).stage
+  climb_sticks : (n : ℕ) (p : Run) → p.stage.mode ≡ Finished → weight_of p.stage ≤ weight_of (rise_step T input p).stage
       → climbing T input (suc n) p
-      ≡ run (rise_step T input p).output (rise_step T input p).values (rise_step T input p).returns (staged (rise_step T input p).stage is_stuck 0 0)
+      ≡ run (rise_step T input p).output (rise_step T input p).values (rise_step T input p).returns (staged (rise_step T input p).stage Stuck 0 0)
   unfolding climbing
-  climb_sticks n p e stays = simp (climbing, eq-eqb _ _ e, le-ltb _ _ stays)
+  climb_sticks n p e stays = simp (climbing, finished_true _ e, le-ltb _ _ stays)
 
   -- a stage whose record is finished has a weight above 0
-  some_weight : (s : Stage) → s.mode ≡ is_finished → 0 < weight_of s
+  some_weight : (s : Stage) → s.mode ≡ Finished → 0 < weight_of s
   some_weight s e = omega (arith, weight_finished s e)
 
   -- and no other stage has
-  weighs : (s : Stage) → 0 < weight_of s → s.mode ≡ is_finished
-  weighs s h = by (eqb s.mode is_finished) refl
+  weighs : (s : Stage) → 0 < weight_of s → s.mode ≡ Finished
+  weighs s h = by (is_finished s.mode) refl
     where
-      by : (t : Bool) → eqb s.mode is_finished ≡ t → s.mode ≡ is_finished
-      by true e = eqb-true _ _ e
-      by false e = absurd (omega (arith, weight_none s (eqb-false _ _ e)))
+      by : (t : Bool) → is_finished s.mode ≡ t → s.mode ≡ Finished
+      by true e = finished_mode _ e
+      by false e = absurd (omega (arith, weight_none s (other_mode is_finished _ Finished e refl)))
 
   -- more steps than the weight make no difference
   light : (n : ℕ) (p : Run) → weight_of p.stage ≤ 0 → climbing T input n p ≡ p
@@ -125,7 +141,7 @@ module _ (T input : List ℕ) where
       elim (dec_le (weight_of p.stage) 0) [
         | yes low ↦ light (suc n) p low ∙ sym (light (suc m) p low)
         | no heavy ↦
-            let h : p.stage.mode ≡ is_finished = weighs p.stage (omega arith) in
+            let h : p.stage.mode ≡ Finished = weighs p.stage (omega arith) in
             elim (dec_le (weight_of p.stage) (weight_of (rise_step T input p).stage)) [
               | yes stays ↦ climb_sticks n p h stays ∙ sym (climb_sticks m p h stays)
               | no falls ↦
@@ -137,7 +153,7 @@ module _ (T input : List ℕ) where
       ]
 
   -- one step on
-  climbed_on : (p : Run) → p.stage.mode ≡ is_finished → weight_of (rise_step T input p).stage < weight_of p.stage
+  climbed_on : (p : Run) → p.stage.mode ≡ Finished → weight_of (rise_step T input p).stage < weight_of p.stage
       → climbed T input p ≡ climbed T input (rise_step T input p)
   climbed_on p e falls =
       let some = some_weight p.stage e in
@@ -146,9 +162,9 @@ module _ (T input : List ℕ) where
       ∙ climb_falls (weight_of p.stage - 1) p e falls
       ∙ enough (weight_of p.stage - 1) (weight_of (rise_step T input p).stage) (rise_step T input p) (omega arith) (omega arith)
 
-  climbed_stuck : (p : Run) → p.stage.mode ≡ is_finished → weight_of p.stage ≤ weight_of (rise_step T input p).stage
+  climbed_stuck : (p : Run) → p.stage.mode ≡ Finished → weight_of p.stage ≤ weight_of (rise_step T input p).stage
       → climbed T input p
-      ≡ run (rise_step T input p).output (rise_step T input p).values (rise_step T input p).returns (staged (rise_step T input p).stage is_stuck 0 0)
+      ≡ run (rise_step T input p).output (rise_step T input p).values (rise_step T input p).returns (staged (rise_step T input p).stage Stuck 0 0)
   climbed_stuck p e stays =
       let some = some_weight p.stage e in
       let next : weight_of p.stage ≡ suc (weight_of p.stage - 1) = omega arith in
@@ -180,7 +196,7 @@ module _ (T input returns : List ℕ) where
       pub climb_long_values : length values' ≡ length values₀
       climb_long_values = rises.is.words_long ∙ c.long_values
 
-      module _ (finished_it : s.mode ≡ is_finished) (v w : ℕ) (ev : v ≡ weight_of s) (ew : w ≡ weight_of (with_written n at)) where
+      module _ (finished_it : s.mode ≡ Finished) (v w : ℕ) (ev : v ≡ weight_of s) (ew : w ≡ weight_of (with_written n at)) where
         -- the weight after it
         weight_is : weight_of (rise_step T input (run output values returns s)).stage ≡ w
         weight_is = ap (λ (p : Run). weight_of p.stage) (sym one_step) ∙ sym ew
@@ -196,7 +212,7 @@ module _ (T input returns : List ℕ) where
               long_values = climb_long_values;
             }
 
-        pub climb_stuck : (r : Stage) → v ≤ w → r ≡ staged (with_written n at) is_stuck 0 0
+        pub climb_stuck : (r : Stage) → v ≤ w → r ≡ staged (with_written n at) Stuck 0 0
             → Climbs T input returns output₀ output' values₀ values' start r
         climb_stuck r stays e =
             rw e
@@ -204,7 +220,7 @@ module _ (T input returns : List ℕ) where
               moves =
                   record {
                     is =
-                        ap (λ (p : Run). run p.output p.values p.returns (staged p.stage is_stuck 0 0)) one_step
+                        ap (λ (p : Run). run p.output p.values p.returns (staged p.stage Stuck 0 0)) one_step
                         ∙ sym (climbed_stuck T input (run output values returns s) finished_it (omega (arith, weight_is)))
                         ∙ c.is;
                     long_output = climb_long_output;
@@ -213,7 +229,7 @@ module _ (T input returns : List ℕ) where
                   };
             })
 
-  pub climb_done : (output₀ output values₀ values : List ℕ) (start s : Stage) → Climbing T input returns output₀ output values₀ values start s → s.mode ≢ is_finished
+  pub climb_done : (output₀ output values₀ values : List ℕ) (start s : Stage) → Climbing T input returns output₀ output values₀ values start s → s.mode ≢ Finished
       → Climbs T input returns output₀ output values₀ values start s
   climb_done output₀ output values₀ values start s c h =
       record {
@@ -233,25 +249,25 @@ pub ruleset climbs = (climb_first, climb_more, climb_stuck, climb_done)
 -- ---- `open_one`
 
 module _ (T input values returns : List ℕ) (s : Stage) where
-  pub open_it : (values' returns' : List ℕ) (r : Stage) → s.mode ≡ to_open → Opens T input values values' returns returns' s r
+  pub open_it : (values' returns' : List ℕ) (r : Stage) → s.mode ≡ Open → Opens T input values values' returns returns' s r
       → OpensOne T input values values' returns returns' s r
   unfolding open_step
   open_it values' returns' r mode o =
       record {
         moves = λ output.
             record {
-              is = rw (open_step, eq-eqb _ _ mode) (same_run refl o.is.words o.is.returns_are o.is.stage);
+              is = rw (open_step, open_true _ mode) (same_run refl o.is.words o.is.returns_are o.is.stage);
               long_output = refl;
               long_values = o.is.words_long;
               long_returns = o.is.returns_long;
             };
       }
 
-  pub open_none : s.mode ≢ to_open → OpensOne T input values values returns returns s s
+  pub open_none : s.mode ≢ Open → OpensOne T input values values returns returns s s
   unfolding open_step
   open_none other =
       record {
-        moves = λ output. record { is = sym (rw (open_step, ne_eqb _ _ other)); long_output = refl; long_values = refl; long_returns = refl };
+        moves = λ output. record { is = sym (rw (open_step, open_false _ other)); long_output = refl; long_values = refl; long_returns = refl };
       }
 
 pub ruleset opens_one = (open_it, open_none)
@@ -281,16 +297,16 @@ turn_taken T input output output' output'' values values' values'' values''' ret
 -- ---- `walk`
 
 module _ (T input : List ℕ) where
-  walks_on : (fuel begun : ℕ) (p : Run) → (turned T input p).stage.mode ≡ to_begin → walking T input (suc fuel) begun p ≡ walking T input fuel (suc begun) (turned T input p)
+  walks_on : (fuel begun : ℕ) (p : Run) → (turned T input p).stage.mode ≡ Begin → walking T input (suc fuel) begun p ≡ walking T input fuel (suc begun) (turned T input p)
   unfolding walking
-  walks_on fuel begun p e = simp (walking, eq-eqb _ _ e)
+  walks_on fuel begun p e = simp (walking, begin_true _ e)
 
-  walks_out : (fuel begun : ℕ) (p : Run) → (turned T input p).stage.mode ≢ to_begin
+  walks_out : (fuel begun : ℕ) (p : Run) → (turned T input p).stage.mode ≢ Begin
       → walking T input (suc fuel) begun p ≡ ending (answer_with (turned T input p).stage (suc begun)) (turned T input p)
   unfolding walking
-  walks_out fuel begun p h = simp (walking, ne_eqb _ _ h)
+  walks_out fuel begun p h = simp (walking, begin_false _ h)
 
-  walks_none : (begun : ℕ) (p : Run) → walking T input 0 begun p ≡ ending (refused_with fuel_used_up 0 begun) p
+  walks_none : (begun : ℕ) (p : Run) → walking T input 0 begun p ≡ ending (refused_with (record { why = FuelUsedUp; position = 0 }) begun) p
   unfolding walking
   walks_none begun p = refl
 
@@ -306,7 +322,7 @@ pub record Walking (T input : List ℕ) (first fuel : ℕ) (output₀ values₀ 
 module _ (T input : List ℕ) (first fuel : ℕ) (output₀ values₀ returns₀ : List ℕ) where
   pub walk_first : length output₀ < count_limit
       → Walking T input first fuel output₀ values₀ returns₀ output₀ values₀ returns₀
-      (record { mode = to_begin; node = first; number = 0; calls = 0; tree = 0; known = 0; end = 0; written = 0 })
+      (record { mode = Begin; node = first; number = 0; calls = 0; tree = 0; known = 0; end = 0; written = 0 })
       0
   walk_first short =
       let all : fuel ≡ fuel - 0 = omega arith in
@@ -358,7 +374,7 @@ module _ (T input : List ℕ) (first fuel : ℕ) (output₀ values₀ returns₀
       pub walk_long_returns : length returns' ≡ length returns₀
       walk_long_returns = t.moves.long_returns ∙ w.long_returns
 
-      pub walk_more : r.mode ≡ to_begin → Walking T input first fuel output₀ values₀ returns₀ output' values' returns' r (begun + 1)
+      pub walk_more : r.mode ≡ Begin → Walking T input first fuel output₀ values₀ returns₀ output' values' returns' r (begun + 1)
       walk_more going =
           record {
             is =
@@ -372,7 +388,7 @@ module _ (T input : List ℕ) (first fuel : ℕ) (output₀ values₀ returns₀
             short = w.short;
           }
 
-      pub walk_stops : (end : Walked) → r.mode ≢ to_begin → end ≡ answer_with r (begun + 1)
+      pub walk_stops : (end : Walked) → r.mode ≢ Begin → end ≡ answer_with r (begun + 1)
           → Walks T input first fuel output₀ output' values₀ values' returns₀ returns' end
       walk_stops end other e =
           walks_to output' values' returns' r end walk_long_values walk_long_returns w.short
@@ -382,16 +398,21 @@ module _ (T input : List ℕ) (first fuel : ℕ) (output₀ values₀ returns₀
           ∙ ap (λ x. ending x (run output' values' returns' r)) (ap (answer_with r) (sym (add-one begun)) ∙ sym e))
 
   -- the fuel is used up
-  pub walk_ends : (output values returns : List ℕ) (s : Stage) (begun : ℕ) (r : Walked)
+  pub walk_ends : (output values returns : List ℕ) (s : Stage) (begun : ℕ) (why : Refused) (r : Walked)
       → fuel ≤ begun
-      → r ≡ refused_with fuel_used_up 0 begun
+      → why ≡ record { why = FuelUsedUp; position = 0 }
+      → r ≡ refused_with why fuel
       → Walking T input first fuel output₀ values₀ returns₀ output values returns s begun
       → Walks T input first fuel output₀ output values₀ values returns₀ returns r
-  walk_ends output values returns s begun r none is w =
+  walk_ends output values returns s begun why r none at is w =
       let out : fuel - begun ≡ 0 = omega arith in
-      rw is
+      let all : fuel ≡ begun = omega (arith, w.few) in
+      rw (is, at)
       (walks_to output values returns s _ w.long_values w.long_returns w.short
-      (w.is ∙ ap (λ k. walking T input k begun (run output values returns s)) out ∙ walks_none T input begun (run output values returns s)))
+      (w.is
+      ∙ ap (λ k. walking T input k begun (run output values returns s)) out
+      ∙ walks_none T input begun (run output values returns s)
+      ∙ ap (λ k. ending (refused_with (record { why = FuelUsedUp; position = 0 }) k) (run output values returns s)) (sym all)))
 
 pub ruleset walk_lengths = (walk_long_output, walk_long_values, walk_long_returns)
 

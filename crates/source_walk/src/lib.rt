@@ -5,16 +5,18 @@
 ghost use Rattle.std.specs.Prelude.{◌≡◌};
 ghost use Rattle.source_walk.specs.Inner.Loop.{weight_of, refused_with, answer_with, BeginsOne, Climbs, OpensOne, Turns, Walks};
 
-use stages::{BEGIN, BROKEN, ENDED, FINISHED, OPEN, STUCK, Stage};
+use refusal::{Refusal, Refused};
+use stages::{Mode, Stage};
 
 // This falls at each step from one finished record to the next.
+#[tactic(auto, using(crate::proofs::Loop::weighing))]
 fn weight_of(s: Stage) -> usize
     ensures { result ≡ weight_of s }
 {
-    if s.mode == FINISHED {
-        return 1 + 65536 * (s.calls as usize) + (s.node as usize);
+    match s.mode {
+        Mode::Finished => 1 + 65536 * (s.calls as usize) + (s.node as usize),
+        _ => 0,
     }
-    0
 }
 
 // Steps while records are finished. With a program's rows the weight falls at each step; where it
@@ -32,12 +34,14 @@ fn climb(
         result }
 {
     let mut s = start;
-    while s.mode == FINISHED {
+    while let Mode::Finished = s.mode {
         let at = result_bytes::emit_last(table, output, s);
-        let mut next = finish_record::rise(table, input, values, returns, s);
-        next.written = at;
+        let next = Stage {
+            written: at,
+            ..finish_record::rise(table, input, values, returns, s)
+        };
         if weight_of(s) <= weight_of(next) {
-            return stages::staged_at(next, STUCK, 0, 0);
+            return next.at(Mode::Stuck, 0, 0);
         }
         s = next;
     }
@@ -50,9 +54,10 @@ fn begin_one(table: &[u16], input: &[u8], output: &mut [u8], values: &mut [u32],
         output.new values.old values.new s result }
 {
     let at = result_bytes::emit_first(table, output, s);
-    let mut next = begin_record::begin(table, input, values, s);
-    next.written = at;
-    next
+    Stage {
+        written: at,
+        ..begin_record::begin(table, input, values, s)
+    }
 }
 
 // A call opens, if one is to open.
@@ -60,13 +65,14 @@ fn open_one(table: &[u16], input: &[u8], values: &mut [u32], returns: &mut [u64]
     ensures { OpensOne table.now input.now values.old
         values.new returns.old returns.new s result }
 {
-    if s.mode == OPEN {
-        return open_call::open(table, input, values, returns, s);
+    match s.mode {
+        Mode::Open => open_call::open(table, input, values, returns, s),
+        _ => s,
     }
-    s
 }
 
-// One expression begins, and the walk goes on until the next one is to begin.
+// One expression begins, and the walk goes on until the next one is to begin. (The table and the
+// lent words go to each step one by one: it is lent what it may change, and no more.)
 fn turn(
     table: &[u16],
     input: &[u8],
@@ -84,33 +90,22 @@ fn turn(
     open_one(table, input, values, returns, settled)
 }
 
-// What a walk answers: 0 where it ended, else the number of a refusal; the refusal's position; the
-// expressions begun, the bytes written, the number.
-#[derive(Clone, Copy)]
+// What a walk answers: ended or refused, the expressions begun, the bytes written, the number.
+#[derive(Clone, Copy, Debug, PartialEq, Eq)]
 pub struct Walked {
-    pub stop: u32,
-    pub position: usize,
+    pub verdict: Result<(), Refused>,
     pub begun: u64,
     pub written: usize,
     pub number: u32,
 }
 
-const NOT_REFUSED: u32 = 0;
-
-const FUEL_USED_UP: u32 = 14;
-
-const TOO_MANY_CALLS: u32 = 18;
-
-const OUT_OF_RANGE: u32 = 21;
-
 // The answer of a walk that is refused.
-fn refused_with(stop: u32, position: usize, begun: u64) -> Walked
-    ensures { result ≡ refused_with stop position begun }
+fn refused_with(why: Refused, begun: u64) -> Walked
+    ensures { result ≡ refused_with why begun }
 {
     Walked {
-        stop: stop,
-        position: position,
-        begun: begun,
+        verdict: Err(why),
+        begun,
         written: 0,
         number: 0,
     }
@@ -118,22 +113,20 @@ fn refused_with(stop: u32, position: usize, begun: u64) -> Walked
 
 // What a walk that stops at this stage answers. A program's rows lead to no stuck stage, so a walk
 // that has neither ended nor come to an operation without a result has come to a call too many.
+#[tactic(auto, using(crate::proofs::Loop::finishing))]
 fn finish(s: Stage, begun: u64) -> Walked
     ensures { result ≡ answer_with s begun }
 {
-    if s.mode == ENDED {
-        return Walked {
-            stop: NOT_REFUSED,
-            position: 0,
-            begun: begun,
+    match s.mode {
+        Mode::Ended => Walked {
+            verdict: Ok(()),
+            begun,
             written: s.written,
             number: s.number,
-        };
+        },
+        Mode::Broken => refused_with(Refusal::OutOfRange.at(s.node as usize), begun),
+        _ => refused_with(Refusal::TooManyCalls.at(0), begun),
     }
-    if s.mode == BROKEN {
-        return refused_with(OUT_OF_RANGE, s.node as usize, begun);
-    }
-    refused_with(TOO_MANY_CALLS, 0, begun)
 }
 
 // Evaluates the program of these rows on the tree that begins the input, from the record `first`
@@ -153,7 +146,7 @@ pub fn walk(
         returns.old returns.new result }
 {
     let mut s = Stage {
-        mode: BEGIN,
+        mode: Mode::Begin,
         node: first,
         number: 0,
         calls: 0,
@@ -162,13 +155,11 @@ pub fn walk(
         end: 0,
         written: 0,
     };
-    let mut begun: u64 = 0;
-    while begun < fuel {
+    for begun in 0..fuel {
         s = turn(table, input, output, values, returns, s);
-        begun = begun + 1;
-        if s.mode != BEGIN {
-            return finish(s, begun);
-        }
+        let Mode::Begin = s.mode else {
+            return finish(s, begun + 1);
+        };
     }
-    refused_with(FUEL_USED_UP, 0, begun)
+    refused_with(Refusal::FuelUsedUp.at(0), fuel)
 }

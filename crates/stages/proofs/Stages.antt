@@ -1,54 +1,86 @@
 -- What a stage stands for: a law for each mode; and what a step that reaches a turn leaves.
 use Prim.Native.Nat.{ℕ}
 use mathlib.Core.List.{List}
+use mathlib.Core.Bool.{Bool, true, false, false≢true}
 use mathlib.Core.Logic.{◌≢◌}
-use mathlib.Core.Path.{◌≡◌, refl}
-use borrow.Author.Tests.{eq-eqb, ne_eqb}
+use mathlib.Core.Path.{◌≡◌, refl, sym, ap, ◌∙◌}
 use lib.ListN.{set, length-set}
 use Rattle.formats.specs.Arithmetic.{Op}
 use Rattle.stepwise.specs.Inner.Steps.{Turn, begin, finished, opens, ended, deep, broken, stuck}
-use Rattle.stepwise.proofs.Steps.{off}
 use Rattle.stages.specs.declared.Stage.{Stage}
-use Rattle.stages.specs.Inner.Stages.{to_begin, is_finished, to_open, has_ended, too_many_open, is_stuck, is_broken, state_of, Missing, turn_of, staged, with_written, stage_of, words_of, returns_of, missing_in, Reaches}
+use Rattle.stages.specs.declared.Mode.{Mode}
+use Rattle.stages.specs.declared.Mode.TheVariants.{Begin, Finished, Open, Ended, Deep, Stuck, Broken}
+use Rattle.stages.specs.Inner.Stages.{to_begin, is_finished, to_open, state_of, Missing, turn_of, staged, with_written, stage_of, words_of, returns_of, missing_in, Reaches}
+
+-- ---- the tests of a mode
+
+pub begin_mode : (m : Mode) → to_begin m ≡ true → m ≡ Begin
+begin_mode Begin e = refl
+begin_mode _ e = cc
+
+pub begin_true : (m : Mode) → m ≡ Begin → to_begin m ≡ true
+begin_true m e = ap to_begin e
+
+pub begin_false : (m : Mode) → m ≢ Begin → to_begin m ≡ false
+begin_false Begin h = absurd (h refl)
+begin_false _ h = refl
+
+pub finished_mode : (m : Mode) → is_finished m ≡ true → m ≡ Finished
+finished_mode Finished e = refl
+finished_mode _ e = cc
+
+pub finished_true : (m : Mode) → m ≡ Finished → is_finished m ≡ true
+finished_true m e = ap is_finished e
+
+pub finished_false : (m : Mode) → m ≢ Finished → is_finished m ≡ false
+finished_false Finished h = absurd (h refl)
+finished_false _ h = refl
+
+pub open_mode : (m : Mode) → to_open m ≡ true → m ≡ Open
+open_mode Open e = refl
+open_mode _ e = cc
+
+pub open_true : (m : Mode) → m ≡ Open → to_open m ≡ true
+open_true m e = ap to_open e
+
+pub open_false : (m : Mode) → m ≢ Open → to_open m ≡ false
+open_false Open h = absurd (h refl)
+open_false _ h = refl
+
+-- a test that does not hold is of another mode
+pub other_mode : (f : Mode → Bool) (m k : Mode) → f m ≡ false → f k ≡ true → m ≢ k
+other_mode f m k e h = λ (same : m ≡ k). absurd (false≢true (sym e ∙ ap f same ∙ h))
 
 -- ---- the turn of a stage
 
 module _ (m : Missing) (values returns : List ℕ) (s : Stage) where
-  pub turn_begin : s.mode ≡ to_begin → turn_of m values returns s ≡ begin s.node (state_of values returns s)
+  pub turn_begin : s.mode ≡ Begin → turn_of m values returns s ≡ begin s.node (state_of values returns s)
   unfolding turn_of
-  turn_begin e = rw (turn_of, eq-eqb _ _ e)
+  turn_begin e = rw (turn_of, e)
 
-  pub turn_finished : s.mode ≡ is_finished → turn_of m values returns s ≡ finished s.node s.number (state_of values returns s)
+  pub turn_finished : s.mode ≡ Finished → turn_of m values returns s ≡ finished s.node s.number (state_of values returns s)
   unfolding turn_of
-  turn_finished e = rw (turn_of, off _ 1 0 e refl, eq-eqb _ _ e)
+  turn_finished e = rw (turn_of, e)
 
-  pub turn_open : s.mode ≡ to_open → turn_of m values returns s ≡ opens s.node (state_of values returns s)
+  pub turn_open : s.mode ≡ Open → turn_of m values returns s ≡ opens s.node (state_of values returns s)
   unfolding turn_of
-  turn_open e = rw (turn_of, off _ 2 0 e refl, off _ 2 1 e refl, eq-eqb _ _ e)
+  turn_open e = rw (turn_of, e)
 
-  pub turn_ended : s.mode ≡ has_ended → turn_of m values returns s ≡ ended s.number
+  pub turn_ended : s.mode ≡ Ended → turn_of m values returns s ≡ ended s.number
   unfolding turn_of
-  turn_ended e = rw (turn_of, off _ 3 0 e refl, off _ 3 1 e refl, off _ 3 2 e refl, eq-eqb _ _ e)
+  turn_ended e = rw (turn_of, e)
 
-  pub turn_deep : s.mode ≡ too_many_open → turn_of m values returns s ≡ deep s.node
+  pub turn_deep : s.mode ≡ Deep → turn_of m values returns s ≡ deep s.node
   unfolding turn_of
-  turn_deep e = rw (turn_of, off _ 4 0 e refl, off _ 4 1 e refl, off _ 4 2 e refl, off _ 4 3 e refl, eq-eqb _ _ e)
+  turn_deep e = rw (turn_of, e)
 
-  pub turn_broken : s.mode ≡ is_broken → turn_of m values returns s ≡ broken m.op m.i m.j s.node
+  pub turn_stuck : s.mode ≡ Stuck → turn_of m values returns s ≡ stuck
   unfolding turn_of
-  turn_broken e = rw (turn_of, off _ 6 0 e refl, off _ 6 1 e refl, off _ 6 2 e refl, off _ 6 3 e refl, off _ 6 4 e refl, eq-eqb _ _ e)
+  turn_stuck e = rw (turn_of, e)
 
-  -- no other mode is one of these
-  pub turn_none :
-      s.mode ≢ to_begin
-      → s.mode ≢ is_finished
-      → s.mode ≢ to_open
-      → s.mode ≢ has_ended
-      → s.mode ≢ too_many_open
-      → s.mode ≢ is_broken
-      → turn_of m values returns s ≡ stuck
+  pub turn_broken : s.mode ≡ Broken → turn_of m values returns s ≡ broken m.op m.i m.j s.node
   unfolding turn_of
-  turn_none a b c d e f = rw (turn_of, ne_eqb _ _ a, ne_eqb _ _ b, ne_eqb _ _ c, ne_eqb _ _ d, ne_eqb _ _ e, ne_eqb _ _ f)
+  turn_broken e = rw (turn_of, e)
 
 -- what is to be done next does not depend on the bytes written
 pub turn_written : (m : Missing) (values returns : List ℕ) (s : Stage) (at : ℕ) → turn_of m values returns (with_written s at) ≡ turn_of m values returns s
@@ -83,39 +115,39 @@ same_written s stuck = refl
 
 module _ (values returns : List ℕ) (s : Stage) where
   -- the words stay
-  pub reach_begin : (r : ℕ) → Reaches (begin r (state_of values returns s)) values values returns returns s (staged s to_begin r 0)
+  pub reach_begin : (r : ℕ) → Reaches (begin r (state_of values returns s)) values values returns returns s (staged s Begin r 0)
   unfolding stage_of words_of returns_of
   reach_begin r = record { stage = refl; words = refl; returns_are = refl; words_long = refl; returns_long = refl }
 
-  pub reach_finished : (r x : ℕ) → Reaches (finished r x (state_of values returns s)) values values returns returns s (staged s is_finished r x)
+  pub reach_finished : (r x : ℕ) → Reaches (finished r x (state_of values returns s)) values values returns returns s (staged s Finished r x)
   unfolding stage_of words_of returns_of
   reach_finished r x = record { stage = refl; words = refl; returns_are = refl; words_long = refl; returns_long = refl }
 
-  pub reach_open : (r : ℕ) → Reaches (opens r (state_of values returns s)) values values returns returns s (staged s to_open r 0)
+  pub reach_open : (r : ℕ) → Reaches (opens r (state_of values returns s)) values values returns returns s (staged s Open r 0)
   unfolding stage_of words_of returns_of
   reach_open r = record { stage = refl; words = refl; returns_are = refl; words_long = refl; returns_long = refl }
 
-  pub reach_ended : (x : ℕ) → Reaches (ended x) values values returns returns s (staged s has_ended 0 x)
+  pub reach_ended : (x : ℕ) → Reaches (ended x) values values returns returns s (staged s Ended 0 x)
   unfolding stage_of words_of returns_of
   reach_ended x = record { stage = refl; words = refl; returns_are = refl; words_long = refl; returns_long = refl }
 
-  pub reach_deep : (r : ℕ) → Reaches (deep r) values values returns returns s (staged s too_many_open r 0)
+  pub reach_deep : (r : ℕ) → Reaches (deep r) values values returns returns s (staged s Deep r 0)
   unfolding stage_of words_of returns_of
   reach_deep r = record { stage = refl; words = refl; returns_are = refl; words_long = refl; returns_long = refl }
 
-  pub reach_broken : (op : Op) (i j r : ℕ) → Reaches (broken op i j r) values values returns returns s (staged s is_broken r 0)
+  pub reach_broken : (op : Op) (i j r : ℕ) → Reaches (broken op i j r) values values returns returns s (staged s Broken r 0)
   unfolding stage_of words_of returns_of
   reach_broken op i j r = record { stage = refl; words = refl; returns_are = refl; words_long = refl; returns_long = refl }
 
-  pub reach_stuck : Reaches stuck values values returns returns s (staged s is_stuck s.node 0)
+  pub reach_stuck : Reaches stuck values values returns returns s (staged s Stuck s.node 0)
   unfolding stage_of words_of returns_of
   reach_stuck = record { stage = refl; words = refl; returns_are = refl; words_long = refl; returns_long = refl }
 
   -- a number is put on a value word
-  pub put_begin : (i y r : ℕ) → Reaches (begin r (state_of (set values i y) returns s)) values (set values i y) returns returns s (staged s to_begin r 0)
+  pub put_begin : (i y r : ℕ) → Reaches (begin r (state_of (set values i y) returns s)) values (set values i y) returns returns s (staged s Begin r 0)
   unfolding stage_of words_of returns_of
   put_begin i y r = record { stage = refl; words = refl; returns_are = refl; words_long = length-set values i y; returns_long = refl }
 
-  pub put_open : (i y r : ℕ) → Reaches (opens r (state_of (set values i y) returns s)) values (set values i y) returns returns s (staged s to_open r 0)
+  pub put_open : (i y r : ℕ) → Reaches (opens r (state_of (set values i y) returns s)) values (set values i y) returns returns s (staged s Open r 0)
   unfolding stage_of words_of returns_of
   put_open i y r = record { stage = refl; words = refl; returns_are = refl; words_long = length-set values i y; returns_long = refl }

@@ -4,29 +4,28 @@
 ghost use Rattle.std.specs.Prelude.{◌≡◌};
 ghost use Rattle.stages.specs.Inner.Stages.{staged};
 
-// The modes of a stage: a record is to begin, a record is finished, a call is to open; the run has
-// ended, the call would be one too many, the rows lead nowhere, or the operation has no result.
-pub const BEGIN: u32 = 0;
+// The numbers of records are below this limit.
+pub const RECORD_LIMIT: u16 = 2048;
 
-pub const FINISHED: u32 = 1;
+// What is to be done next: a record is to begin, a record is finished, a call is to open; the run
+// has ended, the call would be one too many, the rows lead nowhere, or the operation has no result.
+#[derive(Clone, Copy, Debug, PartialEq, Eq)]
+pub enum Mode {
+    Begin,
+    Finished,
+    Open,
+    Ended,
+    Deep,
+    Stuck,
+    Broken,
+}
 
-pub const OPEN: u32 = 2;
-
-pub const ENDED: u32 = 3;
-
-pub const DEEP: u32 = 4;
-
-pub const STUCK: u32 = 5;
-
-pub const BROKEN: u32 = 6;
-
-// What is to be done next (`mode`, `specs/Inner/Stages`), and with which record; the number found
-// where the record is finished; how many calls wait, and the offset of the frame's tree; a tree
-// that was passed, by its offset and its end (0 as long as there is none); how many bytes are
-// written.
-#[derive(Clone, Copy)]
+// What is to be done next, and with which record; the number found where the record is finished;
+// how many calls wait, and the offset of the frame's tree; a tree that was passed, by its offset
+// and its end (0 as long as there is none); how many bytes are written.
+#[derive(Clone, Copy, Debug, PartialEq, Eq)]
 pub struct Stage {
-    pub mode: u32,
+    pub mode: Mode,
     pub node: u16,
     pub number: u32,
     pub calls: u16,
@@ -36,18 +35,16 @@ pub struct Stage {
     pub written: usize,
 }
 
-// The same stage, with something else to be done next.
-pub fn staged_at(s: Stage, mode: u32, r: u16, number: u32) -> Stage
-    ensures { result ≡ staged s mode r number }
-{
-    Stage {
-        mode: mode,
-        node: r,
-        number: number,
-        calls: s.calls,
-        tree: s.tree,
-        known: s.known,
-        end: s.end,
-        written: s.written,
+impl Stage {
+    // The same stage, with something else to be done next.
+    pub fn at(self, mode: Mode, r: u16, number: u32) -> Stage
+        ensures { result ≡ staged self mode r number }
+    {
+        Stage {
+            mode,
+            node: r,
+            number,
+            ..self
+        }
     }
 }

@@ -1,25 +1,15 @@
--- Items counted and found, and entries: a law for each way out of the functions.
+-- Items found: a law for each way out of the function.
 use Prim.Native.Nat.{ℕ, suc, ◌-◌, ◌≤◌}
-use mathlib.Core.List.{List}
 use mathlib.Core.Logic.{◌≢◌}
-use mathlib.Core.Path.{◌≡◌, refl, sym, ap}
+use mathlib.Core.Path.{◌≡◌, refl}
 use native.Mathlib.Omega.{arith}
-use lib.ListN.{length, get_or, get_or-eq_default}
+use lib.ListN.{length}
 use Rattle.formats.specs.Inner.CodeColumn.{items_before}
 use Rattle.records.specs.Inner.Read.{row}
-use Rattle.records.specs.declared.Item.{Item}
 use Rattle.records.specs.declared.Items.{Items}
 use Rattle.records.specs.declared.Items.TheVariants.{None, One, Two}
 use Rattle.records.specs.declared.Template.{Template}
 use Rattle.template.specs.Inner.Items.{ItemsBefore}
-
--- ---- `entry_of`, `length_of`
-
-pub entry_past : (entries : List ℕ) (b : ℕ) → length entries ≤ b → 0 ≡ get_or entries b 0
-entry_past entries b over = sym (get_or-eq_default entries 0 over)
-
-pub length_two : (items : Items) (x y : Item) → items ≡ Two x y → 2 ≡ length (row items)
-length_two items x y case = ap (λ (k : Items). length (row k)) (sym case)
 
 -- ---- `items_before`
 

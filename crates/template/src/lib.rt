@@ -17,12 +17,13 @@ pub fn length_of(items: Items) -> usize
 {
     match items {
         Items::None => 0,
-        Items::One(x) => 1,
-        Items::Two(x, y) => 2,
+        Items::One(_) => 1,
+        Items::Two(_, _) => 2,
     }
 }
 
 // The items before part i.
+#[tactic(auto, using(crate::proofs::Items::before_ways))]
 pub fn items_before(template: Template, i: usize) -> Items
     ensures { ItemsBefore template i result }
 {
@@ -39,8 +40,5 @@ pub fn entry_of(entries: &[u16], b: u16) -> u16
     ensures { result ≡ entries_in entries.now b }
 {
     let k = b as usize;
-    if entries.len() <= k {
-        return NO_ENTRY;
-    }
-    entries[k]
+    entries.get(k).copied().unwrap_or(NO_ENTRY)
 }

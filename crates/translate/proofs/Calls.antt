@@ -5,7 +5,7 @@ use mathlib.Core.Path.{◌≡◌, sym, ap, ◌∙◌}
 use native.Mathlib.Omega.{arith}
 use lib.ListN.{length, take}
 use Rattle.formats.specs.Records.{record_bytes}
-use Rattle.formats.specs.Results.{done, verdict}
+use Rattle.formats.specs.Results.{done, verdict, refusal}
 use Rattle.formats.specs.Blocks.{flat_in, in_room}
 use Rattle.formats.specs.Inner.Blocks.{most_bytes}
 use Rattle.formats.proofs.Results.{Value, passed_is, refused_is, then_done, then_refused}
@@ -13,12 +13,9 @@ use Rattle.formats.proofs.Files.{within_room, within_short}
 use Rattle.refusal.specs.Inner.Numbers.{number}
 use Rattle.refusal.specs.Inner.FilledBuffer.{FilledBuffer}
 use Rattle.refusal.specs.Inner.Verdicts.{verdict_result}
-use Rattle.refusal.specs.declared.Refusal.{Refusal}
 use Rattle.refusal.specs.declared.Refusal.TheVariants.{SpaceTooShort}
-use Rattle.refusal.specs.declared.Verdict.{Verdict}
-use Rattle.refusal.specs.declared.Verdict.TheVariants as verdict_is
-use Rattle.refusal.specs.declared.Filled.{Filled}
-use Rattle.refusal.specs.declared.Filled.TheVariants.{Written, Refused}
+use Rattle.refusal.specs.declared.Refused.{Refused}
+use Rattle.std.specs.Prelude.{Result as Answer, Ok, Err}
 use Rattle.refusal.proofs.FilledBuffer.{put_refused, put_done}
 use Rattle.rules.specs.PassTwo.{check_records}
 use Rattle.block_reader.proofs.Taken.{not_taken, taken_out, taken_inside}
@@ -31,13 +28,13 @@ use Rattle.translate.proofs.Written.{length_bytes}
 
 -- ---- `translate_records`
 
-module _ (s code' : List ℕ) (checks : Verdict) (reported : verdict_result checks ≡ check_records s) where
-  pub records_refused : (why : Refusal) (position : ℕ) → checks ≡ verdict_is.Refused why position → FilledBuffer (translate_records (length code') s) code' code' (Refused why position)
+module _ (s code' : List ℕ) (checks : Answer (Unit {0}) Refused) (reported : verdict_result checks ≡ check_records s) where
+  pub records_refused : (r : Refused) → checks ≡ Err r → FilledBuffer (translate_records (length code') s) code' code' (Err r)
   unfolding translate_records
-  records_refused why position is =
-      put_refused _ code' why position (then_refused _ (refused_is (checked_records s) (number why) position (sym (as_checked s) ∙ sym reported ∙ ap verdict_result is)))
+  records_refused r is =
+      put_refused _ code' r (then_refused _ (refused_is (checked_records s) (number r.why) r.position (sym (as_checked s) ∙ sym reported ∙ ap verdict_result is)))
 
-  module _ (passes : checks ≡ verdict_is.Passed) where
+  module _ (u : Unit {0}) (passes : checks ≡ Ok u) where
     pub records_asked : verdict (checked_records s) ≡ done tt
     records_asked = sym (as_checked s) ∙ sym reported ∙ ap verdict_result passes
 
@@ -54,8 +51,8 @@ module _ (s code' : List ℕ) (checks : Verdict) (reported : verdict_result chec
       unfolding code_of
       long = length_bytes (operations_of the_program.value) ∙ ap (λ n. record_bytes * n) (sym (tabled.count the_program.value the_program.is))
 
-      pub records_short : length code' < record_bytes * t.count → FilledBuffer (translate_records (length code') s) code' code' (Refused SpaceTooShort 0)
-      records_short short = put_refused _ code' SpaceTooShort 0 (into ∙ within_short (length code') _ (omega (arith, long)))
+      pub records_short : length code' < record_bytes * t.count → (r : Refused) → r ≡ record { why = SpaceTooShort; position = 0 } → FilledBuffer (translate_records (length code') s) code' code' (Err r)
+      records_short short r is = put_refused _ code' r (into ∙ within_short (length code') _ (omega (arith, long)) ∙ ap (λ (x : Refused). refusal (number x.why) x.position) (sym is))
 
       pub records_ready : record_bytes * t.count ≤ length code' → CodeReady s t.entries code'
       records_ready room = record {
@@ -64,7 +61,7 @@ module _ (s code' : List ℕ) (checks : Verdict) (reported : verdict_result chec
         room = λ program e. omega (arith, tabled.count program e);
       }
 
-      pub records_emitted : (after : List ℕ) → record_bytes * t.count ≤ length code' → EmitsAll s code' after → FilledBuffer (translate_records (length code') s) code' after (Written (record_bytes * t.count))
+      pub records_emitted : (after : List ℕ) → record_bytes * t.count ≤ length code' → EmitsAll s code' after → FilledBuffer (translate_records (length code') s) code' after (Ok (record_bytes * t.count))
       records_emitted after room l =
           put_done _ code' after (code_of the_program.value) (record_bytes * t.count) (into ∙ within_room (length code') _ (omega (arith, long))) long (l.is the_program.value the_program.is)
 
@@ -72,12 +69,12 @@ pub ruleset records_ways = (records_refused, records_asked, records_short, recor
 
 -- ---- `translate_file`
 
-module _ (s space : List ℕ) (size : length space ≡ most_bytes) (after : List ℕ) (taken : Filled) (put : FilledBuffer (flat_in s) space after taken) where
-  pub file_refused : (before : List ℕ) (why : Refusal) (position : ℕ) → taken ≡ Refused why position → FilledBuffer (translate_file (length before) s) before before (Refused why position)
+module _ (s space : List ℕ) (size : length space ≡ most_bytes) (after : List ℕ) (taken : Answer ℕ Refused) (put : FilledBuffer (flat_in s) space after taken) where
+  pub file_refused : (before : List ℕ) (r : Refused) → taken ≡ Err r → FilledBuffer (translate_file (length before) s) before before (Err r)
   unfolding translate_file
-  file_refused before why position is = put_refused _ before why position (then_refused (translate_records (length before)) (not_taken s space size after taken put why position is))
+  file_refused before r is = put_refused _ before r (then_refused (translate_records (length before)) (not_taken s space size after taken put r is))
 
-  pub file_put : (before last : List ℕ) (bytes : ℕ) (filled : Filled) → taken ≡ Written bytes → FilledBuffer (translate_records (length before) (take bytes after)) before last filled
+  pub file_put : (before last : List ℕ) (bytes : ℕ) (filled : Answer ℕ Refused) → taken ≡ Ok bytes → FilledBuffer (translate_records (length before) (take bytes after)) before last filled
       → FilledBuffer (translate_file (length before) s) before last filled
   unfolding translate_file
   file_put before last bytes filled is p =

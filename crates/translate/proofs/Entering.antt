@@ -13,12 +13,10 @@ use Rattle.formats.specs.Inner.Fields.{arity_in, node_in}
 use Rattle.formats.proofs.Results.{done_injective, then_inv}
 use Rattle.formats.proofs.Programs.{some_record}
 use Rattle.records.specs.Inner.Read.{Shape as ShapeRead, listed, part_of, column_of, described, shape_of, shaped}
-use Rattle.records.specs.declared.Record.{Record}
 use Rattle.records.specs.declared.Part.{Part as PartRead}
-use Rattle.records.specs.declared.Parts.{Parts}
-use Rattle.records.specs.declared.Template.{Template}
-use Rattle.records.specs.declared.RecordRead.{RecordRead}
-use Rattle.records.specs.declared.RecordRead.TheVariants.{Read}
+use Rattle.records.specs.declared.Described.{Described}
+use Rattle.refusal.specs.declared.Refused.{Refused}
+use Rattle.std.specs.Prelude.{Result as Answer, Ok}
 use Rattle.rules.specs.Types.{Ty, result_type}
 use Rattle.rules.specs.Scopes.{scope, inside, part_scope, entry, entered}
 use Rattle.rules.specs.PassOne.{words_tested, at_entry, pass_over}
@@ -78,24 +76,24 @@ agrees under_trees i x g n = record { numbers = g; trees = suc (suc n); is = ref
 
 -- ---- from an expression to its parts
 
-module _ {s : List ℕ} {k end : ℕ} {c : Scope} {e : Expr} (read : RecordRead) (node : Record) (parts : Parts) (template : Template) (count : ℕ)
-    (reported : described read ≡ on_value shape_of (node_in s k)) (is : read ≡ Read node parts template)
-    (counted : count ≡ part_count (arity_in s) (listed parts)) (h : Entering s k end c e) where
+module _ {s : List ℕ} {k end : ℕ} {c : Scope} {e : Expr} (found : Answer Described Refused) (read : Described) (count : ℕ)
+    (reported : described found ≡ on_value shape_of (node_in s k)) (is : found ≡ Ok read)
+    (counted : count ≡ part_count (arity_in s) (listed read.parts)) (h : Entering s k end c e) where
   -- what is read is the expression's own record
-  own_shape : shaped node parts template ≡ shape_of (head_of e)
+  own_shape : shaped read ≡ shape_of (head_of e)
   own_shape = done_injective (ap described (sym is) ∙ reported ∙ ap (on_value shape_of) (node_held s h.here.signed k e h.here.holds))
 
-  pub own_parts : listed parts ≡ parts_of (head_of e)
+  pub own_parts : listed read.parts ≡ parts_of (head_of e)
   own_parts = ap (λ (x : ShapeRead). x.parts) own_shape
 
-  pub own_template : column_of template ≡ template_of (head_of e)
+  pub own_template : column_of read.template ≡ template_of (head_of e)
   own_template = ap (λ (x : ShapeRead). x.template) own_shape
 
   pub own_count : length (parts_at k e) ≡ part_count (arity_in s) (parts_of (head_of e))
   own_count = parts_counted s h.here.signed k e h.here.known h.here.holds
 
   -- its parts are entered
-  pub parts_entered : k < end → EnteringParts s (record { parts = parts; template = template; count = count }) 0 (k + 1) end c (parts_at k e) (k + size e)
+  pub parts_entered : k < end → EnteringParts s (record { read = read; count = count }) 0 (k + 1) end c (parts_at k e) (k + size e)
   parts_entered more =
       let sc = scope h.numbers h.trees c.standing (result_type (sort_of c.tree)) in
       let below = then_inv (at_entry h.here.signed (entry sc k (head_of e))) _ tt (sym (pass-parts h.here.signed sc k e) ∙ h.passes) in
@@ -142,7 +140,7 @@ module _ {s : List ℕ} {shape : Shape} {i k end m : ℕ} {c : Scope} {j : ℕ} 
   ends_by : k + size e ≤ m
   ends_by = row_upto (row_others h.here.row)
 
-  module _ (part : PartRead) (inner : Scope) (is_part : part_of part ≡ nth_part (listed shape.parts) i) (is : inner ≡ inside_scope (part_of part) i c) where
+  module _ (part : PartRead) (inner : Scope) (is_part : part_of part ≡ nth_part (listed shape.read.parts) i) (is : inner ≡ inside_scope (part_of part) i c) where
     -- the part read is that of the record's kind, and its scope is the expected one
     own_part : part_of part ≡ own
     own_part = is_part ∙ ap (λ ps. nth_part ps i) h.from.own
@@ -151,7 +149,7 @@ module _ {s : List ℕ} {shape : Shape} {i k end m : ℕ} {c : Scope} {j : ℕ} 
     scope_entered = rw (is ∙ ap (λ p. inside_scope p i c) own_part) (enters own i c enterable)
 
     -- the same, with the parts as they were read
-    pub around_part : around_of inner ≡ part_around (nth_part (listed shape.parts) i) i (around_of c)
+    pub around_part : around_of inner ≡ part_around (nth_part (listed shape.read.parts) i) i (around_of c)
     around_part = scope_entered.is ∙ sym (ap (λ ps. part_around (nth_part ps i) i (around_of c)) h.from.own)
 
     -- the first part is entered

@@ -23,6 +23,9 @@ use Rattle.translation.proofs.Addresses.{length_code}
 use Rattle.code_scope.specs.Inner.Around.{Around, around, sort_of, words_in, most_names}
 use Rattle.template.specs.Inner.Items.{entries_in}
 use Rattle.code_scope.specs.declared.Scope.{Scope}
+use Rattle.instruction.specs.declared.Instruction.{Instruction}
+use Rattle.instruction.specs.declared.Opcode.TheVariants as o
+use Rattle.instruction.specs.Inner.Opcodes.{number_of}
 use Rattle.translate.specs.declared.Emitted.{Emitted}
 use Rattle.translate.specs.Inner.Emitting.{emitted_at}
 use Rattle.translate.specs.Inner.Walk.{Small, Entering, Emits, start_around, Starts, EnteringFunction, EmitsFunction}
@@ -50,32 +53,32 @@ unfolding sort_number
 sorted n number_valued e = ap (λ k. sort_of (eqb k 1)) e
 sorted n tree_valued e = ap (λ k. sort_of (eqb k 1)) e
 
-pub started : (s : List ℕ) (j m n : ℕ) → m ≡ arity_in s j → n ≡ sort_in s j
-    → Starts s j (record { words = rising; names = m; standing = m; tree = eqb n 1 })
+pub started : (s : List ℕ) (j m : ℕ) (tree : Bool) → m ≡ arity_in s j → tree ≡ eqb (sort_in s j) 1
+    → Starts s j (record { words = rising; names = m; standing = m; tree = tree })
 unfolding words_in signature_of
-started s j m n em en = record {
+started s j m tree em et = record {
   begins = record { is = λ f known few. begun f (function_read s j (signature_of f) known) few };
   table = refl;
   named = record { few = omega arith };
 }
   where
     begun : (f : Function) → FieldsRead s j (signature_of f) → f.parameters ≤ parameters_of_any
-        → around (sort_of (eqb n 1)) (from_last rising (min m most_names)) m ≡ start_around f
+        → around (sort_of tree) (from_last rising (min m most_names)) m ≡ start_around f
     begun f g few =
         let same : m ≡ f.parameters = em ∙ sym g.arity in
         let least : min m most_names ≡ f.parameters = omega arith in
         let words : from_last rising (min m most_names) ≡ first_words f.parameters = ap (from_last rising) least ∙ first-words f.parameters few in
-        ap₂ (λ x y. around x y m) (sorted n f.sort (en ∙ sym g.sort)) words ∙ ap (around f.sort (first_words f.parameters)) same
+        ap₂ (λ x y. around x y m) (ap sort_of et ∙ sorted (sort_in s j) f.sort (sym g.sort)) words ∙ ap (around f.sort (first_words f.parameters)) same
 
 -- ---- `words_kept`
 
 pub kept_tree : (tree : Bool) → tree ≡ true → 0 ≡ words_kept (sort_of tree)
 unfolding words_kept
-kept_tree tree e = rw (e, words_kept)
+kept_tree _ e = rw (e, words_kept)
 
 pub kept_number : (tree : Bool) → tree ≡ false → 1 ≡ words_kept (sort_of tree)
 unfolding words_kept
-kept_number tree e = rw (e, words_kept)
+kept_number _ e = rw (e, words_kept)
 
 pub ruleset kept = (kept_tree, kept_number)
 
@@ -99,11 +102,12 @@ module _ (s entries code' : List ℕ) (entry j k end : ℕ) (c : Scope) (starts 
         words = omega (arith, small.inside.few, h.few_parameters);
       }
 
-  pub function_emitted : (n : ℕ) (after : List ℕ) → n ≡ words_kept (sort_of c.tree)
-      → after ≡ written between (record_bytes * body.at) (bytes_of_record (fields 13 n 0 0))
+  pub function_emitted : (n : ℕ) (x : Instruction) (after : List ℕ) → n ≡ words_kept (sort_of c.tree)
+      → x ≡ record { opcode = o.Return; byte1 = 0; operand = 0; number = 0 }
+      → after ≡ written between (record_bytes * body.at) (bytes_of_record (fields (number_of x.opcode) n x.operand x.number))
       → EmitsFunction s entries code' after entry j k end (record { next = body.next; at = body.at + 1; last = 0 })
   unfolding function_code function_end instruction_of
-  function_emitted n after keeps wrote = record {
+  function_emitted n x after keeps plain wrote = record {
     went_on = record {
       went = l.went_on.went;
       up = omega arith;
@@ -121,6 +125,7 @@ module _ (s entries code' : List ℕ) (entry j k end : ℕ) (c : Scope) (starts 
         ∙ ap₂ (λ (x : Around) a. emitted_at code' 0 (code (entries_in entries) x.sort x.words x.standing a f.body)) is (add-zero entry) in
         let long : body.at ≡ 0 + length own = omega (arith, address f h, length_code (entries_in entries) f.sort (first_words f.parameters) f.parameters entry f.body) in
         wrote
+        ∙ ap (λ (y : Instruction). written between (record_bytes * body.at) (bytes_of_record (fields (number_of y.opcode) n y.operand y.number))) plain
         ∙ ap (λ m. written between (record_bytes * body.at) (bytes_of_record (fields 13 m 0 0))) (keeps ∙ ap words_kept sort)
         ∙ emitted_one between body.at (Return (words_kept f.sort))
         ∙ ap (λ (b : List ℕ). emitted_at b body.at (Return (words_kept f.sort) ∷ [])) first
@@ -129,6 +134,3 @@ module _ (s entries code' : List ℕ) (entry j k end : ℕ) (c : Scope) (starts 
     where
       address : (f : Function) → EnteringFunction s j k end f → entry + body.at ≡ code_end f.body entry
       address f h = (l.came f.body (body_entered f h)).address ∙ ap (code_end f.body) (add-zero entry)
-
-pub body_asked : (k end entry : ℕ) → Small k end entry 0 1 → Small k end entry 0 0
-body_asked k end entry small = record { inside = small.inside; base_small = small.base_small; small = omega (arith, small.small) }

@@ -6,8 +6,6 @@ use native.Mathlib.Decide.{dec_le}
 use native.Mathlib.Nat.{zero-add}
 use native.Mathlib.Omega.{arith}
 use borrow.Author.Rules.{rules}
-use mir.Syntax.{w64}
-use mir.Val.{Fits}
 use lib.ListN.{length, get_or, set, take, drop, length-drop, length-set, drop_of_length-le}
 use lib.Seq.{get_or-set_same, get_or-set_other, take_all, drop-drop}
 use Rattle.formats.specs.Numbers.{Bytes}
@@ -149,9 +147,6 @@ module _ (s : List ℕ) (functions end : ℕ) (entries : List ℕ) (k entry j : 
       follow : (program : Program) (e : checked_records s ≡ done program) → Following s end program k j entry (m.standing program e).before r
       follow program e = following s no_entries no_code after end program k j entry (m.standing program e) r (omega (arith, m.counts.functions_are program e)) l
 
-  pub measure_sum : (no_entries no_code after : List ℕ) (r : Emitted) → j < functions → EmitsFunction s no_entries no_code after entry j k end r → Fits w64 (entry + r.at)
-  measure_sum no_entries no_code after r more l = record { fits = omega (arith, m.small, l.went_on.small) }
-
   pub measured : functions ≤ j → Tabled s (record { entries = entries; count = entry })
   unfolding operations_of
   measured over = record {
@@ -163,7 +158,7 @@ module _ (s : List ℕ) (functions end : ℕ) (entries : List ℕ) (k entry j : 
     small = omega (arith, m.small);
   }
 
-pub ruleset measuring = (measure_first, measure_asked, measure_index, measure_more, measure_sum, measured, rules)
+pub ruleset measuring = (measure_first, measure_asked, measure_index, measure_more, measured, rules)
 
 -- ---- `emit_all`
 
@@ -331,10 +326,4 @@ module _ (s entries : List ℕ) (functions end : ℕ) (code₀ code : List ℕ) 
         let rest : drop n (drop p code) ≡ [] = drop_of_length-le (drop p code) {i = n} (omega arith) in
         rw (rest, append-nil) (emitted_on after r (rw part at f))
 
-  -- the buffer keeps its length
-  pub all_length : length code ≡ length code₀
-  all_length =
-      let v = passed_is (checked_records s) l.ready.checked in
-      ap length (l.up_to v.value v.is).emitted ∙ length_emitted code₀ 0 _
-
-pub ruleset emitting_all = (all_first, all_room, all_asked, all_more, all_length, all_emitted, rules)
+pub ruleset emitting_all = (all_first, all_room, all_asked, all_more, all_emitted, rules)

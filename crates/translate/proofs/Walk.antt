@@ -17,15 +17,13 @@ use Rattle.formats.specs.Programs.{Expr, size, Placed, parts_at, placed_at as pl
 use Rattle.formats.specs.Inner.Fields.{arity_in, node_in}
 use Rattle.formats.proofs.Results.{done_not}
 use Rattle.formats.proofs.Programs.{some_record}
-use Rattle.refusal.specs.declared.Refusal.{Refusal}
+use Rattle.refusal.specs.declared.Refused.{Refused}
+use Rattle.std.specs.Prelude.{Result as Answer, Ok, Err}
 use Rattle.records.specs.Inner.Read.{listed, part_of, row, column_of, described, shape_of}
-use Rattle.records.specs.declared.Record.{Record}
 use Rattle.records.specs.declared.Items.{Items}
 use Rattle.records.specs.declared.Part.{Part}
-use Rattle.records.specs.declared.Parts.{Parts}
 use Rattle.records.specs.declared.Template.{Template}
-use Rattle.records.specs.declared.RecordRead.{RecordRead}
-use Rattle.records.specs.declared.RecordRead.TheVariants.{Read, Refused}
+use Rattle.records.specs.declared.Described.{Described}
 use Rattle.walks.specs.Inner.Standing.{head_of, Row, end as no_part, next as a_part}
 use Rattle.walks.proofs.Walks.{node_held}
 use Rattle.meaning.specs.Instructions.{Operation}
@@ -67,10 +65,10 @@ module _ (s entries code' : List ℕ) (base at k end : ℕ) (c : Scope) where
     emits = λ e h. absurd (omega (arith, some_record e, h.here.fits));
   }
 
-  module _ (read : RecordRead) (reported : described read ≡ on_value shape_of (node_in s k)) where
+  module _ (found : Answer Described Refused) (reported : described found ≡ on_value shape_of (node_in s k)) where
     -- no expression begins with a record that is refused
-    pub emit_unread : (why : Refusal) (position : ℕ) → Small k end base at 0 → read ≡ Refused why position → Emits s entries code' code' base at k end c stays
-    emit_unread why position small is = record {
+    pub emit_unread : (why : Refused) → Small k end base at 0 → found ≡ Err why → Emits s entries code' code' base at k end c stays
+    emit_unread why small is = record {
       went_on = stayed small;
       came = λ e h. never e h;
       emits = λ e h. never e h;
@@ -79,13 +77,13 @@ module _ (s entries code' : List ℕ) (base at k end : ℕ) (c : Scope) where
         never : {A : Type 0} (e : Expr) → Entering s k end c e → A
         never e h = done_not (reported ∙ ap (on_value shape_of) (node_held s h.here.signed k e h.here.holds)) (ap described is)
 
-    pub emit_read : (node : Record) (parts : Parts) (template : Template) (count : ℕ) (after : List ℕ) (r : Emitted)
-        → read ≡ Read node parts template
-        → count ≡ part_count (arity_in s) (listed parts)
+    pub emit_read : (read : Described) (count : ℕ) (after : List ℕ) (r : Emitted)
+        → found ≡ Ok read
+        → count ≡ part_count (arity_in s) (listed read.parts)
         → k < end
-        → EmitsParts s entries code' after base at at (record { parts = parts; template = template; count = count }) 0 (k + 1) end c r
+        → EmitsParts s entries code' after base at at (record { read = read; count = count }) 0 (k + 1) end c r
         → Emits s entries code' after base at k end c r
-    emit_read node parts template count after r is counted more l = record {
+    emit_read read count after r is counted more l = record {
       went_on = record {
         went = record { on = omega (arith, l.went_on.went.on); inside = l.went_on.went.inside };
         up = l.went_on.up;
@@ -94,26 +92,26 @@ module _ (s entries code' : List ℕ) (base at k end : ℕ) (c : Scope) where
       };
       came = λ e h. record { next = (finished e h).next; address = whole e h };
       emits = λ e h room.
-          let many = own_count read node parts template count reported is counted h in
+          let many = own_count found read count reported is counted h in
           let last : base + r.last ≡ last_part (template_of (head_of e)) (base + at) 0 (base + at) (parts_at k e) =
           (finished e h).last-part ∙ ap (λ t. last_part t (base + at) 0 (base + at) (parts_at k e)) (own_column e h) in
           l.emits (parts_at k e) (k + size e) (entered_parts e h) room
           ∙ ap (emitted_at code' at)
           (ap₂ (λ q t. parts_code (entries_in entries) (arity_in s) q t (around_of c) (base + r.last) (base + r.at) 0 (base + at) (parts_at k e))
-          (own_parts read node parts template count reported is counted h)
+          (own_parts found read count reported is counted h)
           (own_column e h)
           ∙ ap₂ (λ x y. parts_code (entries_in entries) (arity_in s) (parts_of (head_of e)) (template_of (head_of e)) (around_of c) x y 0 (base + at) (parts_at k e)) last (whole e h)
           ∙ sym (by_column (entries_in entries) (arity_in s) (sort_of c.tree) (words_in c) c.standing (base + at) k e many));
     }
       where
-        entered_parts : (e : Expr) → Entering s k end c e → EnteringParts s (record { parts = parts; template = template; count = count }) 0 (k + 1) end c (parts_at k e) (k + size e)
-        entered_parts e h = parts_entered read node parts template count reported is counted h more
+        entered_parts : (e : Expr) → Entering s k end c e → EnteringParts s (record { read = read; count = count }) 0 (k + 1) end c (parts_at k e) (k + size e)
+        entered_parts e h = parts_entered found read count reported is counted h more
 
-        finished : (e : Expr) → Entering s k end c e → CameParts base at at (column_of template) 0 (parts_at k e) (k + size e) r
+        finished : (e : Expr) → Entering s k end c e → CameParts base at at (column_of read.template) 0 (parts_at k e) (k + size e) r
         finished e h = l.came (parts_at k e) (k + size e) (entered_parts e h)
 
-        own_column : (e : Expr) → Entering s k end c e → column_of template ≡ template_of (head_of e)
-        own_column e h = own_template read node parts template count reported is counted h
+        own_column : (e : Expr) → Entering s k end c e → column_of read.template ≡ template_of (head_of e)
+        own_column e h = own_template found read count reported is counted h
 
         whole : (e : Expr) → Entering s k end c e → base + r.at ≡ code_end e (base + at)
         whole e h = (finished e h).address ∙ ap (λ t. beyond_parts t 0 (base + at) (parts_at k e)) (own_column e h) ∙ beyond_column (base + at) k e
@@ -137,38 +135,38 @@ split {s} {shape} {i} {k} {end} {m} {c} {ps} h = by ps m h.here.row h
 module _ (s entries code' : List ℕ) (base at last : ℕ) (shape : Shape) (i k end : ℕ) (c : Scope) where
   -- the parts are finished: the last items are emitted
   pub parts_done : (n : ℕ) (after : List ℕ) → SmallParts i k end base at last → shape.count ≤ i
-      → n ≡ length (row shape.template.last)
-      → after ≡ put_all code' at (operations_for s entries c (base + last) (base + (at + n)) (row shape.template.last))
+      → n ≡ length (row shape.read.template.last)
+      → after ≡ put_all code' at (operations_for s entries c (base + last) (base + (at + n)) (row shape.read.template.last))
       → EmitsParts s entries code' after base at last shape i k end c (record { next = k; at = at + n; last = last })
   unfolding beyond_parts last_part parts_code
   parts_done n after small over many wrote = record {
     went_on = record {
       went = record { on = le_refl k; inside = small.small.inside.before_end };
       up = omega arith;
-      small = omega (arith, few_items shape.template.last);
+      small = omega (arith, few_items shape.read.template.last);
       last_small = small.last_small;
     };
     came = λ ps m h. came (split h);
     emits = λ ps m h room. emits (split h) room;
   }
     where
-      came : {ps : List Placed} {m : ℕ} → Split s shape i k end c ps m → CameParts base at last (column_of shape.template) i ps m (record { next = k; at = at + n; last = last })
+      came : {ps : List Placed} {m : ℕ} → Split s shape i k end c ps m → CameParts base at last (column_of shape.read.template) i ps m (record { next = k; at = at + n; last = last })
       came (none h) = record {
         next = refl;
-        address = omega (arith, past_length (row shape.template.last) (base + at));
+        address = omega (arith, past_length (row shape.read.template.last) (base + at));
         last-part = refl;
       }
       came (some h) = absurd (omega (arith, h.from.left))
 
       emits : {ps : List Placed} {m : ℕ} → Split s shape i k end c ps m → record_bytes * (at + n) ≤ length code'
-          → after ≡ emitted_at code' at (parts_code (entries_in entries) (arity_in s) (listed shape.parts) (column_of shape.template) (around_of c) (base + last) (base + (at + n)) i (base + at) ps)
+          → after ≡ emitted_at code' at (parts_code (entries_in entries) (arity_in s) (listed shape.read.parts) (column_of shape.read.template) (around_of c) (base + last) (base + (at + n)) i (base + at) ps)
       emits (none h) room =
           let f = operation_for (entries_in entries) (arity_in s) (around_of c) (base + last) (base + (at + n)) in
-          wrote ∙ emitted_each code' at (map f (row shape.template.last)) (omega (arith, length-map (row shape.template.last) f))
+          wrote ∙ emitted_each code' at (map f (row shape.read.template.last)) (omega (arith, length-map (row shape.read.template.last) f))
       emits (some h) room = absurd (omega (arith, h.from.left))
 
   module _ (items : Items) (n : ℕ) (part : Part) (inner : Scope) (emitted : Emitted) (between : List ℕ)
-      (before_it : ItemsBefore shape.template i items) (many : n ≡ length (row items)) (is_part : part_of part ≡ nth_part (listed shape.parts) i)
+      (before_it : ItemsBefore shape.read.template i items) (many : n ≡ length (row items)) (is_part : part_of part ≡ nth_part (listed shape.read.parts) i)
       (inside : inner ≡ inside_scope (part_of part) i c) (p : Emits s entries code' between base (at + n) k end inner emitted) (small : SmallParts i k end base at last) (more : i < shape.count) where
     -- a part that is not entered: this does not happen where a part stands there
     pub parts_stuck : emitted.next ≤ k → EmitsParts s entries code' between base at last shape i k end c emitted
@@ -204,10 +202,10 @@ module _ (s entries code' : List ℕ) (base at last : ℕ) (shape : Shape) (i k 
     }
       where
         parts_read : PartsOfKind
-        parts_read = listed shape.parts
+        parts_read = listed shape.read.parts
 
         t : TemplateOfKind
-        t = column_of shape.template
+        t = column_of shape.read.template
 
         es : ℕ → ℕ
         es = entries_in entries
@@ -311,7 +309,7 @@ module _ (k end base at i last : ℕ) (small : SmallParts i k end base at last) 
   pub sum_rest_last : (j from due : ℕ) (rest : Emitted) → WentOn j end from due rest → Fits w64 (base + rest.last)
   sum_rest_last j from due rest went_on = record { fits = omega (arith, small.small.base_small, went_on.last_small) }
 
-  pub sum_rest_at : (shape : Shape) (items : Items) (n : ℕ) (part rest : Emitted) → ItemsBefore shape.template i items → n ≡ length (row items) → WentOn k end (at + n) 0 part
+  pub sum_rest_at : (shape : Shape) (items : Items) (n : ℕ) (part rest : Emitted) → ItemsBefore shape.read.template i items → n ≡ length (row items) → WentOn k end (at + n) 0 part
       → WentOn part.next end part.at (due_from (i + 1)) rest → Fits w64 (base + rest.at)
   sum_rest_at shape items n part rest before_it many went on =
       record { fits = omega (arith, small.small.small, small.small.base_small, before_it.few, went.small, on.small) }

@@ -15,7 +15,7 @@ pub fn translate(file: &[u8], code: &mut [u8], answer: &mut [u64]) -> u32
         code.old code.new answer.old answer.new result }
 {
     if !answers::has_room(answer) {
-        return refusal::number_of(Refusal::SpaceTooShort);
+        return u32::from(Refusal::SpaceTooShort);
     }
     let filled = translate::translate_file(file, code);
     answers::report(filled, answer)

@@ -12,12 +12,11 @@ use Rattle.formats.specs.Measures.{Measures, first_measures}
 use Rattle.formats.specs.Inner.Trees.{leaf_bytes, measures_at, measures_by}
 use Rattle.formats.proofs.Tokens.{at_leaf}
 use Rattle.formats.proofs.Endings.{end_leaf, measures_first, end_within, own_ends, own_stops}
-use Rattle.refusal.specs.declared.Refusal.{Refusal}
+use Rattle.refusal.specs.declared.Refused.{Refused}
 use Rattle.refusal.specs.Inner.Numbers.{number}
 use Rattle.tree.specs.Inner.TreeResults.{measured, tree_result}
 use Rattle.tree.specs.declared.Measures.{Measures as Found}
-use Rattle.tree.specs.declared.TreeAnswer.{TreeAnswer}
-use Rattle.tree.specs.declared.TreeAnswer.TheVariants.{Tree, Refused}
+use Rattle.std.specs.Prelude.{Result as Answer, Ok, Err}
 
 -- ---- `tree_answer`
 
@@ -34,14 +33,14 @@ pub ruleset answers_first = (first_leaf, first_walked)
 
 -- ---- `first_tree`
 
-module _ (s : List ℕ) (found : TreeAnswer) (reported : tree_result found ≡ first_measures s) where
-  pub found_within : (m : Found) → found ≡ Tree m → m.bytes ≤ length s
+module _ (s : List ℕ) (found : Answer Found Refused) (reported : tree_result found ≡ first_measures s) where
+  pub found_within : (m : Found) → found ≡ Ok m → m.bytes ≤ length s
   found_within m case = end_within s (measured m) (sym reported ∙ ap tree_result case)
 
-  pub own_found : (m : Found) → Bytes s → found ≡ Tree m → take m.bytes s ≡ own_bytes (first_tree s)
+  pub own_found : (m : Found) → Bytes s → found ≡ Ok m → take m.bytes s ≡ own_bytes (first_tree s)
   own_found m bs case = own_ends s (measured m) bs (sym reported ∙ ap tree_result case)
 
-  pub own_none : (why : Refusal) (position : ℕ) → found ≡ Refused why position → [] ≡ own_bytes (first_tree s)
-  own_none why position case = own_stops s (number why) position (sym reported ∙ ap tree_result case)
+  pub own_none : (r : Refused) → found ≡ Err r → [] ≡ own_bytes (first_tree s)
+  own_none r case = own_stops s (number r.why) r.position (sym reported ∙ ap tree_result case)
 
 pub ruleset first_found = (found_within, own_found, own_none)

@@ -9,10 +9,14 @@ use native.Mathlib.Numerals.{add-one}
 use native.Mathlib.Omega.{arith}
 use lib.ListN.{length, get_or, set, length-set}
 use lib.Seq.{get_or-set_same, get_or-set_other}
-use Rattle.formats.specs.Refusals.{input_ended, not_a_tag, too_deep}
+use Rattle.formats.specs.Refusals.{input_ended}
 use Rattle.formats.specs.Tokens.{leaf_tag, node_tag, most_depth}
+use Rattle.formats.specs.Measures.{Measures}
 use Rattle.formats.specs.Inner.Trees.{Ending, end_at, measures_at, measures_by}
 use Rattle.formats.specs.Results.{Result, done, refusal, and_then, on_value}
+use Rattle.refusal.specs.declared.Refusal.TheVariants.{InputEnded, NotATag, TooDeep}
+use Rattle.refusal.specs.declared.Refused.{Refused}
+use Rattle.refusal.specs.Inner.Numbers.{number}
 use Rattle.formats.proofs.Tokens.{past, at_leaf, at_node, at_other}
 use Rattle.formats.proofs.Endings.{end_past, end_other, end_leaf, end_cut, end_deep, end_node}
 
@@ -102,6 +106,10 @@ one_comes {marks} (next d ds low m) some =
 
 -- ---- the ways through the loop
 
+-- a refusal and its position, as the walk answers them
+abbrev told : Refused → Result Measures
+told r = refusal (number r.why) r.position
+
 pub walk_first : (width : ℕ) (s marks : List ℕ) → length marks ≡ most_depth → Walking width s marks 0 0 0 0
 walk_first width s marks table =
     record { within = zero-le; table = table; shallow = zero-le; inside = zero-le; to_come = []; marked = none; whole = goes_last width s _ }
@@ -133,20 +141,22 @@ module _ (width : ℕ) (s marks : List ℕ) (above above_next deepest at : ℕ) 
   walk_stops n q e =
       ap (on_value (measures_at width)) (sym (goes_refused width s w.to_come n q) ∙ ap (go_on width s w.to_come) (sym e) ∙ w.whole)
 
-  pub walk_past : length s ≤ at → refusal input_ended at ≡ measures_by width s
-  walk_past h = walk_stops _ _ (end_past width _ above deepest (past h))
+  pub walk_past : (r : Refused) → r ≡ record { why = InputEnded; position = at } → length s ≤ at → refusal (number r.why) r.position ≡ measures_by width s
+  walk_past r is h = ap told is ∙ walk_stops _ _ (end_past width _ above deepest (past h))
 
-  pub walk_deep : at < length s → get_or s at 0 ≡ node_tag → above ≡ most_depth → refusal too_deep at ≡ measures_by width s
-  walk_deep there is full =
+  pub walk_deep : (r : Refused) → r ≡ record { why = TooDeep; position = at } → at < length s → get_or s at 0 ≡ node_tag → above ≡ most_depth
+      → refusal (number r.why) r.position ≡ measures_by width s
+  walk_deep r refused there is full =
       let no_room : most_depth - above ≡ 0 = omega arith in
-      walk_stops _ _ (ap (λ (n : ℕ). end_at width n above s at deepest) no_room ∙ end_deep width above deepest (at_node there is))
+      ap told refused ∙ walk_stops _ _ (ap (λ (n : ℕ). end_at width n above s at deepest) no_room ∙ end_deep width above deepest (at_node there is))
 
-  pub walk_other : at < length s → get_or s at 0 ≢ node_tag → get_or s at 0 ≢ leaf_tag → refusal not_a_tag at ≡ measures_by width s
-  walk_other there nn nl = walk_stops _ _ (end_other width _ above deepest (at_other there nl nn))
+  pub walk_other : (r : Refused) → r ≡ record { why = NotATag; position = at } → at < length s → get_or s at 0 ≢ node_tag → get_or s at 0 ≢ leaf_tag
+      → refusal (number r.why) r.position ≡ measures_by width s
+  walk_other r refused there nn nl = ap told refused ∙ walk_stops _ _ (end_other width _ above deepest (at_other there nl nn))
 
-  pub walk_cut : (whole : ℕ) → at < length s → get_or s at 0 ≡ leaf_tag → whole ≡ length s - width → whole ≤ at
-      → refusal input_ended (at + 1) ≡ measures_by width s
-  walk_cut whole there is last cut = ap (refusal input_ended) (add-one at) ∙ walk_stops _ _ (end_cut width _ above deepest (at_leaf there is) (omega arith))
+  pub walk_cut : (r : Refused) (whole : ℕ) → r ≡ record { why = InputEnded; position = at + 1 } → at < length s → get_or s at 0 ≡ leaf_tag → whole ≡ length s - width → whole ≤ at
+      → refusal (number r.why) r.position ≡ measures_by width s
+  walk_cut r whole refused there is last cut = ap told refused ∙ ap (refusal input_ended) (add-one at) ∙ walk_stops _ _ (end_cut width _ above deepest (at_leaf there is) (omega arith))
 
   -- a leaf that ends
   module _ (whole : ℕ) (there : at < length s) (is : get_or s at 0 ≡ leaf_tag) (last : whole ≡ length s - width) (fits : at < whole) where

@@ -1,33 +1,40 @@
--- A law for each way out of `tree`.
+-- The law of `tree`.
 use Prim.Native.Nat.{ℕ}
 use mathlib.Core.List.{List}
-use mathlib.Core.Path.{◌≡◌, sym, ap, subst, ◌∙◌}
+use mathlib.Core.Path.{◌≡◌, refl, subst}
+use Rattle.std.specs.Prelude.{Result as Answer, Ok, Err}
+use Rattle.std.specs.Result.{ResultUnwrapsOrElse}
 use Rattle.formats.specs.Measures.{Measures, no_measures, measures_or0}
 use Rattle.formats.specs.Results.{Result, done, refusal}
-use Rattle.refusal.specs.declared.Refusal.{Refusal}
+use Rattle.refusal.specs.Inner.Answered.{answered}
 use Rattle.refusal.specs.Inner.Numbers.{number}
+use Rattle.refusal.specs.declared.Refused.{Refused}
 use Rattle.tree.specs.Inner.TreeResults.{measured, tree_result}
 use Rattle.tree.specs.declared.Measures.{Measures as Found}
-use Rattle.tree.specs.declared.TreeAnswer.{TreeAnswer}
-use Rattle.tree.specs.declared.TreeAnswer.TheVariants.{Tree, Refused}
 use Rattle.answers.specs.Slots.{refusal_of, position_of}
 use Rattle.answers.specs.Inner.Stores.{Stored}
-use Rattle.tree_calls.specs.TreeCall.{tree_slots_of, TreeCall}
+use Rattle.answers.proofs.Slots.{stored_reported}
+use Rattle.tree_calls.specs.TreeCall.{tree_slots, tree_slots_of, TreeCall}
 
-module _ (due : Result Measures) (found : TreeAnswer) (reported : tree_result found ≡ due) (before after : List ℕ) (r : ℕ) where
-  pub tree_found : (m : Found) → found ≡ Tree m → Stored (tree_slots_of 0 (measured m)) 0 before after r → TreeCall due before after r
+-- what was found is answered, where `nothing` says what is measured of no tree
+module _ (nothing : Found → Type 0) (is_nothing : (m : Found) → nothing m → measured m ≡ no_measures) (before after : List ℕ) (r n position : ℕ) (m : Found) where
+  answers_found : (found : Answer Found Refused)
+      → n ≡ refusal_of (answered (λ x. tt) found)
+      → position ≡ position_of (answered (λ x. tt) found)
+      → ResultUnwrapsOrElse found nothing m
+      → Stored (tree_slots_of position (measured m)) n before after r
+      → TreeCall (tree_result found) before after r
   unfolding refusal_of position_of measures_or0
-  tree_found m case s =
-      let is : due ≡ done (measured m) = sym reported ∙ ap tree_result case in
-      subst (λ (d : Result Measures). TreeCall d before after r) (sym is) (record { number = s.given; slots = s.slots })
+  answers_found (Ok f) is there same s = stored_reported tree_slots (λ p. tree_slots_of p (measured f)) (λ p. refl) before after r (done tt) n position is there (rw same at s)
+  answers_found (Err e) is there none s =
+      stored_reported tree_slots (λ p. tree_slots_of p no_measures) (λ p. refl) before after r (refusal (number e.why) e.position) n position is there
+      (subst (λ (x : Measures). Stored (tree_slots_of position x) n before after r) (is_nothing m none) s)
 
-  pub tree_refused : (why : Refusal) (m : Found) (position n : ℕ) → found ≡ Refused why position → measured m ≡ no_measures → n ≡ number why
+  pub tree_answered : (due : Result Measures) (found : Answer Found Refused)
+      → tree_result found ≡ due
+      → n ≡ refusal_of (answered (λ x. tt) found)
+      → position ≡ position_of (answered (λ x. tt) found)
+      → ResultUnwrapsOrElse found nothing m
       → Stored (tree_slots_of position (measured m)) n before after r
       → TreeCall due before after r
-  unfolding refusal_of position_of measures_or0
-  tree_refused why m position n case none named s =
-      let is : due ≡ refusal n position = sym reported ∙ ap tree_result case ∙ ap (λ k. refusal k position) (sym named) in
-      let stored : Stored (tree_slots_of position no_measures) n before after r = subst (λ (x : Measures). Stored (tree_slots_of position x) n before after r) none s in
-      subst (λ (d : Result Measures). TreeCall d before after r) (sym is) (record { number = stored.given; slots = stored.slots })
-
-pub ruleset tree_ways = (tree_found, tree_refused)
+  tree_answered due found reported is there same s = subst (λ (d : Result Measures). TreeCall d before after r) reported (answers_found found is there same s)

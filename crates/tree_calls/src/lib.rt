@@ -4,11 +4,7 @@
 ghost use Rattle.std.specs.Prelude.{◌≡◌, length};
 ghost use Rattle.formats.specs.Tokens.{first_tree, own_bytes};
 ghost use Rattle.formats.specs.Measures.{first_measures};
-ghost use Rattle.answers.specs.Inner.Stores.{Stored};
-ghost use Rattle.tree.specs.Inner.TreeResults.{measured};
-ghost use Rattle.tree_calls.specs.TreeCall.{tree_slots_of, TreeCall};
-
-use tree::{Measures, TreeAnswer};
+ghost use Rattle.tree_calls.specs.TreeCall.{TreeCall};
 
 // The length of the first tree's own bytes, which begin the input; 0 on a refusal.
 pub fn tree_bytes(input: &[u8]) -> usize
@@ -16,20 +12,6 @@ pub fn tree_bytes(input: &[u8]) -> usize
 {
     let own = tree::first_tree(input);
     own.len()
-}
-
-// Stores the position of a refusal and what was measured, and gives `number`.
-fn store(measures: Measures, number: u32, position: usize, answer: &mut [u64]) -> u32
-    ensures { Stored (tree_slots_of position (measured measures)) number
-        answer.old answer.new result }
-{
-    let row = [
-        position as u64,
-        measures.bytes as u64,
-        measures.tips as u64,
-        measures.depth as u64,
-    ];
-    answers::store_row(answer, &row, number)
 }
 
 // The refusal's number, 0 where there is a tree; the refusal's position and the tree's length, tips
@@ -40,13 +22,13 @@ pub fn tree(input: &[u8], answer: &mut [u64]) -> u32
         answer.new result }
 {
     let found = tree::tree_answer(input);
-    match found {
-        TreeAnswer::Tree(measures) => store(measures, 0, 0, answer),
-        TreeAnswer::Refused(why, position) => store(
-            tree::no_measures(),
-            refusal::number_of(why),
-            position,
-            answer,
-        ),
-    }
+    let (number, position) = answers::number_and_position(found);
+    let measures = found.unwrap_or_default();
+    let row = [
+        position as u64,
+        measures.bytes as u64,
+        measures.tips as u64,
+        measures.depth as u64,
+    ];
+    answers::store_row(answer, &row, number)
 }

@@ -1,23 +1,24 @@
 -- What holds of a run of the loop until the outcome is reached. Each step keeps it.
-use Prim.Native.Nat.{ℕ, zero, suc, ◌+◌, ◌*◌, ◌≤◌, ◌<◌}
+use Prim.Native.Nat.{ℕ, zero, suc, ◌+◌, ◌≤◌, ◌<◌}
 use mathlib.Core.Bool.{Bool, true, false}
 use mathlib.Core.List.{List, ◌++◌}
 use mathlib.Core.Logic.{◌≢◌}
 use mathlib.Core.Path.{◌≡◌, refl, sym, ap, ◌∙◌}
 use native.Mathlib.Decide.{dec_le}
 use native.Mathlib.Omega.{arith}
-use borrow.Author.Tests.{eq-eqb, eqb-true, eqb-false, lt-ltb, le-ltb, ltb-true}
-use lib.Dec.{eqb, ltb}
+use borrow.Author.Tests.{lt-ltb, le-ltb, ltb-true}
+use lib.Dec.{ltb}
 use lib.ListN.{length, length-append}
 use Rattle.formats.specs.Written.{written}
 use Rattle.formats.proofs.Written.{written_append, wrote}
 use Rattle.meaning.specs.OpenCalls.{Outcome, begins}
-use Rattle.stepwise.specs.Inner.Steps.{State, Turn, begin, finished, opens, ended, deep, broken, stuck, Found, record_limit, tree_at, beginning, emitted_first, rising, emitted_last, weight, opening}
-use Rattle.stepwise.proofs.Steps.{off}
+use Rattle.stepwise.specs.Inner.Steps.{State, Turn, begin, finished, opens, Found, record_limit, tree_at, beginning, emitted_first, rising, emitted_last, weight, opening}
 use Rattle.stepwise.specs.Inner.Outcomes.{Reported, Comes, at_begin, at_finished, at_open}
 use Rattle.stages.specs.declared.Stage.{Stage}
-use Rattle.stages.specs.Inner.Stages.{to_begin, is_finished, to_open, is_stuck, state_of, Missing, none_missing, turn_of, staged, stage_of, words_of, returns_of, missing_in}
-use Rattle.stages.proofs.Stages.{turn_begin, turn_finished, turn_open, turn_written, turn_again, same_written}
+use Rattle.stages.specs.declared.Mode.{Mode}
+use Rattle.stages.specs.declared.Mode.TheVariants.{Begin, Finished, Open, Stuck}
+use Rattle.stages.specs.Inner.Stages.{is_finished, to_open, state_of, Missing, none_missing, turn_of, staged, stage_of, words_of, returns_of, missing_in}
+use Rattle.stages.proofs.Stages.{finished_true, finished_mode, open_mode, other_mode, turn_begin, turn_finished, turn_open, turn_written, turn_again, same_written}
 use Rattle.begin_record.proofs.Begins.{begun_found}
 use Rattle.open_call.specs.Inner.Opens.{opened_turn}
 use Rattle.open_call.proofs.Opens.{opened_found, opened_settled}
@@ -112,40 +113,11 @@ wrote_more output₀ output output' at out bytes c short before w fits =
 -- the weight of a stage is that of its turn
 weight_turn : (m : Missing) (values returns : List ℕ) (s : Stage) → weight (turn_of m values returns s) ≡ weight_of s
 unfolding turn_of weight weight_of
-weight_turn m values returns s =
-    by (eqb s.mode 0) (eqb s.mode 1) (eqb s.mode 2) (eqb s.mode 3) (eqb s.mode 4) (eqb s.mode 6)
-    (λ e. off _ 0 1 (eqb-true s.mode 0 e) refl)
+weight_turn m values returns s = by s.mode refl
   where
-    by : (a b c d e f : Bool) → (a ≡ true → b ≡ false)
-        → weight
-        (elim a [
-          | true ↦ begin s.node (state_of values returns s)
-          | false ↦
-              elim b [
-                | true ↦ finished s.node s.number (state_of values returns s)
-                | false ↦
-                    elim c [
-                      | true ↦ opens s.node (state_of values returns s)
-                      | false ↦
-                          elim d [
-                            | true ↦ ended s.number
-                            | false ↦
-                                elim e [
-                                  | true ↦ deep s.node
-                                  | false ↦ elim f [ true ↦ broken m.op m.i m.j s.node | false ↦ stuck ]
-                                ]
-                          ]
-                    ]
-              ]
-        ])
-        ≡ elim b [ true ↦ 1 + 65536 * s.calls + s.node | false ↦ 0 ]
-    by true b c d e f h = rw (h refl)
-    by false true c d e f h = omega arith
-    by false false true d e f h = refl
-    by false false false true e f h = refl
-    by false false false false true f h = refl
-    by false false false false false true h = refl
-    by false false false false false false h = refl
+    by : (k : Mode) → s.mode ≡ k → weight (turn_of m values returns s) ≡ weight_of s
+    by Finished e = rw (turn_of, weight_of, e) (omega arith)
+    by _ e = rw (turn_of, weight_of, e) refl
 
 -- ---- the steps
 
@@ -167,7 +139,7 @@ module _ (T input output₀ : List ℕ) where
         short = h.short;
       }
 
-  begin_holds : (p : Run) (o : Outcome Reported) → p.stage.mode ≡ to_begin → Holding T input output₀ p o → Begun T input output₀ (begin_step T input p) o
+  begin_holds : (p : Run) (o : Outcome Reported) → p.stage.mode ≡ Begin → Holding T input output₀ p o → Begun T input output₀ (begin_step T input p) o
   unfolding begin_step
   begin_holds p o mode h =
       let s = state_of p.values p.returns p.stage in
@@ -181,7 +153,7 @@ module _ (T input output₀ : List ℕ) where
       }
 
   -- a record that is finished
-  module _ (p : Run) (o : Outcome Reported) (mode : p.stage.mode ≡ is_finished) (h : Holding T input output₀ p o) where
+  module _ (p : Run) (o : Outcome Reported) (mode : p.stage.mode ≡ Finished) (h : Holding T input output₀ p o) where
     from_it : RisesFrom T input h.out p.stage.node p.stage.number (state_of p.values p.returns p.stage) o
     from_it = comes_finished T input (rw (turn_finished h.missing p.values p.returns p.stage mode) at h.comes)
 
@@ -205,39 +177,39 @@ module _ (T input output₀ : List ℕ) where
   climb_holds : (n : ℕ) (p : Run) (o : Outcome Reported) → Holding T input output₀ p o → Holding T input output₀ (climbing T input n p) o
   unfolding climbing
   climb_holds zero p o h = h
-  climb_holds (suc n) p o h = by (eqb p.stage.mode is_finished) refl (λ holds. climb_holds n (rise_step T input p) o holds)
+  climb_holds (suc n) p o h = by (is_finished p.stage.mode) refl (λ holds. climb_holds n (rise_step T input p) o holds)
     where
-      on : p.stage.mode ≡ is_finished → (Holding T input output₀ (rise_step T input p) o → Holding T input output₀ (climbing T input n (rise_step T input p)) o)
+      on : p.stage.mode ≡ Finished → (Holding T input output₀ (rise_step T input p) o → Holding T input output₀ (climbing T input n (rise_step T input p)) o)
           → Holding T input output₀
           (elim (ltb (weight_of (rise_step T input p).stage) (weight_of p.stage)) [
             | true ↦ climbing T input n (rise_step T input p)
-            | false ↦ run (rise_step T input p).output (rise_step T input p).values (rise_step T input p).returns (staged (rise_step T input p).stage is_stuck 0 0)
+            | false ↦ run (rise_step T input p).output (rise_step T input p).values (rise_step T input p).returns (staged (rise_step T input p).stage Stuck 0 0)
           ])
           o
       on mode next = rw (lt-ltb _ _ (rise_falls p o mode h)) (next (rise_holds p o mode h))
 
-      by : (b : Bool) → eqb p.stage.mode is_finished ≡ b → (Holding T input output₀ (rise_step T input p) o → Holding T input output₀ (climbing T input n (rise_step T input p)) o)
+      by : (b : Bool) → is_finished p.stage.mode ≡ b → (Holding T input output₀ (rise_step T input p) o → Holding T input output₀ (climbing T input n (rise_step T input p)) o)
           → Holding T input output₀
           (elim b [
             | true ↦
                 elim (ltb (weight_of (rise_step T input p).stage) (weight_of p.stage)) [
                   | true ↦ climbing T input n (rise_step T input p)
-                  | false ↦ run (rise_step T input p).output (rise_step T input p).values (rise_step T input p).returns (staged (rise_step T input p).stage is_stuck 0 0)
+                  | false ↦ run (rise_step T input p).output (rise_step T input p).values (rise_step T input p).returns (staged (rise_step T input p).stage Stuck 0 0)
                 ]
             | false ↦ p
           ])
           o
-      by true e next = on (eqb-true _ _ e) next
+      by true e next = on (finished_mode _ e) next
       by false e next = h
 
   open_holds : (p : Run) (o : Outcome Reported) → Holding T input output₀ p o → Holding T input output₀ (open_step T input p) o
   unfolding open_step
-  open_holds p o h = by (eqb p.stage.mode to_open) refl
+  open_holds p o h = by (to_open p.stage.mode) refl
     where
       t : Turn
       t = opened_turn T input p.stage.node (state_of p.values p.returns p.stage)
 
-      opens_it : p.stage.mode ≡ to_open → Holding T input output₀ (run p.output (words_of p.values t) (returns_of p.returns t) (stage_of p.stage t)) o
+      opens_it : p.stage.mode ≡ Open → Holding T input output₀ (run p.output (words_of p.values t) (returns_of p.returns t) (stage_of p.stage t)) o
       opens_it mode =
           let c = comes_open T input (rw (turn_open h.missing p.values p.returns p.stage mode) at h.comes) in
           let s = state_of p.values p.returns p.stage in
@@ -251,15 +223,15 @@ module _ (T input output₀ : List ℕ) where
             short = h.short;
           }
 
-      by : (b : Bool) → eqb p.stage.mode to_open ≡ b
+      by : (b : Bool) → to_open p.stage.mode ≡ b
           → Holding T input output₀
           (elim b [ true ↦ run p.output (words_of p.values t) (returns_of p.returns t) (stage_of p.stage t) | false ↦ p ])
           o
-      by true e = opens_it (eqb-true _ _ e)
+      by true e = opens_it (open_mode _ e)
       by false e = h
 
   -- a turn
-  pub turn_holds : (p : Run) (o : Outcome Reported) → p.stage.mode ≡ to_begin → Holding T input output₀ p o → Begun T input output₀ (turned T input p) o
+  pub turn_holds : (p : Run) (o : Outcome Reported) → p.stage.mode ≡ Begin → Holding T input output₀ p o → Begun T input output₀ (turned T input p) o
   turn_holds p o mode h =
       let b = begin_holds p o mode h in
       let q = begin_step T input p in
@@ -268,51 +240,51 @@ module _ (T input output₀ : List ℕ) where
 -- ---- what is to be done after a turn
 
 -- What is to be done next in a run.
-abbrev mode_of : Run → ℕ
+abbrev mode_of : Run → Mode
 mode_of p = p.stage.mode
 
 module _ (T input : List ℕ) where
   -- a stage whose record is finished has a weight above 0
-  some_weight : (s : Stage) → s.mode ≡ is_finished → 0 < weight_of s
+  some_weight : (s : Stage) → s.mode ≡ Finished → 0 < weight_of s
   unfolding weight_of
-  some_weight s e = rw (weight_of, eq-eqb _ _ e) (omega arith)
+  some_weight s e = rw (weight_of, finished_true _ e) (omega arith)
 
   -- nothing is finished after a climb
-  climb_settles : (n : ℕ) (p : Run) → weight_of p.stage ≤ n → (climbing T input n p).stage.mode ≢ is_finished
+  climb_settles : (n : ℕ) (p : Run) → weight_of p.stage ≤ n → (climbing T input n p).stage.mode ≢ Finished
   unfolding climbing
   climb_settles zero p low = λ e. absurd (omega (arith, some_weight p.stage e))
-  climb_settles (suc n) p low = by (eqb p.stage.mode is_finished) refl (ltb (weight_of (rise_step T input p).stage) (weight_of p.stage)) refl (λ less. climb_settles n (rise_step T input p) less)
+  climb_settles (suc n) p low = by (is_finished p.stage.mode) refl (ltb (weight_of (rise_step T input p).stage) (weight_of p.stage)) refl (λ less. climb_settles n (rise_step T input p) less)
     where
-      by : (b : Bool) → eqb p.stage.mode is_finished ≡ b → (c : Bool) → ltb (weight_of (rise_step T input p).stage) (weight_of p.stage) ≡ c
-          → (weight_of (rise_step T input p).stage ≤ n → (climbing T input n (rise_step T input p)).stage.mode ≢ is_finished)
+      by : (b : Bool) → is_finished p.stage.mode ≡ b → (c : Bool) → ltb (weight_of (rise_step T input p).stage) (weight_of p.stage) ≡ c
+          → (weight_of (rise_step T input p).stage ≤ n → (climbing T input n (rise_step T input p)).stage.mode ≢ Finished)
           → mode_of
           (elim b [
             | true ↦
                 elim c [
                   | true ↦ climbing T input n (rise_step T input p)
-                  | false ↦ run (rise_step T input p).output (rise_step T input p).values (rise_step T input p).returns (staged (rise_step T input p).stage is_stuck 0 0)
+                  | false ↦ run (rise_step T input p).output (rise_step T input p).values (rise_step T input p).returns (staged (rise_step T input p).stage Stuck 0 0)
                 ]
             | false ↦ p
           ])
-          ≢ is_finished
+          ≢ Finished
       by true e true less next = next (omega (arith, ltb-true (weight_of (rise_step T input p).stage) (weight_of p.stage) less))
-      by true e false less next = eqb-false 5 1 refl
-      by false e c less next = eqb-false _ _ e
+      by true e false less next = λ (e : Stuck ≡ Finished). cc
+      by false e c less next = other_mode is_finished _ Finished e refl
 
-  open_settles : (p : Run) → p.stage.mode ≢ is_finished → ((open_step T input p).stage.mode ≢ is_finished) × ((open_step T input p).stage.mode ≢ to_open)
+  open_settles : (p : Run) → p.stage.mode ≢ Finished → ((open_step T input p).stage.mode ≢ Finished) × ((open_step T input p).stage.mode ≢ Open)
   unfolding open_step
-  open_settles p settled = by (eqb p.stage.mode to_open) refl
+  open_settles p settled = by (to_open p.stage.mode) refl
     where
       t : Turn
       t = opened_turn T input p.stage.node (state_of p.values p.returns p.stage)
 
-      by : (b : Bool) → eqb p.stage.mode to_open ≡ b
-          → (mode_of (elim b [ true ↦ run p.output (words_of p.values t) (returns_of p.returns t) (stage_of p.stage t) | false ↦ p ]) ≢ is_finished)
-          × (mode_of (elim b [ true ↦ run p.output (words_of p.values t) (returns_of p.returns t) (stage_of p.stage t) | false ↦ p ]) ≢ to_open)
+      by : (b : Bool) → to_open p.stage.mode ≡ b
+          → (mode_of (elim b [ true ↦ run p.output (words_of p.values t) (returns_of p.returns t) (stage_of p.stage t) | false ↦ p ]) ≢ Finished)
+          × (mode_of (elim b [ true ↦ run p.output (words_of p.values t) (returns_of p.returns t) (stage_of p.stage t) | false ↦ p ]) ≢ Open)
       by true e = opened_settled T input p.stage.node (state_of p.values p.returns p.stage) p.stage
-      by false e = (settled, eqb-false _ _ e)
+      by false e = (settled, other_mode to_open _ Open e refl)
 
-  pub turn_settles : (p : Run) → ((turned T input p).stage.mode ≢ is_finished) × ((turned T input p).stage.mode ≢ to_open)
+  pub turn_settles : (p : Run) → ((turned T input p).stage.mode ≢ Finished) × ((turned T input p).stage.mode ≢ Open)
   turn_settles p =
       let q = begin_step T input p in
       open_settles (climbed T input q) (climb_settles (weight_of q.stage) q (omega arith))

@@ -5,20 +5,22 @@ use mathlib.Core.List.{List, []}
 use mathlib.Core.Logic.{◌≢◌}
 use mathlib.Core.Path.{◌≡◌, refl, sym, ap, ◌∙◌}
 use native.Mathlib.Omega.{arith}
-use borrow.Author.Tests.{eq-eqb, eqb-true, eqb-false}
-use lib.Dec.{eqb}
 use lib.ListN.{length}
 use Rattle.formats.specs.Arithmetic.{Op}
+use Rattle.formats.specs.Results.{refusal}
 use Rattle.formats.specs.Written.{written}
 use Rattle.formats.proofs.Written.{written_none}
+use Rattle.std.specs.Prelude.{Ok}
+use Rattle.refusal.specs.Inner.Verdicts.{verdict_result}
 use Rattle.meaning.specs.OpenCalls.{Reason, no_fuel, no_call, no_result, refusal_of, Outcome, gives, stops, begins, after_begun, with_fuel}
 use Rattle.meaning.specs.SourceRun.{position_of}
 use Rattle.stepwise.specs.Inner.Steps.{State, begin, ended, deep, broken, stuck}
 use Rattle.stepwise.specs.Inner.Outcomes.{Reported, reported, Comes, at_begin, at-end, at_deep, at_broken}
-use Rattle.stepwise.proofs.Steps.{off}
 use Rattle.stages.specs.declared.Stage.{Stage}
-use Rattle.stages.specs.Inner.Stages.{to_begin, is_finished, to_open, has_ended, too_many_open, is_broken, Missing, none_missing, turn_of}
-use Rattle.stages.proofs.Stages.{turn_begin, turn_ended, turn_deep, turn_broken, turn_none}
+use Rattle.stages.specs.declared.Mode.{Mode}
+use Rattle.stages.specs.declared.Mode.TheVariants.{Begin, Finished, Open, Ended, Deep, Stuck, Broken}
+use Rattle.stages.specs.Inner.Stages.{to_begin, Missing, none_missing, turn_of}
+use Rattle.stages.proofs.Stages.{begin_mode, other_mode, turn_begin, turn_ended, turn_deep, turn_stuck, turn_broken}
 use Rattle.source_walk.specs.declared.Walked.{Walked}
 use Rattle.source_walk.specs.Inner.Loop.{Run, run, turned, answer_with, Ending, ending, walking, first_stage, Walks}
 use Rattle.walk_outcome.specs.Inner.Outcomes.{Counts, Reports, reports_value, reports_stop}
@@ -63,29 +65,22 @@ module _ (T input : List ℕ) where
   -- a turn after which no record is to begin or is finished: the run has ended, an operation has no
   -- result, or a call is one too many
   data Settled (out : List ℕ) (s : Stage) (o : Outcome Reported) : Type 0 where
-    settled_end : s.mode ≡ has_ended → o ≡ gives (reported s.number out) → Settled out s o
-    settled_broken : (m : Missing) → s.mode ≡ is_broken → o ≡ stops (no_result m.op m.i m.j) s.node → Settled out s o
-    settled_deep : s.mode ≡ too_many_open → o ≡ stops no_call s.node → Settled out s o
+    settled_end : s.mode ≡ Ended → o ≡ gives (reported s.number out) → Settled out s o
+    settled_broken : (m : Missing) → s.mode ≡ Broken → o ≡ stops (no_result m.op m.i m.j) s.node → Settled out s o
+    settled_deep : s.mode ≡ Deep → o ≡ stops no_call s.node → Settled out s o
 
   module _ (m : Missing) (values returns out : List ℕ) (s : Stage) (o : Outcome Reported) (come : Comes T input out (turn_of m values returns s) o) where
-    settled : s.mode ≢ to_begin → s.mode ≢ is_finished → s.mode ≢ to_open → Settled out s o
-    settled a b c = by (eqb s.mode has_ended) (eqb s.mode too_many_open) (eqb s.mode is_broken) refl refl refl
+    settled : s.mode ≢ Begin → s.mode ≢ Finished → s.mode ≢ Open → Settled out s o
+    settled a b c = by s.mode refl
       where
-        by : (e d f : Bool) → eqb s.mode has_ended ≡ e → eqb s.mode too_many_open ≡ d → eqb s.mode is_broken ≡ f → Settled out s o
-        by true d f is deep_is broken_is =
-            let mode = eqb-true s.mode has_ended is in
-            settled_end mode (comes_ended (rw (turn_ended m values returns s mode) at come))
-        by false true f is deep_is broken_is =
-            let mode = eqb-true s.mode too_many_open deep_is in
-            settled_deep mode (comes_deep (rw (turn_deep m values returns s mode) at come))
-        by false false true is deep_is broken_is =
-            let mode = eqb-true s.mode is_broken broken_is in
-            settled_broken m mode (comes_broken (rw (turn_broken m values returns s mode) at come))
-        by false false false is deep_is broken_is =
-            let none : turn_of m values returns s ≡ stuck =
-            turn_none m values returns s a b c (eqb-false s.mode has_ended is) (eqb-false s.mode too_many_open deep_is)
-            (eqb-false s.mode is_broken broken_is) in
-            comes_stuck (rw none at come)
+        by : (k : Mode) → s.mode ≡ k → Settled out s o
+        by Begin mode = absurd (a mode)
+        by Finished mode = absurd (b mode)
+        by Open mode = absurd (c mode)
+        by Ended mode = settled_end mode (comes_ended (rw (turn_ended m values returns s mode) at come))
+        by Deep mode = settled_deep mode (comes_deep (rw (turn_deep m values returns s mode) at come))
+        by Stuck mode = comes_stuck (rw (turn_stuck m values returns s mode) at come)
+        by Broken mode = settled_broken m mode (comes_broken (rw (turn_broken m values returns s mode) at come))
 
 -- ---- the walk
 
@@ -95,7 +90,7 @@ data From (begun : ℕ) (o : Outcome Reported) (output₀ : List ℕ) (e : Endin
       (k : ℕ) (out : List ℕ)
       → e.answer.begun ≡ begun + k
       → o ≡ after_begun k (gives (reported e.answer.number out))
-      → e.answer.stop ≡ 0
+      → e.answer.verdict ≡ Ok tt
       → Counts e.answer.written out
       → (length out ≤ length output₀ → e.last.output ≡ written output₀ 0 out)
       → From begun o output₀ e
@@ -103,20 +98,19 @@ data From (begun : ℕ) (o : Outcome Reported) (output₀ : List ℕ) (e : Endin
       (k : ℕ) (why : Reason) (at : ℕ)
       → e.answer.begun ≡ begun + k
       → o ≡ after_begun k (stops why at)
-      → e.answer.stop ≡ refusal_of why
-      → e.answer.position ≡ position_of why at
+      → verdict_result e.answer.verdict ≡ refusal (refusal_of why) (position_of why at)
       → From begun o output₀ e
 
 module _ (T input output₀ : List ℕ) where
   -- one expression more
   one_more : (begun : ℕ) (o : Outcome Reported) (e : Ending) → From (suc begun) o output₀ e → From begun (begins o) output₀ e
   unfolding after_begun
-  one_more begun o e (from_value k out count is stop counts wrote) = from_value (suc k) out (omega arith) (ap begins is) stop counts wrote
-  one_more begun o e (from_stop k why at count is stop position) = from_stop (suc k) why at (omega arith) (ap begins is) stop position
+  one_more begun o e (from_value k out count is passes counts wrote) = from_value (suc k) out (omega arith) (ap begins is) passes counts wrote
+  one_more begun o e (from_stop k why at count is stop) = from_stop (suc k) why at (omega arith) (ap begins is) stop
 
   -- a turn after which no expression begins
-  stops_there : (fuel begun : ℕ) (q : Run) (rest : Outcome Reported) → Holding T input output₀ q rest → q.stage.mode ≢ to_begin
-      → (q.stage.mode ≢ is_finished) × (q.stage.mode ≢ to_open)
+  stops_there : (fuel begun : ℕ) (q : Run) (rest : Outcome Reported) → Holding T input output₀ q rest → q.stage.mode ≢ Begin
+      → (q.stage.mode ≢ Finished) × (q.stage.mode ≢ Open)
       → From (suc begun) (with_fuel fuel rest) output₀ (ending (answer_with q.stage (suc begun)) q)
   unfolding after_begun answer_with refusal_of position_of
   stops_there fuel begun q rest h other settles =
@@ -124,22 +118,21 @@ module _ (T input output₀ : List ℕ) where
     where
       by : Settled T input h.out q.stage rest → From (suc begun) (with_fuel fuel rest) output₀ (ending (answer_with q.stage (suc begun)) q)
       by (settled_end mode is) =
-          rw (answer_with, eq-eqb _ _ mode)
-          (from_value 0 h.out (omega arith) (ap (with_fuel fuel) is ∙ within_gives fuel _) refl h.counts h.wrote)
+          rw (answer_with, mode) (from_value 0 h.out (omega arith) (ap (with_fuel fuel) is ∙ within_gives fuel _) refl h.counts h.wrote)
       by (settled_broken m mode is) =
-          rw (answer_with, off _ is_broken has_ended mode refl, eq-eqb _ _ mode)
+          rw (answer_with, mode)
           (from_stop 0 (no_result m.op m.i m.j) q.stage.node (omega arith)
-          (ap (with_fuel fuel) is ∙ within_stops fuel (no_result m.op m.i m.j) q.stage.node) refl refl)
+          (ap (with_fuel fuel) is ∙ within_stops fuel (no_result m.op m.i m.j) q.stage.node) refl)
       by (settled_deep mode is) =
-          rw (answer_with, off _ too_many_open has_ended mode refl, off _ too_many_open is_broken mode refl)
-          (from_stop 0 no_call q.stage.node (omega arith) (ap (with_fuel fuel) is ∙ within_stops fuel no_call q.stage.node) refl refl)
+          rw (answer_with, mode)
+          (from_stop 0 no_call q.stage.node (omega arith) (ap (with_fuel fuel) is ∙ within_stops fuel no_call q.stage.node) refl)
 
-  from : (fuel begun : ℕ) (p : Run) (o : Outcome Reported) → p.stage.mode ≡ to_begin → Holding T input output₀ p o
+  from : (fuel begun : ℕ) (p : Run) (o : Outcome Reported) → p.stage.mode ≡ Begin → Holding T input output₀ p o
       → From begun (with_fuel fuel o) output₀ (walking T input fuel begun p)
   unfolding walking with_fuel after_begun refusal_of position_of
   from zero begun p o mode h =
       let b = comes_begins T input (rw (turn_begin h.missing p.values p.returns p.stage mode) at h.comes) in
-      rw b.is (from_stop 0 no_fuel 0 (omega arith) (none_yet b.rest) refl refl)
+      rw b.is (from_stop 0 no_fuel 0 (omega arith) (none_yet b.rest) refl)
     where
       none_yet : (rest : Outcome Reported) → with_fuel 0 (begins rest) ≡ after_begun 0 (stops no_fuel 0)
       none_yet rest = refl
@@ -147,27 +140,27 @@ module _ (T input output₀ : List ℕ) where
       let b = turn_holds T input output₀ p o mode h in
       rw b.begun
       (one_more begun (with_fuel fuel b.rest) (walking T input (suc fuel) begun p)
-      (by fuel begun p b.rest b.holds (eqb (turned T input p).stage.mode to_begin) refl (λ going. from fuel (suc begun) (turned T input p) b.rest going b.holds)))
+      (by fuel begun p b.rest b.holds (to_begin (turned T input p).stage.mode) refl (λ going. from fuel (suc begun) (turned T input p) b.rest going b.holds)))
     where
       by : (fuel begun : ℕ) (p : Run) (rest : Outcome Reported) → Holding T input output₀ (turned T input p) rest
-          → (c : Bool) → eqb (turned T input p).stage.mode to_begin ≡ c
-          → ((turned T input p).stage.mode ≡ to_begin → From (suc begun) (with_fuel fuel rest) output₀ (walking T input fuel (suc begun) (turned T input p)))
+          → (c : Bool) → to_begin (turned T input p).stage.mode ≡ c
+          → ((turned T input p).stage.mode ≡ Begin → From (suc begun) (with_fuel fuel rest) output₀ (walking T input fuel (suc begun) (turned T input p)))
           → From (suc begun) (with_fuel fuel rest) output₀
           (elim c [
             | true ↦ walking T input fuel (suc begun) (turned T input p)
             | false ↦ ending (answer_with (turned T input p).stage (suc begun)) (turned T input p)
           ])
-      by fuel begun p rest holds true e next = next (eqb-true _ _ e)
-      by fuel begun p rest holds false e next = stops_there fuel begun (turned T input p) rest holds (eqb-false _ _ e) (turn_settles T input p)
+      by fuel begun p rest holds true e next = next (begin_mode _ e)
+      by fuel begun p rest holds false e next = stops_there fuel begun (turned T input p) rest holds (other_mode to_begin _ Begin e refl) (turn_settles T input p)
 
 -- an ending's answer and output
 ends_so : (o : Outcome Reported) (output : List ℕ) (e : Ending) → From 0 o output e → Reports o output e.last.output e.answer
-ends_so o output e (from_value k out count is stop counts wrote) =
+ends_so o output e (from_value k out count is passes counts wrote) =
     let same : k ≡ e.answer.begun = omega arith in
-    reports_value out (is ∙ ap (λ n. after_begun n (gives (reported e.answer.number out))) same) stop counts wrote
-ends_so o output e (from_stop k why at count is stop position) =
+    reports_value out (is ∙ ap (λ n. after_begun n (gives (reported e.answer.number out))) same) passes counts wrote
+ends_so o output e (from_stop k why at count is stop) =
     let same : k ≡ e.answer.begun = omega arith in
-    reports_stop why at (is ∙ ap (λ n. after_begun n (stops why at)) same) stop position
+    reports_stop why at (is ∙ ap (λ n. after_begun n (stops why at)) same) stop
 
 pub walk_reports :
     (T input : List ℕ) (first fuel : ℕ) (output output' values values' returns returns' : List ℕ) (r : Walked)

@@ -2,36 +2,39 @@
 // caller: an offset may be anywhere, and a number is read there whole or not at all.
 #![tactic(auto)]
 
-ghost use Rattle.std.specs.Prelude.{◌≡◌, [], ◌∷◌, get_or};
+ghost use Rattle.std.specs.Prelude.{◌≡◌, ◌+◌, ◌<◌, ◌≤◌, [], ◌∷◌, length, get_or, take, drop, MatchOption};
 ghost use Rattle.formats.specs.Numbers.{number_of, number_at};
 
+// The bytes of that width at an offset, or none where the slice does not hold them all.
+pub fn bytes_at<const WIDTH: usize>(s: &[u8], at: usize) -> Option<&[u8; WIDTH]>
+    ensures { MatchOption result (length s.now < at + WIDTH) (λ bytes. (at + WIDTH ≤ length s.now)
+        × (bytes.now ≡ take WIDTH (drop at s.now))) }
+{
+    s.get(at..)?.first_chunk()
+}
+
 // The number that two bytes stand for.
+#[tactic(auto, using(crate::proofs::Bytes::numbers_read))]
 pub fn word16(b0: u8, b1: u8) -> u16
     ensures { result ≡ number_of (b0 ∷ b1 ∷ []) }
 {
-    (b0 as u16) + 256 * (b1 as u16)
+    u16::from_le_bytes([b0, b1])
 }
 
 // The byte at an offset, or 0 where there is none.
 pub fn read8(s: &[u8], at: usize) -> u8
     ensures { result ≡ get_or s.now at 0 }
 {
-    if at < s.len() {
-        return s[at];
-    }
-    0
+    s.get(at).copied().unwrap_or(0)
 }
 
 // The 16-bit number at an offset, or 0 where the slice does not hold it whole.
+#[tactic(auto, using(crate::proofs::Bytes::numbers_read))]
 pub fn read16(s: &[u8], at: usize) -> u16
     ensures { result ≡ number_at 2 s.now at }
 {
-    let n = s.len();
-    if n < 2 {
-        return 0;
+    match bytes_at::<2>(s, at) {
+        Some(bytes) => u16::from_le_bytes(*bytes),
+        None => 0,
     }
-    if at <= n - 2 {
-        return word16(s[at], s[at + 1]);
-    }
-    0
 }

@@ -1,2 +1,3 @@
--- The laws that the functions' proofs cite.
+-- The laws that the functions' proofs cite. `Copied` is for callers that copy one by one.
+pub mod Placed
 pub mod Copied

@@ -11,17 +11,11 @@ ghost use Rattle.formats.specs.Written.{written};
 pub fn write16(s: &mut [u8], at: usize, n: u16)
     ensures { s.new ≡ written s.old at (bytes_of 2 n) }
 {
-    let len = s.len();
-    if len < 2 {
-        return;
-    }
-    if at <= len - 2 {
-        s[at] = (n % 256) as u8;
-        s[at + 1] = (n / 256 % 256) as u8;
-    }
+    write_bytes(s, at, &n.to_le_bytes());
 }
 
 // Writes bytes at an offset, or nothing where they do not all fit.
+#[tactic(auto, using(crate::proofs::Placed::placed))]
 pub fn write_bytes(s: &mut [u8], at: usize, from: &[u8])
     ensures { s.new ≡ written s.old at from.now }
 {
@@ -31,10 +25,6 @@ pub fn write_bytes(s: &mut [u8], at: usize, from: &[u8])
         return;
     }
     if at <= room - n {
-        let mut k = 0;
-        while k < n {
-            s[at + k] = from[k];
-            k = k + 1;
-        }
+        s[at..at + n].copy_from_slice(from);
     }
 }

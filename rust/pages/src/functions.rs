@@ -29,6 +29,14 @@ pub fn public<'a>(project: &'a Project, place: &'a str) -> Vec<Function<'a>> {
     found
 }
 
+/// `method` of `Type::method`; any other name as it is.
+fn own_name(name: &str) -> &str {
+    match name.split_once("::") {
+        Some((place, method)) if place.starts_with(char::is_uppercase) => method,
+        _ => name,
+    }
+}
+
 impl Function<'_> {
     pub fn title(&self) -> String {
         format!("{}: {}", self.place, self.declaration.name)
@@ -40,7 +48,8 @@ impl Function<'_> {
         while let Some(one) = open.pop() {
             if used.insert(&one.name[..]) {
                 let names = one.body_names();
-                open.extend(names.iter().filter_map(|name| self.source.find(name)));
+                let own = names.iter().map(|name| own_name(name));
+                open.extend(own.filter_map(|name| self.source.find(name)));
                 open.extend(self.constants_of(one));
             }
         }

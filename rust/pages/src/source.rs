@@ -1,4 +1,4 @@
-//! A Rattle file, taken apart into its declarations.
+//! A Rattle file, taken apart into its declarations; the functions of an `impl` are among them.
 
 use std::collections::BTreeSet;
 
@@ -12,7 +12,7 @@ pub enum Sort {
     Constant,
 }
 
-/// A declaration at the top of a Rattle file.
+/// A declaration at the top of a Rattle file, or a function of an `impl` there.
 #[derive(Debug)]
 pub struct Declaration {
     pub sort: Sort,
@@ -66,8 +66,28 @@ impl Source {
         let mut source = Source::default();
         // A `use` item, which may go on for some lines.
         let mut item = String::new();
+        // The `impl` whose functions follow, if one is open.
+        let mut block: Option<&str> = None;
         for (number, line) in text.lines().enumerate() {
-            let line = line.split("//").next().unwrap().trim_end();
+            let mut line = line.split("//").next().unwrap().trim_end();
+            if line.starts_with("impl") {
+                block = Some(line);
+                continue;
+            }
+            if let Some(head) = block {
+                if line == "}" {
+                    block = None;
+                    continue;
+                }
+                line = line.strip_prefix("    ").unwrap_or(line);
+                if line.starts_with("ghost ") {
+                    continue;
+                }
+                if head.contains(" for ") && line.starts_with("fn ") {
+                    source.read_line(number, &format!("pub {line}"));
+                    continue;
+                }
+            }
             if !item.is_empty() || line.starts_with("use ") || line.starts_with("ghost use ") {
                 item += line.trim_start();
                 if line.ends_with(';') {

@@ -1,9 +1,7 @@
--- `answers::report` meets its contract: a law of proofs/Laws.antt for each way out.
-use Rattle.answers.proofs.Laws.{filled_ways}
+-- `answers::report` meets its contract: the refusal's number and position are stored, and the
+-- bytes.
+use Rattle.answers.proofs.Laws.{filled_reported}
 use Rattle.answers.proofs.report.Goals as goal
 
-pub returns-in-Written : goal.returns-in-Written
-returns-in-Written c = search filled_ways
-
-pub returns-in-Refused : goal.returns-in-Refused
-returns-in-Refused c = search filled_ways
+pub returns : goal.returns
+returns c = search filled_reported

@@ -6,8 +6,8 @@ use Rattle.block_reader.proofs.gather.Goals as goal
 pub loop-j-init : goal.loop-j-init
 loop-j-init c = search gathered
 
-pub slice_bounds-write_bytes-end : goal.slice_bounds-write_bytes-end
-slice_bounds-write_bytes-end c = search gathered
+pub slice_bounds-put-end : goal.slice_bounds-put-end
+slice_bounds-put-end c = search gathered
 
 pub loop-j-preserved : goal.loop-j-preserved
 loop-j-preserved c = search gathered

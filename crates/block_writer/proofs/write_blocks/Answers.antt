@@ -1,5 +1,5 @@
 -- `block_writer::write_blocks` meets its contract. Before each turn of the loop the blocks passed
--- stand one after the other. The measure is the number of blocks left.
+-- stand one after the other.
 use Rattle.block_writer.proofs.Stored.{stored}
 use Rattle.block_writer.proofs.write_blocks.Goals as goal
 
@@ -9,8 +9,8 @@ loop-j-init c = search stored
 pub part_of-requires : goal.part_of-requires
 part_of-requires c = search stored
 
-pub write_block-requires : goal.write_block-requires
-write_block-requires c = search stored
+pub block_of-block-requires : goal.block_of-block-requires
+block_of-block-requires c = search stored
 
 pub loop-j-preserved : goal.loop-j-preserved
 loop-j-preserved c = search stored

@@ -1,11 +1,11 @@
 -- A table filled with a program's rows, or the refusal.
-use Rattle.std.specs.Prelude.{ℕ, ◌*◌, List, ◌≡◌, leb, length}
+use Rattle.std.specs.Prelude.{ℕ, ◌*◌, List, ◌≡◌, leb, length, Result as Answer}
 use Rattle.formats.specs.Refusals.{space_too_short}
 use Rattle.formats.specs.Results.{Result, done, refusal, and_then, verdict, value_if}
 use Rattle.formats.specs.Inner.Limits.{most_records}
 use Rattle.formats.specs.Rows.{read_program}
 use Rattle.refusal.specs.Inner.Verdicts.{verdict_result}
-use Rattle.refusal.specs.declared.Verdict.{Verdict}
+use Rattle.refusal.specs.declared.Refused.{Refused}
 use Rattle.rules.specs.PassOne.{pass_one}
 use Rattle.stepwise.specs.Inner.Rows.{row_words, tabled}
 
@@ -30,6 +30,6 @@ or_else (done x) before = x
 or_else (refusal number position) before = before
 
 -- The verdict, and every word of the table.
-pub record Decodes (s table after : List ℕ) (r : Verdict) : Type 0 where
+pub record Decodes (s table after : List ℕ) (r : Answer (Unit {0}) Refused) : Type 0 where
   pub said_so : verdict_result r ≡ verdict (decoded s table)
   pub after_is : after ≡ or_else (decoded s table) table

@@ -13,7 +13,7 @@ use Rattle.records.specs.declared.Record.{Record}
 use Rattle.records.specs.declared.Parts.{Parts}
 use Rattle.walks.specs.Inner.Limits.{most_count}
 use Rattle.walks.specs.Inner.Walks.{Inside, Went, Here, HereRow, PartsFrom, Begins}
-use Rattle.stepwise.specs.Inner.Rows.{whole, last_argument, last_word, action_of, role_of, slot_of, keeps_in, part_location, operand_of, tree_of, more_of, rows_of, row_words, tabled}
+use Rattle.stepwise.specs.Inner.Rows.{whole, last_word, action_of, role_of, slot_of, keeps_in, part_location, operand_of, tree_of, more_of, rows_of, row_words, tabled}
 use Rattle.stepwise.specs.Inner.Rows.{Location as LocationThere}
 use Rattle.part_locations.specs.declared.Location.{Location}
 use Rattle.part_locations.specs.Inner.Locations.{location_with}
@@ -82,14 +82,13 @@ pub record FirstHalf (entry arity : ℕ → ℕ) (p : LocationThere) (kind : Kin
 -- The words of a row, made from its two halves.
 abbrev pub row_in : Own → Location → ℕ → List ℕ
 row_in o p after =
-    o.action ∷ o.operand ∷ o.tree ∷ o.more ∷ (p.role % 65536) ∷ (p.parent % 65536) ∷ (p.slot % 65536) ∷ (after % 65536) ∷ []
+    o.action ∷ o.operand ∷ o.tree ∷ o.more ∷ p.role ∷ (p.parent % 65536) ∷ (p.slot % 65536) ∷ (after % 65536) ∷ []
 
 -- ---- an expression
 
 -- Counts stay small up to record `end`, even if each record adds one.
 pub record Small (k end : ℕ) (p : Location) : Type 0 where
   pub inside : Inside k end
-  pub role : p.role ≤ last_argument
   pub parent : p.parent ≤ most_records
   pub slot : p.slot ≤ most_count + last_word
   pub names : p.names + (end - k) ≤ most_count
@@ -168,11 +167,10 @@ start_location f = record { role = whole; parent = 0; slot = 0; names = f.parame
 abbrev pub Starts : List ℕ → ℕ → Location → Type 0
 Starts s j p = Begins Location s j start_location p
 
--- The records are a program, and there is room for its rows and for its Cases.
-pub record TableReady (s table cases : List ℕ) : Type 0 where
+-- The records are a program, and there is room for its rows.
+pub record TableReady (s table : List ℕ) : Type 0 where
   pub is_read : verdict (read_program s) ≡ done tt
   pub room : table_words ≤ length table
-  pub stack : most_records ≤ length cases
 
 pub record FillsAll (s table table' : List ℕ) : Type 0 where
   pub is : (program : Program) → read_program s ≡ done program → table' ≡ tabled table program

@@ -1,7 +1,7 @@
 -- The instruction of each item of a template, and how items are emitted.
 use Rattle.std.specs.Prelude.{ℕ, suc, ◌*◌, Bool, true, false, List, [], ◌∷◌, map}
 use Rattle.formats.specs.Inner.CodeColumn.{Item, push_number, get_name, compute_two, ifnot_last, jump_after, end_name, write_leaf_tag, write_node_tag, write_number, read_tag_last, read_number, call_function}
-use Rattle.formats.specs.Records.{Record, fields, record_bytes, bytes_of_record}
+use Rattle.formats.specs.Records.{Record, record_bytes, bytes_of_record}
 use Rattle.formats.specs.Inner.Fields.{arity_in}
 use Rattle.formats.specs.Written.{written}
 use Rattle.meaning.specs.Instructions.{Operation, Push, Get, Compute, Ifnot, Jump, LeafTag, NodeTag, WriteNumber, ReadTag, ReadNumber, Call, instruction_of}
@@ -9,7 +9,8 @@ use Rattle.translation.specs.Templates.{word_of, end_of}
 use Rattle.code_scope.specs.declared.Scope.{Scope}
 use Rattle.code_scope.specs.Inner.Around.{Around, around_of}
 use Rattle.template.specs.Inner.Items.{entries_in}
-use Rattle.emit_items.specs.declared.Instruction.{Instruction}
+use Rattle.instruction.specs.declared.Opcode.{Opcode}
+use Rattle.instruction.specs.declared.Opcode.TheVariants.{Slide, Drop}
 
 -- The instruction of an item, where functions have these entries and so many number parameters.
 -- `last` is the address at which the last part begins, `beyond` the address after the whole
@@ -36,9 +37,6 @@ operations_for s entries c last beyond items = map (operation_for (entries_in en
 abbrev pub instruction_for : (s entries : List ℕ) → Scope → (last beyond : ℕ) → Item → Record
 instruction_for s entries c last beyond item = instruction_of (operation_for (entries_in entries) (arity_in s) (around_of c) last beyond item)
 
-abbrev pub fields_in : Instruction → Record
-fields_in x = fields x.opcode x.byte1 x.operand x.number
-
 -- An instruction written at an address of a part of the code buffer; untouched where it does not
 -- fit.
 abbrev pub put : List ℕ → ℕ → Operation → List ℕ
@@ -50,6 +48,6 @@ put_all code a [] = code
 put_all code a (op ∷ ops) = put_all (put code a op) (suc a) ops
 
 -- The opcode of "end".
-abbrev pub opcode_of_end : Bool → ℕ
-opcode_of_end true = 6
-opcode_of_end false = 5
+abbrev pub end_opcode : Bool → Opcode
+end_opcode true = Drop
+end_opcode false = Slide

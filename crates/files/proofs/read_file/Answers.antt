@@ -2,17 +2,20 @@
 -- own buffer, and the rows header to prefix form are tested there.
 use borrow.Author.Rules.{rules}
 use lib.Seq.{length-take-le}
+use Rattle.std.proofs.lemmas.Result.{err_from_is_err_and}
 use Rattle.files.proofs.Laws.{read_ways}
 use Rattle.files.proofs.read_file.Goals as goal
 
 pub slice_bounds-flat-end : goal.slice_bounds-flat-end
-slice_bounds-flat-end c = search read_ways
+slice_bounds-flat-end c = search (read_ways, c.in_ok-bytes.was)
 
 pub slice_bounds-put_program-end : goal.slice_bounds-put_program-end
-slice_bounds-put_program-end c = search (rules, length-take-le, read_ways)
+slice_bounds-put_program-end c = search (rules, length-take-le, read_ways, c.in_ok-bytes.was)
 
-pub returns-in-Refused : goal.returns-in-Refused
-returns-in-Refused c = search read_ways
+pub returns-in_err-bytes : goal.returns-in_err-bytes
+returns-in_err-bytes c =
+    let p = err_from_is_err_and c.from_residual.result c.from_residual.ensures.1 in
+    rw (p.1, p.2) (search (read_ways, c.in_err-bytes.was))
 
-pub returns-in-Written : goal.returns-in-Written
-returns-in-Written c = search read_ways
+pub returns : goal.returns
+returns c = search (read_ways, c.in_ok-bytes.was)

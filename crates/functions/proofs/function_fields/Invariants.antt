@@ -1,6 +1,5 @@
 -- `functions::function_fields` meets its contract. Before each turn of the loop the functions below
--- j have passed, so those from j on decide. The measure is the number of functions left.
-use Prim.Native.Nat.{◌-◌}
+-- j have passed, so those from j on decide.
 use Rattle.formats.specs.Results.{verdict, each}
 use Rattle.formats.proofs.Results.{Passing}
 use Rattle.formats.specs.Inner.Fields.{function_in}
@@ -8,6 +7,3 @@ use Rattle.functions.proofs.function_fields.Given as goal
 
 abbrev pub invariant-loop-j : goal.invariant-loop-j
 invariant-loop-j l = Passing (function_in l.flat) (verdict (each (function_in l.flat) l.functions 0)) l.functions l.j
-
-abbrev pub decreases-loop-j : goal.decreases-loop-j
-decreases-loop-j l = l.functions - l.j

@@ -1,15 +1,15 @@
--- `machine::add` meets its contract. Where the frame has fewer than two words it is refused; where
--- their sum is in range it replaces the lower one and is the new top; else it is refused with 21.
+-- `machine::add` meets its contract: no fuel is left, words are missing, or the sum of the two top
+-- words replaces them or is out of range.
+use native.Mathlib.Omega.{arith}
 use Rattle.operations.proofs.StackLaws.{adds}
+use Rattle.operations.proofs.CheckedLaws.{fuelled, tests}
 use Rattle.machine.proofs.add.Goals as goal
 
--- words missing
-pub returns-then-top-s-lt2 : goal.returns-then-top-s-lt2
-returns-then-top-s-lt2 c = search adds
+pub returns-then-lacks : goal.returns-then-lacks
+returns-then-lacks g c = search (fuelled, tests, adds)
 
--- the sum out of range
-pub returns-in-Word : goal.returns-in-Word
-returns-in-Word c = search adds
+pub returns-in-Some : goal.returns-in-Some
+returns-in-Some g c = search (fuelled, tests, adds, arith)
 
-pub returns-in-OutOfRange : goal.returns-in-OutOfRange
-returns-in-OutOfRange c = search adds
+pub returns-in-None : goal.returns-in-None
+returns-in-None g c = search (fuelled, tests, adds)

@@ -1,12 +1,10 @@
--- `machine::drop` meets its contract. Where the frame has no word it is refused; else its words end
--- one lower.
+-- `machine::drop` meets its contract: no fuel is left, no word is there, or the top word goes.
 use Rattle.operations.proofs.StackLaws.{drops}
+use Rattle.operations.proofs.CheckedLaws.{fuelled, tests, standing}
 use Rattle.machine.proofs.drop.Goals as goal
 
--- no word
-pub returns-then-top-s : goal.returns-then-top-s
-returns-then-top-s c = search drops
+pub returns-then-lacks : goal.returns-then-lacks
+returns-then-lacks g c = search (fuelled, tests, standing, drops)
 
--- the word taken
 pub returns : goal.returns
-returns c = search drops
+returns g c = search (fuelled, tests, standing, drops)

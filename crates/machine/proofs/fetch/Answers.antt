@@ -3,6 +3,5 @@
 use Rattle.operations.proofs.Fields.{fetched}
 use Rattle.machine.proofs.fetch.Goals as goal
 
--- what it holds
 pub returns : goal.returns
 returns c = search fetched

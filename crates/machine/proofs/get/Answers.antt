@@ -1,13 +1,14 @@
--- `machine::get` meets its contract. A word that the frame does not hold is refused; one that it
--- holds is pushed, and the contract of `push` says the rest.
-use native.Mathlib.Nat.{le_of_lt}
-use Rattle.operations.proofs.StackLaws.{gets}
+-- `machine::get` meets its contract: no fuel is left, the frame does not hold the word, there is no
+-- room, or the word that it holds is put on top.
+use Rattle.operations.proofs.StackLaws.{pushes, gets}
+use Rattle.operations.proofs.CheckedLaws.{fuelled, tests, standing}
 use Rattle.machine.proofs.get.Goals as goal
 
--- no such word (a test for fewer words would do here: it fails where the word is read)
-pub returns-then-top-base : goal.returns-then-top-base
-returns-then-top-base c = search (gets, le_of_lt)
+pub returns-then-lacks : goal.returns-then-lacks
+returns-then-lacks g c = search (fuelled, tests, standing, gets)
 
--- the word read, and pushed
+pub returns-then-is_full : goal.returns-then-is_full
+returns-then-is_full g c = search (fuelled, tests, standing, gets, pushes)
+
 pub returns : goal.returns
-returns c = search gets
+returns g c = search (fuelled, tests, standing, gets)

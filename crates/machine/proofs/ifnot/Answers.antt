@@ -1,15 +1,14 @@
--- `machine::ifnot` meets its contract. Where the frame has no word it is refused; else the top word
--- is taken, and the run goes to the address or on.
+-- `machine::ifnot` meets its contract: no fuel is left, no word is there, or the top word is taken,
+-- and the run goes to the address or on.
 use Rattle.operations.proofs.StackLaws.{ifnots}
+use Rattle.operations.proofs.CheckedLaws.{fuelled, tests, standing}
 use Rattle.machine.proofs.ifnot.Goals as goal
 
--- no word
-pub returns-then-top-s : goal.returns-then-top-s
-returns-then-top-s c = search ifnots
+pub returns-then-lacks : goal.returns-then-lacks
+returns-then-lacks g c = search (fuelled, tests, standing, ifnots)
 
--- it is not 0, or it is
 pub returns-then-values-top-ne0 : goal.returns-then-values-top-ne0
-returns-then-values-top-ne0 c = search ifnots
+returns-then-values-top-ne0 g c = search (fuelled, tests, standing, ifnots)
 
 pub returns-else-values-top-ne0 : goal.returns-else-values-top-ne0
-returns-else-values-top-ne0 c = search ifnots
+returns-else-values-top-ne0 g c = search (fuelled, tests, standing, ifnots)

@@ -1,12 +1,7 @@
--- `machine::push` meets its contract. As many words stand as the top says: at the limit the push is
--- refused, else the word set there is the frame's new top.
+-- `machine::push` meets its contract: no fuel is left, there is no room, or the word is put on top.
 use Rattle.operations.proofs.StackLaws.{pushes}
+use Rattle.operations.proofs.CheckedLaws.{fuelled, tests}
 use Rattle.machine.proofs.push.Goals as goal
 
--- no room
-pub returns-then-top-ge-VALUE_WORDS : goal.returns-then-top-ge-VALUE_WORDS
-returns-then-top-ge-VALUE_WORDS c = search pushes
-
--- the word set, and the machine on top of it
-pub returns : goal.returns
-returns c = search pushes
+pub returns-then-is_full : goal.returns-then-is_full
+returns-then-is_full g c = search (fuelled, tests, pushes)

@@ -1,20 +1,17 @@
--- `machine::read_tag` meets its contract: the input has ended, or its next byte is a leaf's tag, a
--- node's, or neither.
+-- `machine::read_tag` meets its contract: no fuel is left, the input has ended, or its next byte is
+-- a leaf's tag, a node's, or neither.
 use Rattle.operations.proofs.StreamLaws.{tags_in}
+use Rattle.operations.proofs.CheckedLaws.{fuelled}
 use Rattle.machine.proofs.read_tag.Goals as goal
 
--- the input has ended
 pub returns-then-input-read : goal.returns-then-input-read
-returns-then-input-read c = search tags_in
+returns-then-input-read c = search (fuelled, tags_in)
 
--- a leaf
 pub returns-then-tag-eq-LEAF_TAG : goal.returns-then-tag-eq-LEAF_TAG
-returns-then-tag-eq-LEAF_TAG c = search tags_in
+returns-then-tag-eq-LEAF_TAG c = search (fuelled, tags_in)
 
--- a node
 pub returns-then-tag-eq-NODE_TAG : goal.returns-then-tag-eq-NODE_TAG
-returns-then-tag-eq-NODE_TAG c = search tags_in
+returns-then-tag-eq-NODE_TAG c = search (fuelled, tags_in)
 
--- no tag
 pub returns : goal.returns
-returns c = search tags_in
+returns c = search (fuelled, tags_in)

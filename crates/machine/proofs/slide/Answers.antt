@@ -1,12 +1,17 @@
--- `machine::slide` meets its contract. Where the frame has fewer than two words it is refused; else
--- the top word replaces the one under it and is the new top.
+-- `machine::slide` meets its contract: no fuel is left, words are missing, or the top word replaces
+-- the one under it.
+use Prim.Native.Nat.{◌≤◌}
+use native.Mathlib.Omega.{arith}
+use lib.ListN.{length}
+use Rattle.meaning.specs.Running.{value_words}
 use Rattle.operations.proofs.StackLaws.{slides}
+use Rattle.operations.proofs.CheckedLaws.{fuelled, tests}
 use Rattle.machine.proofs.slide.Goals as goal
 
--- words missing
-pub returns-then-top-s-lt2 : goal.returns-then-top-s-lt2
-returns-then-top-s-lt2 c = search slides
+pub returns-then-lacks : goal.returns-then-lacks
+returns-then-lacks g c = search (fuelled, tests, slides)
 
--- the top word read, and set
 pub returns : goal.returns
-returns c = search slides
+returns g c =
+    let long : value_words ≤ length c.args.values.now = omega arith in
+    search (fuelled, tests, slides)

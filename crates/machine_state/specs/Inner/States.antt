@@ -1,9 +1,12 @@
 -- The state that the machine's numbers and the lent words stand for.
-use Rattle.std.specs.Prelude.{◌≡◌, ℕ, zero, suc, ◌+◌, ◌-◌, ◌/◌, ◌<◌, ◌≤◌, min, true, false, List, [], ◌∷◌, length, take, ◌==◌, nat_lt, slice_index, slice_index_or}
+use Rattle.std.specs.Prelude.{◌≡◌, ℕ, zero, suc, ◌+◌, ◌-◌, ◌/◌, ◌<◌, ◌≤◌, min, Bool, true, false, List, [], ◌∷◌, length, take, nat_lt, slice_index, slice_index_or}
+use Rattle.formats.specs.Refusals.{fuel_used_up, input_ended, not_a_tag, output_full, too_many_calls, cannot_perform, out_of_range}
 use Rattle.meaning.specs.Instructions.{instruction_bytes, most_instructions}
 use Rattle.meaning.specs.Performing.{Setting, Caller, State, Step, goes, ends, refuses, number_kept}
 use Rattle.meaning.specs.Running.{value_words, return_words, most_calls}
 use Rattle.machine_state.specs.declared.Machine.{Machine}
+use Rattle.machine_state.specs.declared.Stop.{Stop}
+use Rattle.machine_state.specs.declared.Stop.TheVariants.{GoesOn, Ended, FuelUsedUp, InputEnded, NotATag, OutputFull, TooManyCalls, CannotPerform, OutOfRange}
 
 -- The n value words from a base up, the top one first.
 unfoldable pub words_from : List ℕ → ℕ → ℕ → List ℕ
@@ -35,20 +38,48 @@ state_of values returns output s =
       output = take s.written output;
     }
 
--- The values of `stop` that are not the number of a refusal.
-abbrev pub goes_on : ℕ
-goes_on = 0
+-- Whether the machine goes on, and whether its run has ended.
+abbrev pub goes_on : Stop → Bool
+goes_on GoesOn = true
+goes_on Ended = false
+goes_on FuelUsedUp = false
+goes_on InputEnded = false
+goes_on NotATag = false
+goes_on OutputFull = false
+goes_on TooManyCalls = false
+goes_on CannotPerform = false
+goes_on OutOfRange = false
 
-abbrev pub has_ended : ℕ
-has_ended = 1
+abbrev pub has_ended : Stop → Bool
+has_ended GoesOn = false
+has_ended Ended = true
+has_ended FuelUsedUp = false
+has_ended InputEnded = false
+has_ended NotATag = false
+has_ended OutputFull = false
+has_ended TooManyCalls = false
+has_ended CannotPerform = false
+has_ended OutOfRange = false
+
+-- The number of the refusal that stops the machine: 19 where it has not been refused.
+abbrev pub refusal_number : Stop → ℕ
+refusal_number GoesOn = cannot_perform
+refusal_number Ended = cannot_perform
+refusal_number FuelUsedUp = fuel_used_up
+refusal_number InputEnded = input_ended
+refusal_number NotATag = not_a_tag
+refusal_number OutputFull = output_full
+refusal_number TooManyCalls = too_many_calls
+refusal_number CannotPerform = cannot_perform
+refusal_number OutOfRange = out_of_range
 
 -- The outcome of an instruction: the run goes on; it has ended, and its number is the top word of
 -- the frame, if there is one; or the instruction is refused.
 unfoldable pub step_of : (values returns output : List ℕ) → Machine → Step
 step_of values returns output s =
-    elim (s.stop == goes_on) [
+    elim (goes_on s.stop) [
       | true ↦ goes (state_of values returns output s)
-      | false ↦ elim (s.stop == has_ended) [ true ↦ ends (number_kept (frame_of values s)) | false ↦ refuses s.stop ]
+      | false ↦ elim (has_ended s.stop) [ true ↦ ends (number_kept (frame_of values s)) | false ↦ refuses (refusal_number s.stop) ]
     ]
 
 -- The bases of the frames that wait lie one above the other, and the first frame's is 0.
@@ -62,13 +93,13 @@ limit_of bytes = min most_instructions (bytes / instruction_bytes)
 
 -- A machine that goes on, its frame within the value words.
 pub record Going (s : Machine) : Type 0 where
-  pub going : s.stop ≡ goes_on
+  pub going : s.stop ≡ GoesOn
   pub based : s.base ≤ s.top
   pub topped : s.top ≤ value_words
 
 -- .. and its address below the most instructions.
 pub record Sound (s : Machine) : Type 0 where
-  pub going : s.stop ≡ goes_on
+  pub going : s.stop ≡ GoesOn
   pub addressed : s.address < most_instructions
   pub based : s.base ≤ s.top
   pub topped : s.top ≤ value_words
@@ -97,7 +128,7 @@ pub record Lent (s : Machine) (input output values returns : List ℕ) : Type 0 
 
 -- ---- changes of the machine's numbers
 
-abbrev pub stopped_by : ℕ → Machine → Machine
+abbrev pub stopped_by : Stop → Machine → Machine
 stopped_by why s =
     record { stop = why; address = s.address; top = s.top; base = s.base; saved = s.saved; read = s.read; written = s.written }
 
@@ -113,7 +144,7 @@ jump_to address s =
 unfoldable pub left : List ℕ → ℕ → Machine → Machine
 left returns top s =
     elim (nat_lt s.saved 2) [
-      | true ↦ record { stop = has_ended; address = s.address; top = top; base = s.base; saved = s.saved; read = s.read; written = s.written }
+      | true ↦ record { stop = Ended; address = s.address; top = top; base = s.base; saved = s.saved; read = s.read; written = s.written }
       | false ↦
           record {
             stop = s.stop;

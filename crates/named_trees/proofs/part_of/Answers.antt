@@ -16,11 +16,11 @@ returns-then-left-known c = search parts
 pub overflow_add-result : goal.overflow_add-result
 overflow_add-result c =
     let within = part_within c.args.input.now c.args.known c.args.end c.args.node c.args.j
-    c.if-input-node.false c.if-j-eq0.false c.if-left-known.false _ c.tree_answer-found.ensures c.in-Tree.measures c.in-Tree.is in
+    c.if-input-node.false c.if-j-eq0.false c.if-left-known.false _ c.tree_answer.ensures c.in-Ok.measures c.in-Ok.is in
     omega (arith, within)
 
-pub returns-in-Refused : goal.returns-in-Refused
-returns-in-Refused c = search parts
+pub returns-in-Ok : goal.returns-in-Ok
+returns-in-Ok c = search parts
 
-pub returns-in-Tree : goal.returns-in-Tree
-returns-in-Tree c = search parts
+pub returns-in-Err : goal.returns-in-Err
+returns-in-Err c = search parts

@@ -7,9 +7,3 @@ loop-n-init c = search copying
 
 pub loop-n-preserved : goal.loop-n-preserved
 loop-n-preserved c = search copying
-
-pub shape_of-values : goal.shape_of-values
-shape_of-values c = search copying
-
-pub returns : goal.returns
-returns c = search copying

@@ -2,12 +2,14 @@
 -- place of the tests that they leave out, and what they do.
 use Rattle.std.specs.Prelude.{ℕ, ◌+◌, ◌≤◌, ◌<◌, List, ◌≢◌, ◌≡◌}
 use Rattle.std.proofs.Math.Option.{some}
-use Rattle.formats.specs.Refusals.{fuel_used_up, cannot_perform}
+use Rattle.formats.specs.Numbers.{Bytes}
+use Rattle.formats.specs.Refusals.{cannot_perform}
 use Rattle.meaning.specs.Instructions.{Instruction}
 use Rattle.meaning.specs.Performing.{Setting, State, start, refuses, step}
-use Rattle.meaning.specs.Running.{value_words}
+use Rattle.meaning.specs.Running.{value_words, of_code}
 use Rattle.meaning.specs.StreamRun.{Steps as Led}
 use Rattle.machine_state.specs.declared.Machine.{Machine}
+use Rattle.machine_state.specs.declared.Stop.TheVariants.{FuelUsedUp}
 use Rattle.machine_state.specs.Inner.States.{state_of, Held, stopped_by}
 use Rattle.operations.specs.Inner.Effects.{Performs}
 
@@ -16,6 +18,10 @@ use Rattle.operations.specs.Inner.Effects.{Performs}
 -- No state that a run comes to is refused with 19.
 pub record Safe (m : Setting) : Type 0 where
   pub safe : (past : List ℕ) (t : State) → Led m past start t → step m t ≢ refuses cannot_perform
+
+-- .. whatever the code reads, and however long its output is.
+pub record NeverCannot (code : List ℕ) : Type 0 where
+  pub safe : (input : List ℕ) (space : ℕ) → Bytes input → Safe (of_code code input space)
 
 -- The instruction at the machine's address is this one, and is not refused with 19: in some state
 -- that the machine's numbers stand for.
@@ -44,10 +50,10 @@ pub record ReturnByte (k : ℕ) : Type 0 where
 
 -- With no fuel left the machine stops with 14, and what is lent stays as it was; else it is done.
 pub record Fuelled (fuel : ℕ) (lent lent' : List ℕ) (s r : Machine) (Done : Type 0) : Type 0 where
-  pub used_up : fuel ≡ 0 → (r ≡ stopped_by fuel_used_up s) × (lent' ≡ lent)
+  pub used_up : fuel ≡ 0 → (r ≡ stopped_by FuelUsedUp s) × (lent' ≡ lent)
   pub performed : fuel ≢ 0 → Done
 
 -- The same of an instruction, which is lent all buffers.
 pub record Turns (fuel : ℕ) (i : Instruction) (input values returns output values' returns' output' : List ℕ) (s r : Machine) : Type 0 where
-  pub used_up : fuel ≡ 0 → (r ≡ stopped_by fuel_used_up s) × (values' ≡ values) × (returns' ≡ returns) × (output' ≡ output)
+  pub used_up : fuel ≡ 0 → (r ≡ stopped_by FuelUsedUp s) × (values' ≡ values) × (returns' ≡ returns) × (output' ≡ output)
   pub performed : fuel ≢ 0 → Performs i input values returns output values' returns' output' s r

@@ -4,8 +4,9 @@
 use Rattle.std.specs.Prelude.{ℕ, List, [], ◌∷◌, ◌≢◌, ◌≡◌, length, drop}
 use Rattle.meaning.specs.Instructions.{Instruction, Operation, held_by}
 use Rattle.meaning.specs.Performing.{Setting, Step, write, operate, perform, step}
-use Rattle.machine_state.specs.Inner.States.{state_of, goes_on, step_of, Held}
+use Rattle.machine_state.specs.Inner.States.{state_of, step_of, Held}
 use Rattle.machine_state.specs.declared.Machine.{Machine}
+use Rattle.machine_state.specs.declared.Stop.TheVariants.{GoesOn}
 
 -- Nothing is read or written.
 pub record Still (output output' : List ℕ) (s r : Machine) : Type 0 where
@@ -23,7 +24,7 @@ pub record Does (m : Setting) (due : Step) (values returns output values' return
   pub same_returns : length returns' ≡ length returns
   pub same_output : length output' ≡ length output
   pub untouched : drop r.written output' ≡ drop r.written output
-  pub still : r.stop ≢ goes_on → Still output output' s r
+  pub still : r.stop ≢ GoesOn → Still output output' s r
 
 -- An operation on the machine's numbers alone.
 pub record OnNumbers (op : Operation) (s r : Machine) : Type 0 where

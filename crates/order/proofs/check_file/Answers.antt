@@ -11,8 +11,8 @@ slice_bounds-flat-end c = search check_ways
 pub slice_bounds-check_records-end : goal.slice_bounds-check_records-end
 slice_bounds-check_records-end c = search (rules, length-take-le, check_ways)
 
-pub returns-in-Refused : goal.returns-in-Refused
-returns-in-Refused c = search check_ways
+pub returns-in-Err : goal.returns-in-Err
+returns-in-Err c = search check_ways
 
-pub returns-in-Written : goal.returns-in-Written
-returns-in-Written c = search check_ways
+pub returns-in-Ok : goal.returns-in-Ok
+returns-in-Ok c = search check_ways

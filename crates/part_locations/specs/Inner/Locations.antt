@@ -1,16 +1,16 @@
 -- Where the parts of a record stand, whatever its own location: what `stepwise/specs/Inner/Rows`
 -- says of them, with counts that are 64-bit numbers.
-use Rattle.std.specs.Prelude.{ℕ, zero, suc, ◌+◌, ◌-◌, ◌%◌, ◌^◌, Bool, true, false, List, [], leb, set, take}
+use Rattle.std.specs.Prelude.{ℕ, zero, suc, ◌≡◌, ◌+◌, ◌-◌, ◌%◌, ◌^◌, min, List, [], set, take}
 use Rattle.formats.specs.Records.{Kind, Const, Var, Compute, IfZero, Let, Leaf, Node, Case, Call, Part, a_number, a_tree, as_whole, under_number, under_trees}
-use Rattle.stepwise.specs.Inner.Rows.{kept, last_argument, last_word, role_of, slot_of, Location as LocationThere}
+use Rattle.stepwise.specs.Inner.Rows.{role_of, slot_of, Location as LocationThere}
 use Rattle.part_locations.specs.declared.Location.{Location}
 
 -- The largest 64-bit number. Sums stop there.
 abbrev pub largest : ℕ
 largest = 2 ^ 64 - 1
 
-unfoldable pub capped : ℕ → ℕ
-capped n = elim (leb n largest) [ true ↦ n | false ↦ largest ]
+abbrev pub capped : ℕ → ℕ
+capped n = min n largest
 
 -- A location as `stepwise` has it, with the Cases taken from the stack.
 abbrev pub location_with : Location → List ℕ → LocationThere
@@ -47,31 +47,31 @@ keeps_inside Node i keeps = keeps
 keeps_inside (Case a) i keeps = keeps
 keeps_inside (Call a b) i keeps = capped (keeps + i)
 
+-- What part i of a record of this kind is for, which has `count` parts, and on which word. (A
+-- function matters by its arity alone, and the Cases of the location do not matter.)
+abbrev pub role_inside : Kind → (i count : ℕ) → ℕ
+role_inside kind i count = role_of (λ b. 0) (λ b. count) kind i
+
+abbrev pub slot_inside : Kind → (i count : ℕ) → Location → ℕ
+slot_inside kind i count p = slot_of (λ b. 0) (λ b. count) (location_with p []) kind i
+
+-- The three that go by the record's kind.
+pub record Used (kind : Kind) (i count : ℕ) (p : Location) (role slot keeps : ℕ) : Type 0 where
+  pub role_is : role ≡ role_inside kind i count
+  pub slot_is : slot ≡ slot_inside kind i count p
+  pub keeps_is : keeps ≡ keeps_inside kind i p.keeps
+
 -- Where part i of the record r stands, which has `count` parts: by what the part is, and by the
--- record's kind. (A function matters by its arity alone, and the Cases of the location do not
--- matter.)
+-- record's kind.
 unfoldable pub part_in : Part → Kind → (r i count : ℕ) → Location → Location
 part_in part kind r i count p =
     record {
-      role = role_of (λ b. 0) (λ b. count) kind i;
+      role = role_inside kind i count;
       parent = r;
-      slot = slot_of (λ b. 0) (λ b. count) (location_with p []) kind i;
+      slot = slot_inside kind i count p;
       names = names_inside part p.names;
       keeps = keeps_inside kind i p.keeps;
       depth = depth_inside part p.depth;
-    }
-
--- Where an argument of the Call at record r stands, the last one or not, with `kept` numbers kept
--- before it.
-unfoldable pub argument_in : (r kept : ℕ) → Bool → (names depth : ℕ) → Location
-argument_in r keeps last names depth =
-    record {
-      role = elim last [ true ↦ last_argument | false ↦ kept ];
-      parent = r;
-      slot = last_word - keeps;
-      names = names;
-      keeps = keeps;
-      depth = depth;
     }
 
 -- The stack of Cases on entering a part of the record r, which itself stands in `depth` node parts

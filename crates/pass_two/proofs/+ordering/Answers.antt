@@ -1,5 +1,6 @@
 -- The functions of pass two meet their contracts. Each way out is a law of proofs/Branches or
 -- proofs/Walk.
+use Rattle.std.proofs.lemmas.Result.{err_from_is_err_and}
 use Rattle.pass_two.proofs.Branches.{ifs, cases}
 use Rattle.pass_two.proofs.Walk.{ats, calls, lists}
 use Rattle.pass_two.proofs.+ordering.Goals as goal
@@ -7,62 +8,82 @@ use Rattle.pass_two.proofs.+ordering.Goals as goal
 pub order_at-returns-then-end-k : goal.order_at-returns-then-end-k
 order_at-returns-then-end-k t c = search ats
 
-pub order_at-returns-in-Refused : goal.order_at-returns-in-Refused
-order_at-returns-in-Refused t c = search ats
+pub order_at-returns-in_err-node : goal.order_at-returns-in_err-node
+order_at-returns-in_err-node t c =
+    let p = err_from_is_err_and c.from_residual.result c.from_residual.ensures.1 in
+    rw (p.1, p.2) (search (ats, c.in_err-node.was))
 
 pub order_at-returns-in-IfZero : goal.order_at-returns-in-IfZero
-order_at-returns-in-IfZero t c = search ats
+order_at-returns-in-IfZero t c = search (ats, c.in_ok-node.was)
 
 pub order_at-returns-in-Case : goal.order_at-returns-in-Case
-order_at-returns-in-Case t c = search ats
+order_at-returns-in-Case t c = search (ats, c.in_ok-node.was)
 
 pub order_at-returns-in-Call : goal.order_at-returns-in-Call
-order_at-returns-in-Call t c = search ats
+order_at-returns-in-Call t c = search (ats, c.in_ok-node.was)
 
 pub order_at-returns-in_default : goal.order_at-returns-in_default
-order_at-returns-in_default t c = search (ats, c.in_default.not-IfZero, c.in_default.not-Case, c.in_default.not-Call)
+order_at-returns-in_default t c = search (ats, c.in_ok-node.was, c.in_default.not-IfZero, c.in_default.not-Case, c.in_default.not-Call)
 
-pub order_call-returns-in-Refused : goal.order_call-returns-in-Refused
-order_call-returns-in-Refused t c = search calls
+pub order_call-returns-in_err-after : goal.order_call-returns-in_err-after
+order_call-returns-in_err-after t c =
+    let p = err_from_is_err_and c.from_residual.result c.from_residual.ensures.1 in
+    rw (p.1, p.2) (search (calls, c.in_err-after.was))
 
-pub order_call-returns-then-not-taken : goal.order_call-returns-then-not-taken
-order_call-returns-then-not-taken t c = search calls
+pub order_call-returns-in_err-rest : goal.order_call-returns-in_err-rest
+order_call-returns-in_err-rest t c =
+    let p = err_from_is_err_and c.from_residual-in_err-rest.result c.from_residual-in_err-rest.ensures.1 in
+    rw (p.1, p.2) (search (calls, c.in_ok-after.was, c.in_err-rest.was))
 
 pub order_call-returns : goal.order_call-returns
-order_call-returns t c = search calls
+order_call-returns t c = search (calls, c.in_ok-after.was, c.in_ok-rest.was)
 
-pub order_case-returns-then-not-taken : goal.order_case-returns-then-not-taken
-order_case-returns-then-not-taken t c = search cases
+pub order_case-returns-in_err-rest : goal.order_case-returns-in_err-rest
+order_case-returns-in_err-rest t c =
+    let p = err_from_is_err_and c.from_residual.result c.from_residual.ensures.1 in
+    rw (p.1, p.2) (search (cases, c.in_err-rest.was))
 
 pub order_case-returns-then-is_full : goal.order_case-returns-then-is_full
-order_case-returns-then-is_full t c = search cases
+order_case-returns-then-is_full t c = search (cases, c.in_ok-rest.was)
 
-pub order_case-returns-in-Refused : goal.order_case-returns-in-Refused
-order_case-returns-in-Refused t c = search cases
+pub order_case-returns-in_err-leaf : goal.order_case-returns-in_err-leaf
+order_case-returns-in_err-leaf t c =
+    let p = err_from_is_err_and c.from_residual-in_err-leaf.result c.from_residual-in_err-leaf.ensures.1 in
+    rw (p.1, p.2) (search (cases, c.in_ok-rest.was, c.in_err-leaf.was))
 
-pub order_case-returns-in-Refused-node_said : goal.order_case-returns-in-Refused-node_said
-order_case-returns-in-Refused-node_said t c = search cases
+pub order_case-returns-in_err-node : goal.order_case-returns-in_err-node
+order_case-returns-in_err-node t c =
+    let p = err_from_is_err_and c.from_residual-in_err-node.result c.from_residual-in_err-node.ensures.1 in
+    rw (p.1, p.2) (search (cases, c.in_ok-rest.was, c.in_ok-leaf.was, c.in_err-node.was))
 
 pub order_case-returns : goal.order_case-returns
-order_case-returns t c = search cases
+order_case-returns t c = search (cases, c.in_ok-rest.was, c.in_ok-leaf.was, c.in_ok-node.was)
 
-pub order_if-returns-in-Refused : goal.order_if-returns-in-Refused
-order_if-returns-in-Refused t c = search ifs
+pub order_if-returns-in_err-test : goal.order_if-returns-in_err-test
+order_if-returns-in_err-test t c =
+    let p = err_from_is_err_and c.from_residual.result c.from_residual.ensures.1 in
+    rw (p.1, p.2) (search (ifs, c.in_err-test.was))
 
-pub order_if-returns-in-Refused-zero_said : goal.order_if-returns-in-Refused-zero_said
-order_if-returns-in-Refused-zero_said t c = search ifs
+pub order_if-returns-in_err-zero : goal.order_if-returns-in_err-zero
+order_if-returns-in_err-zero t c =
+    let p = err_from_is_err_and c.from_residual-in_err-zero.result c.from_residual-in_err-zero.ensures.1 in
+    rw (p.1, p.2) (search (ifs, c.in_ok-test.was, c.in_err-zero.was))
 
-pub order_if-returns-in-Refused-other_said : goal.order_if-returns-in-Refused-other_said
-order_if-returns-in-Refused-other_said t c = search ifs
+pub order_if-returns-in_err-other : goal.order_if-returns-in_err-other
+order_if-returns-in_err-other t c =
+    let p = err_from_is_err_and c.from_residual-in_err-other.result c.from_residual-in_err-other.ensures.1 in
+    rw (p.1, p.2) (search (ifs, c.in_ok-test.was, c.in_ok-zero.was, c.in_err-other.was))
 
 pub order_if-returns : goal.order_if-returns
-order_if-returns t c = search ifs
+order_if-returns t c = search (ifs, c.in_ok-test.was, c.in_ok-zero.was, c.in_ok-other.was)
 
 pub order_list-returns-then-count-i : goal.order_list-returns-then-count-i
 order_list-returns-then-count-i t c = search lists
 
-pub order_list-returns-in-Refused : goal.order_list-returns-in-Refused
-order_list-returns-in-Refused t c = search lists
+pub order_list-returns-in_err-first : goal.order_list-returns-in_err-first
+order_list-returns-in_err-first t c =
+    let p = err_from_is_err_and c.from_residual.result c.from_residual.ensures.1 in
+    rw (p.1, p.2) (search (lists, c.in_err-first.was))
 
 pub order_list-returns : goal.order_list-returns
-order_list-returns t c = search lists
+order_list-returns t c = search (lists, c.in_ok-first.was)

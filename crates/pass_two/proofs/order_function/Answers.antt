@@ -1,12 +1,9 @@
--- `pass_two::order_function` meets its contract: the body is refused, leaves trees, or leaves none.
+-- `pass_two::order_function` meets its contract: the body leaves trees, or leaves none.
 use Rattle.pass_two.proofs.Walk.{functions}
 use Rattle.pass_two.proofs.order_function.Goals as goal
 
-pub returns-in-Refused : goal.returns-in-Refused
-returns-in-Refused c = search functions
-
-pub returns-then-left-ne0 : goal.returns-then-left-ne0
-returns-then-left-ne0 c = search functions
+pub returns-then-body-ne0 : goal.returns-then-body-ne0
+returns-then-body-ne0 c = search (functions, c.in_ok-body.was)
 
 pub returns : goal.returns
-returns c = search functions
+returns c = search (functions, c.in_ok-body.was)

@@ -1,19 +1,20 @@
 -- `pass_two::pass` meets its contract: the functions before j have passed, so those from j on
--- decide. The number of those left falls.
+-- decide.
 use native.Mathlib.Omega.{arith}
-use Rattle.formats.specs.Numbers.{Bytes}
-use Rattle.pass_two.proofs.Rows.{passed_over}
+use Rattle.std.proofs.lemmas.Result.{err_from_is_err_and}
+use Rattle.pass_two.proofs.Rows.{walk_first, passed_over}
 use Rattle.pass_two.proofs.pass.Goals as goal
 
 pub loop-j-init : goal.loop-j-init
-loop-j-init c = let bytes : Bytes c.args.flat.now = λ i. omega (arith, c.shared_slice_known-1.given i) in
-    search passed_over
+loop-j-init c = walk_first _ _ _ c.from.result _ (λ i. omega (arith, c.type_inv.flat i)) c.requires (cc) (cc) (cc) (cc)
 
-pub returns-in-Refused : goal.returns-in-Refused
-returns-in-Refused c = search passed_over
+pub returns-in_err-k : goal.returns-in_err-k
+returns-in_err-k c =
+    let p = err_from_is_err_and c.from_residual.result c.from_residual.ensures.1 in
+    rw (p.1, p.2) (search (passed_over, c.in_err-k.was))
 
 pub loop-j-preserved : goal.loop-j-preserved
-loop-j-preserved c = search passed_over
+loop-j-preserved c = search (passed_over, c.in_ok-k.was)
 
 pub returns : goal.returns
 returns c = search passed_over

@@ -1,11 +1,7 @@
 -- `pass_two::pass` meets its contract: the functions before j have passed, so those from j on
--- decide. The number of those left falls.
-use Prim.Native.Nat.{◌-◌}
+-- decide.
 use Rattle.pass_two.proofs.Rows.{Walking}
 use Rattle.pass_two.proofs.pass.Given as goal
 
 abbrev pub invariant-loop-j : goal.invariant-loop-j
 invariant-loop-j l = Walking l.flat l.functions l.end l.k l.j
-
-abbrev pub decreases-loop-j : goal.decreases-loop-j
-decreases-loop-j l = l.functions - l.j

@@ -1,12 +1,11 @@
 -- The list of pending trees that a `Pending` is, and what the functions on it answer.
-use Rattle.std.specs.Prelude.{ℕ, ◌+◌, ◌-◌, min, Bool, true, false, List, [], ◌∷◌, ◌≡◌, leb, eqb, length, replicate, set}
+use Rattle.std.specs.Prelude.{ℕ, ◌+◌, ◌-◌, min, Bool, true, false, List, [], ◌∷◌, ◌≡◌, leb, eqb, length, replicate, set, Option, Some, None}
 use Rattle.formats.specs.Inner.Buffers.{from_last}
 use Rattle.formats.specs.Refusals.{out_of_order}
-use Rattle.formats.specs.Results.{value_if}
+use Rattle.formats.specs.Results.{Result, done, refusal}
 use Rattle.rules.specs.Limits.{most_pending}
 use Rattle.rules.specs.PassTwo.{take_head}
 use Rattle.pending.specs.declared.Pending.{Pending}
-use Rattle.pending.specs.declared.Taken.{Taken}
 
 -- 01, Pass two: "The pending trees are a list of at most 16 numbers". How many there are, and their
 -- list, the head first.
@@ -30,20 +29,24 @@ abbrev pub is_head : ℕ → List ℕ → Bool
 is_head a [] = false
 is_head a (x ∷ Δ) = eqb x a
 
--- A tree that is the head is taken: one less counts, and the names stay. Else nothing changes.
-unfoldable pub head_taken : Pending → ℕ → Taken
+-- A tree that is the head is taken: one less counts, and the names stay. No other tree is taken.
+unfoldable pub head_taken : Pending → ℕ → Option Pending
 head_taken p a =
     elim (is_head a (list_of p)) [
-      | true ↦ record { head = true; pending = record { names = p.names; len = length_of p - 1 } }
-      | false ↦ record { head = false; pending = p }
+      | true ↦ Some (record { names = p.names; len = length_of p - 1 })
+      | false ↦ None
     ]
 
--- 01, Pass two: "11 not the head", whichever record takes tree a. A tree that is not the head is
--- not taken.
-pub record Took (p : Pending) (a : ℕ) (r : Taken) : Type 0 where
+-- What taking a tree gives: the list then pending, or that the tree is not the head, with the
+-- record that takes it.
+abbrev pub taken_result : ℕ → Option Pending → Result (List ℕ)
+taken_result k (Some p) = done (list_of p)
+taken_result k None = refusal out_of_order k
+
+-- 01, Pass two: "11 not the head", whichever record takes tree a.
+pub record Took (p : Pending) (a : ℕ) (r : Option Pending) : Type 0 where
   pub whole : r ≡ head_taken p a
-  pub reports : (k : ℕ) → take_head a k (list_of p) ≡ value_if r.head out_of_order k (list_of r.pending)
-  pub kept : r.head ≡ false → r.pending ≡ p
+  pub reports : (k : ℕ) → take_head a k (list_of p) ≡ taken_result k r
 
 -- 01, Pass two: "puts its two names in front", where they fit.
 unfoldable pub put_two : ℕ → ℕ → List ℕ → List ℕ

@@ -1,17 +1,17 @@
 -- `program::one_expression` meets its contract. Before each turn of the loop the records from k up
 -- to the end are as many expressions as stand. Where too few stand for the parts of the record in
--- front, there are none in the end. The measure is k.
+-- front, there are none in the end.
 use Rattle.program.proofs.Expressions.{walked}
 use Rattle.program.proofs.one_expression.Goals as goal
 
 pub loop-k-init : goal.loop-k-init
 loop-k-init c = search walked
 
-pub returns-then-standing-parts : goal.returns-then-standing-parts
-returns-then-standing-parts c = search walked
+pub returns-in-None : goal.returns-in-None
+returns-in-None c = search (walked, c.in-None.ensures)
 
 pub loop-k-preserved : goal.loop-k-preserved
-loop-k-preserved c = search walked
+loop-k-preserved c = search (walked, c.in-Some.ensures.0, c.in-Some.ensures.1)
 
 pub returns : goal.returns
 returns c = search walked

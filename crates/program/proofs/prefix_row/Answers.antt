@@ -1,6 +1,5 @@
 -- `program::prefix_row` meets its contract. Before each turn of the loop the functions below j are
--- one expression each, so those from j on, whose records begin at the first, decide. The measure is
--- the number of functions left.
+-- one expression each, so those from j on, whose records begin at the first, decide.
 use Rattle.program.proofs.Bodies.{bodies_checked}
 use Rattle.program.proofs.prefix_row.Goals as goal
 

@@ -1,15 +1,16 @@
 -- A record read, as 01, Nine kinds of record, has it: each case of the enums with its kind,
 -- operands, parts and template.
-use Rattle.std.specs.Prelude.{ℕ, ◌+◌, ◌*◌, ◌≤◌, List, [], ◌∷◌, ◌≡◌, length, get_or}
+use Rattle.std.specs.Prelude.{ℕ, ◌+◌, ◌*◌, ◌≤◌, List, [], ◌∷◌, ◌≡◌, length, get_or, Result as Answer}
 use Rattle.formats.specs.Arithmetic.{plus}
 use Rattle.formats.specs.Numbers.{number_at}
-use Rattle.formats.specs.Results.{Result, done, refusal, on_value}
+use Rattle.formats.specs.Results.{Result, on_value}
 use Rattle.formats.specs.Records.{Kind, fields, record_bytes, node_record, a_number, a_tree, as_whole, under_number, under_trees, these, arguments_of, parts_of}
 use Rattle.formats.specs.Records.{Part as PartOfKind, Parts as PartsOfKind}
 use Rattle.formats.specs.Inner.CodeColumn.{push_number, get_name, compute_two, ifnot_last, jump_after, end_name, write_leaf_tag, write_node_tag, write_number, read_tag_last, read_number, call_function, template_of}
 use Rattle.formats.specs.Inner.CodeColumn.{Item as ItemOfColumn, Template as TemplateOfKind}
 use Rattle.formats.specs.Records.{Const as a_const, Var as a_var, Add as an_add, IfZero as an_if_zero, Let as a_let, Leaf as a_leaf, Node as a_node, Case as a_case, Call as a_call}
-use Rattle.refusal.specs.Inner.Numbers.{number}
+use Rattle.refusal.specs.Inner.Answered.{answered}
+use Rattle.refusal.specs.declared.Refused.{Refused}
 use Rattle.records.specs.declared.Record.{Record}
 use Rattle.records.specs.declared.Record.TheVariants.{Const, Var, Add, IfZero, Let, Leaf, Node, Case, Call}
 use Rattle.records.specs.declared.Item.{Item}
@@ -21,8 +22,7 @@ use Rattle.records.specs.declared.Part.{Part}
 use Rattle.records.specs.declared.Part.TheVariants.{Number, Tree, Whole, UnderNumber, UnderTrees}
 use Rattle.records.specs.declared.Parts.{Parts}
 use Rattle.records.specs.declared.Parts.TheVariants.{None, One, Two, Three, Arguments}
-use Rattle.records.specs.declared.RecordRead.{RecordRead}
-use Rattle.records.specs.declared.RecordRead.TheVariants.{Read, Refused}
+use Rattle.records.specs.declared.Described.{Described}
 
 -- A record's kind with its operands.
 abbrev pub meant : Record → Kind
@@ -82,16 +82,15 @@ pub record Shape : Type 0 where
 abbrev pub shape_of : Kind → Shape
 shape_of kind = record { kind = kind; parts = parts_of kind; template = template_of kind }
 
-abbrev pub shaped : Record → Parts → Template → Shape
-shaped r ps t = record { kind = meant r; parts = listed ps; template = column_of t }
+abbrev pub shaped : Described → Shape
+shaped d = record { kind = meant d.node; parts = listed d.parts; template = column_of d.template }
 
 -- A record read: its kind, parts and template, or the refusal's number and its position.
-abbrev pub described : RecordRead → Result Shape
-described (Read r ps t) = done (shaped r ps t)
-described (Refused why position) = refusal (number why) position
+abbrev pub described : Answer Described Refused → Result Shape
+described r = answered shaped r
 
 -- What a record with these fields is read as, in every edition.
-pub record OfKind (functions position kind a b i : ℕ) (r : RecordRead) : Type 0 where
+pub record OfKind (functions position kind a b i : ℕ) (r : Answer Described Refused) : Type 0 where
   pub is : (edition : ℕ) → described r ≡ on_value shape_of (node_record edition functions position (fields kind a b i))
 
 -- Record k may be read at offset p: its fields are the same there.

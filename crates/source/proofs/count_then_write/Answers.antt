@@ -3,8 +3,8 @@
 use Rattle.source.proofs.Runs.{evaluates}
 use Rattle.source.proofs.count_then_write.Goals as goal
 
-pub returns-then-counted-ne-NOT_REFUSED : goal.returns-then-counted-ne-NOT_REFUSED
-returns-then-counted-ne-NOT_REFUSED c = search evaluates
+pub returns-in-Err : goal.returns-in-Err
+returns-in-Err c = search evaluates
 
 pub returns-then-room_of-counted : goal.returns-then-room_of-counted
 returns-then-room_of-counted c = search evaluates

@@ -6,10 +6,8 @@ use Rattle.formats.specs.Results.{done, refusal}
 use Rattle.formats.specs.Blocks.{flat_in}
 use Rattle.formats.specs.Written.{written}
 use Rattle.refusal.specs.Inner.Verdicts.{verdict_result}
-use Rattle.refusal.specs.Inner.Numbers.{number as number_of}
-use Rattle.refusal.specs.declared.Refusal.{Refusal}
 use Rattle.meaning.specs.Running.{value_words, return_words}
-use Rattle.meaning.specs.OpenCalls.{Reason, refusal_of, Outcome, gives, stops, begins, with_fuel}
+use Rattle.meaning.specs.OpenCalls.{refusal_of, Outcome, gives, stops, begins, with_fuel}
 use Rattle.meaning.specs.SourceRun.{SourceRan, refused_after, position_of, source_run, unless_refused, passed_on, SourceAnswer as Due}
 use Rattle.meaning.specs.WorkWords.{before_source, WorkWords}
 use Rattle.stepwise.specs.Inner.Steps.{begin}
@@ -35,10 +33,6 @@ pub record Gave (due : SourceRan) (m : Measures) (output' : List ℕ) (r : Sourc
   pub output : output' ≡ due.output
   pub measures : measured r.measures ≡ unless_refused due.answer.outcome m
   pub late : (number position : ℕ) → due.answer.outcome ≡ refusal number position → before_source number ≡ false
-
--- The refusal of a walk that stops with this number, where it is the number of a reason to stop.
-pub record Named (stop : ℕ) (why : Refusal) : Type 0 where
-  pub is : (reason : Reason) → stop ≡ refusal_of reason → number_of why ≡ stop
 
 -- The length of a buffer, which is below 2^63.
 pub record Room (l : List ℕ) (r : ℕ) : Type 0 where

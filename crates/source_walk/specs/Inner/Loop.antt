@@ -1,11 +1,13 @@
 -- The walk of the source run, as a function of the table, the input, the fuel and the lent buffers,
 -- whatever these hold.
-use Rattle.std.specs.Prelude.{ℕ, zero, suc, ◌+◌, ◌*◌, ◌<◌, true, false, List, ◌≡◌, eqb, ltb, length}
-use Rattle.formats.specs.Refusals.{fuel_used_up, too_many_calls, out_of_range}
+use Rattle.std.specs.Prelude.{ℕ, zero, suc, ◌+◌, ◌*◌, ◌<◌, true, false, List, ◌≡◌, ltb, length, Ok, Err}
 use Rattle.formats.specs.Written.{written}
 use Rattle.stepwise.specs.Inner.Steps.{Turn, emitted_first, rising, emitted_last}
+use Rattle.refusal.specs.declared.Refusal.TheVariants.{FuelUsedUp, TooManyCalls, OutOfRange}
+use Rattle.refusal.specs.declared.Refused.{Refused}
+use Rattle.stages.specs.declared.Mode.TheVariants.{Begin, Ended, Stuck, Broken}
 use Rattle.stages.specs.declared.Stage.{Stage}
-use Rattle.stages.specs.Inner.Stages.{to_begin, is_finished, to_open, has_ended, is_stuck, is_broken, state_of, staged, with_written, stage_of, words_of, returns_of}
+use Rattle.stages.specs.Inner.Stages.{to_begin, is_finished, to_open, state_of, staged, with_written, stage_of, words_of, returns_of}
 use Rattle.begin_record.specs.Inner.Begins.{begun_turn}
 use Rattle.open_call.specs.Inner.Opens.{opened_turn}
 use Rattle.result_bytes.specs.Inner.Bytes.{count_limit, counted}
@@ -29,7 +31,7 @@ stepped p t bytes =
 
 -- This falls at each step from one finished record to the next.
 unfoldable pub weight_of : Stage → ℕ
-weight_of s = elim (eqb s.mode is_finished) [ true ↦ 1 + 65536 * s.calls + s.node | false ↦ 0 ]
+weight_of s = elim (is_finished s.mode) [ true ↦ 1 + 65536 * s.calls + s.node | false ↦ 0 ]
 
 module _ (T input : List ℕ) where
   -- The stage's record begins.
@@ -44,7 +46,7 @@ module _ (T input : List ℕ) where
   -- The call at the stage's record opens, if one is to open.
   unfoldable pub open_step : Run → Run
   open_step p =
-      elim (eqb p.stage.mode to_open) [
+      elim (to_open p.stage.mode) [
         | true ↦
             let t = opened_turn T input p.stage.node (state_of p.values p.returns p.stage) in
             run p.output (words_of p.values t) (returns_of p.returns t) (stage_of p.stage t)
@@ -56,11 +58,11 @@ module _ (T input : List ℕ) where
   unfoldable pub climbing : ℕ → Run → Run
   climbing zero p = p
   climbing (suc n) p =
-      elim (eqb p.stage.mode is_finished) [
+      elim (is_finished p.stage.mode) [
         | true ↦
             elim (ltb (weight_of (rise_step p).stage) (weight_of p.stage)) [
               | true ↦ climbing n (rise_step p)
-              | false ↦ run (rise_step p).output (rise_step p).values (rise_step p).returns (staged (rise_step p).stage is_stuck 0 0)
+              | false ↦ run (rise_step p).output (rise_step p).values (rise_step p).returns (staged (rise_step p).stage Stuck 0 0)
             ]
         | false ↦ p
       ]
@@ -76,16 +78,17 @@ module _ (T input : List ℕ) where
 -- ---- the whole walk
 
 -- The answer of a walk that is refused.
-abbrev pub refused_with : (stop position begun : ℕ) → Walked
-refused_with stop position begun = record { stop = stop; position = position; begun = begun; written = 0; number = 0 }
+abbrev pub refused_with : Refused → (begun : ℕ) → Walked
+refused_with why begun = record { verdict = Err why; begun = begun; written = 0; number = 0 }
 
 -- What a walk that stops at this stage answers. A program's rows lead to no stuck stage, so a walk
 -- that has neither ended nor come to an operation without a result has come to a call too many.
 unfoldable pub answer_with : Stage → ℕ → Walked
 answer_with s begun =
-    elim (eqb s.mode has_ended) [
-      | true ↦ record { stop = 0; position = 0; begun = begun; written = s.written; number = s.number }
-      | false ↦ elim (eqb s.mode is_broken) [ true ↦ refused_with out_of_range s.node begun | false ↦ refused_with too_many_calls 0 begun ]
+    elim s.mode [
+      | Ended ↦ record { verdict = Ok tt; begun = begun; written = s.written; number = s.number }
+      | Broken ↦ refused_with (record { why = OutOfRange; position = s.node }) begun
+      | _ ↦ refused_with (record { why = TooManyCalls; position = 0 }) begun
     ]
 
 -- The answer, and the buffers after it.
@@ -98,16 +101,16 @@ ending answer last = record { answer = answer; last = last }
 
 -- The walk with `fuel` left, after `begun` expressions.
 unfoldable pub walking : (T input : List ℕ) → (fuel begun : ℕ) → Run → Ending
-walking T input zero begun p = ending (refused_with fuel_used_up 0 begun) p
+walking T input zero begun p = ending (refused_with (record { why = FuelUsedUp; position = 0 }) begun) p
 walking T input (suc fuel) begun p =
-    elim (eqb (turned T input p).stage.mode to_begin) [
+    elim (to_begin (turned T input p).stage.mode) [
       | true ↦ walking T input fuel (suc begun) (turned T input p)
       | false ↦ ending (answer_with (turned T input p).stage (suc begun)) (turned T input p)
     ]
 
 -- The stage before the record `first` begins.
 abbrev pub first_stage : ℕ → Stage
-first_stage first = record { mode = to_begin; node = first; number = 0; calls = 0; tree = 0; known = 0; end = 0; written = 0 }
+first_stage first = record { mode = Begin; node = first; number = 0; calls = 0; tree = 0; known = 0; end = 0; written = 0 }
 
 -- The whole walk, from the record `first` on.
 abbrev pub walked : (T input : List ℕ) → (first fuel : ℕ) → (output values returns : List ℕ) → Ending

@@ -1,30 +1,23 @@
 -- What a stage and the lent words stand for: a turn of the evaluation, and the stage of each turn.
-use Rattle.std.specs.Prelude.{ℕ, true, false, List, ◌≡◌, eqb, length}
+use Rattle.std.specs.Prelude.{ℕ, Bool, true, false, List, ◌≡◌, length}
 use Rattle.formats.specs.Arithmetic.{Op, plus}
 use Rattle.stepwise.specs.Inner.Steps.{State, Turn, begin, finished, opens, ended, deep, broken, stuck}
+use Rattle.stages.specs.declared.Mode.{Mode}
+use Rattle.stages.specs.declared.Mode.TheVariants.{Begin, Finished, Open, Ended, Deep, Stuck, Broken}
 use Rattle.stages.specs.declared.Stage.{Stage}
 
--- The modes of a stage: what is to be done next.
-abbrev pub to_begin : ℕ
-to_begin = 0
+-- Whether a record is to begin, a record is finished, a call is to open.
+abbrev pub to_begin : Mode → Bool
+to_begin Begin = true
+to_begin _ = false
 
-abbrev pub is_finished : ℕ
-is_finished = 1
+abbrev pub is_finished : Mode → Bool
+is_finished Finished = true
+is_finished _ = false
 
-abbrev pub to_open : ℕ
-to_open = 2
-
-abbrev pub has_ended : ℕ
-has_ended = 3
-
-abbrev pub too_many_open : ℕ
-too_many_open = 4
-
-abbrev pub is_stuck : ℕ
-is_stuck = 5
-
-abbrev pub is_broken : ℕ
-is_broken = 6
+abbrev pub to_open : Mode → Bool
+to_open Open = true
+to_open _ = false
 
 abbrev pub state_of : (values returns : List ℕ) → Stage → State
 state_of values returns s = record { words = values; returns = returns; calls = s.calls; tree = s.tree; known = s.known; end = s.end }
@@ -40,29 +33,18 @@ pub record Missing : Type 0 where
 -- stage is broken.
 unfoldable pub turn_of : Missing → (values returns : List ℕ) → Stage → Turn
 turn_of m values returns s =
-    elim (eqb s.mode to_begin) [
-      | true ↦ begin s.node (state_of values returns s)
-      | false ↦
-          elim (eqb s.mode is_finished) [
-            | true ↦ finished s.node s.number (state_of values returns s)
-            | false ↦
-                elim (eqb s.mode to_open) [
-                  | true ↦ opens s.node (state_of values returns s)
-                  | false ↦
-                      elim (eqb s.mode has_ended) [
-                        | true ↦ ended s.number
-                        | false ↦
-                            elim (eqb s.mode too_many_open) [
-                              | true ↦ deep s.node
-                              | false ↦ elim (eqb s.mode is_broken) [ true ↦ broken m.op m.i m.j s.node | false ↦ stuck ]
-                            ]
-                      ]
-                ]
-          ]
+    elim s.mode [
+      | Begin ↦ begin s.node (state_of values returns s)
+      | Finished ↦ finished s.node s.number (state_of values returns s)
+      | Open ↦ opens s.node (state_of values returns s)
+      | Ended ↦ ended s.number
+      | Deep ↦ deep s.node
+      | Stuck ↦ stuck
+      | Broken ↦ broken m.op m.i m.j s.node
     ]
 
 -- The same frame, with something else to be done next.
-abbrev pub staged : Stage → ℕ → ℕ → ℕ → Stage
+abbrev pub staged : Stage → Mode → ℕ → ℕ → Stage
 staged s mode r number =
     record { mode = mode; node = r; number = number; calls = s.calls; tree = s.tree; known = s.known; end = s.end; written = s.written }
 
@@ -74,20 +56,20 @@ with_written s at =
 -- ---- one step
 
 -- The frame of a state, with this to be done next and so many bytes written.
-abbrev pub in_state : State → (mode r number written : ℕ) → Stage
+abbrev pub in_state : State → Mode → (r number written : ℕ) → Stage
 in_state t mode r number written =
     record { mode = mode; node = r; number = number; calls = t.calls; tree = t.tree; known = t.known; end = t.end; written = written }
 
 -- The stage of a turn that follows the stage s. A turn without a state leaves the frame as it was,
 -- and one without a record the record.
 unfoldable pub stage_of : Stage → Turn → Stage
-stage_of s (begin r t) = in_state t to_begin r 0 s.written
-stage_of s (finished r x t) = in_state t is_finished r x s.written
-stage_of s (opens r t) = in_state t to_open r 0 s.written
-stage_of s (ended x) = staged s has_ended 0 x
-stage_of s (deep r) = staged s too_many_open r 0
-stage_of s (broken op i j r) = staged s is_broken r 0
-stage_of s stuck = staged s is_stuck s.node 0
+stage_of s (begin r t) = in_state t Begin r 0 s.written
+stage_of s (finished r x t) = in_state t Finished r x s.written
+stage_of s (opens r t) = in_state t Open r 0 s.written
+stage_of s (ended x) = staged s Ended 0 x
+stage_of s (deep r) = staged s Deep r 0
+stage_of s (broken op i j r) = staged s Broken r 0
+stage_of s stuck = staged s Stuck s.node 0
 
 -- The value words before a turn: those of its state, or where it has none, those that there were.
 unfoldable pub words_of : List ℕ → Turn → List ℕ

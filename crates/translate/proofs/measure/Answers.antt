@@ -1,19 +1,16 @@
 -- `translate::measure` meets its contract: the entries of the functions before j are in the table,
--- and the next function begins after them. The number of functions left falls.
+-- and the next function begins after them.
 use native.Mathlib.Omega.{arith}
 use Rattle.formats.specs.Numbers.{Bytes}
 use Rattle.translate.proofs.Loops.{measuring}
 use Rattle.translate.proofs.measure.Goals as goal
 
 pub loop-j-init : goal.loop-j-init
-loop-j-init c = let bytes : Bytes c.args.flat.now = λ i. omega (arith, c.shared_slice_known-1.given i) in
+loop-j-init c = let bytes : Bytes c.args.flat.now = λ i. omega (arith, c.type_inv.flat i) in
     search measuring
 
 pub bounds-entries-j : goal.bounds-entries-j
 bounds-entries-j c = search measuring
-
-pub overflow_add-entry : goal.overflow_add-entry
-overflow_add-entry c = search measuring
 
 pub loop-j-preserved : goal.loop-j-preserved
 loop-j-preserved c = search measuring

@@ -1,19 +1,22 @@
 -- `translate::translate_records` meets its contract: the checks refuse, the buffer is too short, or
 -- all functions are emitted.
+use Rattle.std.proofs.lemmas.Result.{err_from_is_err_and}
 use Rattle.translate.proofs.Calls.{records_ways}
 use Rattle.translate.proofs.translate_records.Goals as goal
 
-pub returns-in-Refused : goal.returns-in-Refused
-returns-in-Refused c = search records_ways
+pub returns-in_err-check_records : goal.returns-in_err-check_records
+returns-in_err-check_records c =
+    let p = err_from_is_err_and c.from_residual.result c.from_residual.ensures.1 in
+    rw (p.1, p.2) (search (records_ways, c.in_err-check_records.was))
 
 pub measure-table-requires : goal.measure-table-requires
-measure-table-requires c = search records_ways
+measure-table-requires c = search (records_ways, c.in_ok-check_records.was)
 
 pub returns-then-code-bytes : goal.returns-then-code-bytes
-returns-then-code-bytes c = search records_ways
+returns-then-code-bytes c = search (records_ways, c.in_ok-check_records.was)
 
 pub emit_all-requires : goal.emit_all-requires
-emit_all-requires c = search records_ways
+emit_all-requires c = search (records_ways, c.in_ok-check_records.was)
 
 pub returns : goal.returns
-returns c = search records_ways
+returns c = search (records_ways, c.in_ok-check_records.was)

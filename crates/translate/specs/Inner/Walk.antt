@@ -79,7 +79,7 @@ pub record Emits (s entries code' after : List ℕ) (base at k end : ℕ) (c : S
 pub record EnteringParts (s : List ℕ) (shape : Shape) (i k end : ℕ) (c : Scope) (ps : List Placed) (m : ℕ) : Type 0 where
   pub kind : Kind
   pub here : HereRow s end k ps m
-  pub from : PartsFrom s (listed shape.parts) kind i shape.count ps
+  pub from : PartsFrom s (listed shape.read.parts) kind i shape.count ps
   pub numbers : ℕ
   pub trees : ℕ
   pub passes : pass_parts here.signed kind i (scope numbers trees c.standing (result_type (sort_of c.tree))) ps ≡ done tt
@@ -98,9 +98,9 @@ pub record CameParts (base at last : ℕ) (t : Template) (i : ℕ) (ps : List Pl
 -- The parts from number i on, emitted with the items before and after them.
 pub record EmitsParts (s entries code' after : List ℕ) (base at last : ℕ) (shape : Shape) (i k end : ℕ) (c : Scope) (r : Emitted) : Type 0 where
   pub went_on : WentOn k end at (due_from i) r
-  pub came : (ps : List Placed) (m : ℕ) → EnteringParts s shape i k end c ps m → CameParts base at last (column_of shape.template) i ps m r
+  pub came : (ps : List Placed) (m : ℕ) → EnteringParts s shape i k end c ps m → CameParts base at last (column_of shape.read.template) i ps m r
   pub emits : (ps : List Placed) (m : ℕ) → EnteringParts s shape i k end c ps m → record_bytes * r.at ≤ length code'
-      → after ≡ emitted_at code' at (parts_code (entries_in entries) (arity_in s) (listed shape.parts) (column_of shape.template) (around_of c) (base + r.last) (base + r.at) i (base + at) ps)
+      → after ≡ emitted_at code' at (parts_code (entries_in entries) (arity_in s) (listed shape.read.parts) (column_of shape.read.template) (around_of c) (base + r.last) (base + r.at) i (base + at) ps)
 
 -- ---- a function
 

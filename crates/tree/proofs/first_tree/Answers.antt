@@ -10,12 +10,9 @@ use Rattle.tree.proofs.first_tree.Goals as goal
 pub slice_bounds-result-end : goal.slice_bounds-result-end
 slice_bounds-result-end c = search (rules, first_found, length-take-le)
 
-pub slice_bounds-result-end-in-Refused : goal.slice_bounds-result-end-in-Refused
-slice_bounds-result-end-in-Refused c = search (rules, length-take-le)
-
-pub returns-in-Tree : goal.returns-in-Tree
-returns-in-Tree c = let bytes : Bytes c.args.input.now = λ i. omega (arith, c.shared_slice_known-1.given i) in
+pub returns-in-Ok : goal.returns-in-Ok
+returns-in-Ok c = let bytes : Bytes c.args.input.now = λ i. omega (arith, c.type_inv.input i) in
     search first_found
 
-pub returns-in-Refused : goal.returns-in-Refused
-returns-in-Refused c = search first_found
+pub returns-in-Err : goal.returns-in-Err
+returns-in-Err c = search first_found

@@ -1,6 +1,8 @@
 -- How a walk reports the outcome of an evaluation.
-use Rattle.std.specs.Prelude.{ℕ, ◌≤◌, ◌<◌, List, ◌≡◌, length}
+use Rattle.std.specs.Prelude.{ℕ, ◌≤◌, ◌<◌, List, ◌≡◌, length, Ok}
+use Rattle.formats.specs.Results.{refusal}
 use Rattle.formats.specs.Written.{written}
+use Rattle.refusal.specs.Inner.Verdicts.{verdict_result}
 use Rattle.meaning.specs.OpenCalls.{Reason, refusal_of, Outcome, gives, stops, after_begun}
 use Rattle.meaning.specs.SourceRun.{position_of}
 use Rattle.stepwise.specs.Inner.Outcomes.{Reported, reported}
@@ -19,13 +21,12 @@ pub data Reports (o : Outcome Reported) (output output' : List ℕ) (r : Walked)
   reports_value :
       (out : List ℕ)
       → o ≡ after_begun r.begun (gives (reported r.number out))
-      → r.stop ≡ 0
+      → r.verdict ≡ Ok tt
       → Counts r.written out
       → (length out ≤ length output → output' ≡ written output 0 out)
       → Reports o output output' r
   reports_stop :
       (why : Reason) (at : ℕ)
       → o ≡ after_begun r.begun (stops why at)
-      → r.stop ≡ refusal_of why
-      → r.position ≡ position_of why at
+      → verdict_result r.verdict ≡ refusal (refusal_of why) (position_of why at)
       → Reports o output output' r

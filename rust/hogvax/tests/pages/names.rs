@@ -141,7 +141,7 @@ fn a_name_that_is_not_declared_is_told() {
         ("tree: first_tree", true),
         ("tree: second_tree", false),
         ("tree/src/lib.rt: first_tree", true),
-        ("tree/src/lib.rt: TreeAnswer", true),
+        ("tree/src/lib.rt: Measures", true),
         ("tree/src/no.rt: first_tree", false),
         ("formats/specs/Reader: TreeReader", true),
         ("formats/specs/Reader: TreeReader.gives", true),

@@ -27,7 +27,7 @@ fn the_recursive_routines_of_the_whole_library_are_found() {
         "pass_one::enter",
         "pass_two::order_at",
         "decode::decode_at",
-        "translate::emit",
+        "translate::Emission::emit",
         "named_trees::offset_of",
     ] {
         assert!(recursive.contains(&name), "{name}: {faults:#?}");

@@ -1,2 +1,0 @@
--- Laws for the functions over fields and words.
-pub mod Laws

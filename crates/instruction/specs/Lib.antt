@@ -1,0 +1,2 @@
+-- The numbers of opcodes, and an instruction's fields.
+pub mod Inner

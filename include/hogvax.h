@@ -33,12 +33,12 @@
  * - A buffer that is not const overlaps no other buffer of the same call.
  * - During the call no other thread writes to its buffers, or reads those that
  *   are not const.
- * - A call may use up to 1 MiB of the thread's stack, as it nearly does for the
- *   deepest programs. Where threads have less, ask for more when you create one,
- *   for example with pthread_attr_setstacksize. The calls of libhogvax_view.a use
- *   less than 4 KiB, however long or deep the input is; in the first of them the
- *   loader may use some KiB to find memset, unless the linker was given -z now.
- *   (Tested, not proved.)
+ * - A call may use up to 1 MiB of the thread's stack, of which the deepest
+ *   programs use more than half. Where threads have less, ask for more when you
+ *   create one, for example with pthread_attr_setstacksize. The calls of
+ *   libhogvax_view.a use less than 4 KiB, however long or deep the input is; in
+ *   the first of them the loader may use some KiB to find memset, unless the
+ *   linker was given -z now. (Tested, not proved.)
  *
  * What each call answers, hogvax_tree_bytes aside:
  *

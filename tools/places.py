@@ -50,6 +50,15 @@ def repeated(pattern):
     return [pair for pairs in named.values() if len({p.split(":")[0] for p, _ in pairs}) > 1 for pair in pairs]
 
 
+def structs_with(pattern):
+    """Structs that have a field of such a type, and at least one field besides."""
+    for path, text in SOURCES.items():
+        for head in re.finditer(r"^(?:pub )?struct (\w+)[^{;]*\{\n(.*?)^\}", text, re.M | re.S):
+            fields = re.findall(r"^\s+(?:pub )?(?:ghost )?\w+: (.*),$", head[2], re.M)
+            if len(fields) > 1 and any(re.match(pattern, field) for field in fields):
+                yield f"{path}:{text.count(chr(10), 0, head.start()) + 1}", head[1]
+
+
 # 1. Own results, flags with a value, numbers for kinds and refusals.
 say(1, "own enums of the shape of Option or Result: declarations", lines(r"^(pub )?enum (Verdict|Filled|Sum|TreeAnswer|RecordRead|Walked)\b"))
 say(1, ".. and their uses", lines(r"\b(Verdict|Filled|Sum|TreeAnswer|RecordRead|Walked)::[A-Z]"))
@@ -58,9 +67,12 @@ say(1, "constants that number stops and modes", lines(r"^(pub )?const [A-Z_]+: u
 say(1, "constants that number opcodes, sorts, actions and roles", lines(
     r"^(pub )?const (PUSH|GET|ADD|IFNOT|JUMP|SLIDE|DROP|WRITE_NUMBER|READ_TAG|READ_NUMBER|CALL|RETURN|TREE_VALUED|MOST_SORT"
     r"|GIVES_CONSTANT|GIVES_NAMED|ENTERS_PART|TAGS_NODE|LOOKS_AT_TREE|CALLS_FUNCTION|WHOLE|KEPT|ADDED|TESTED|PASSED|LABELLED|FOLLOWED|LAST_ARGUMENT)\b"))
+say(1, "constants below 32, which may number kinds", lines(r"^(pub )?const [A-Z0-9_]+: \w+ = (\d|[12]\d|3[01]);"))
+say(1, "structs with a flag, a mode, an Option or a Result beside other fields", list(structs_with(r"bool|Option<|Result<|Next|Mode|Stop|Verdict")))
 
 # 2. Twins.
 say(2, "functions whose name stands in more than one file", repeated(r"^(?:pub )?fn (\w+)"))
+say(2, "the same, methods counted too", repeated(r"^\s*(?:pub )?fn (\w+)"))
 say(2, "constants whose name stands in more than one file", repeated(r"^(?:pub )?const ([A-Z0-9_]+):"))
 
 # 3. Loops.
@@ -74,6 +86,7 @@ say(4, "functions that convert, compare, copy or print by hand", lines(
     r"\bfn (number_of|refusal_of|why_stopped|signed|extended|sign_extended|word16|word32|deeper|excess|add_up|from_last|from_down"
     r"|is_same|magnitude|no_measures|fields|placed|own_words|last|before|around|count|limit|put_number|put_field|put_signed|put_byte"
     r"|end_opcode|words_kept)\b"))
+say(4, "casts by `as`", lines(r"\bas (u8|u16|u32|u64|usize|i32|i64)\b"))
 
 # 5. Facts in three or more contracts, parameters that travel together.
 facts = collections.defaultdict(list)
@@ -92,6 +105,12 @@ say(6, "local buffers of fixed length", lines(r"= \[0u?\w*; "))
 
 # 7. Switches on what to do next.
 say(7, "a match or a test on a number for a step", lines(r"^\s*match (opcode|frames::field|stop)\b|\bmode [!=]= |\bstop [!=]= "))
+numbered = [
+    (f"{path}:{text.count(chr(10), 0, match.start()) + 1}", match[0].strip().split("\n")[0])
+    for path, text in SOURCES.items()
+    for match in re.finditer(r"^.*\bmatch [^{\n]*\{\n\s*\(?\d+(, \w+\))?( if [^\n]*)? =>", text, re.M)
+]
+say(7, "matches on bare numbers", numbered)
 
 # 8. Answers.
 answers = [open(path, encoding="utf-8").read() for path in glob.glob("crates/*/proofs/**/Answers.antt", recursive=True)]

@@ -66,7 +66,9 @@ pub fn store(answer: &mut [u64], number: u32, position: usize, bytes: usize) -> 
     store_row(answer, &row, number)
 }
 
-// The answer of a call that has filled a lent buffer, or refused to.
+// The answer of a call that has filled a lent buffer, or refused to. (Each such call tests the
+// slots, fills and reports by itself: one function for them all would take a closure, and so a
+// `requires` that it may be called, and no public function here has one.)
 pub fn report(filled: Result<usize, Refused>, answer: &mut [u64]) -> u32
     ensures { Answers (filled_result filled) answer.old answer.new result }
 {

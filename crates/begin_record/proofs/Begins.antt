@@ -1,19 +1,24 @@
 -- A record begins: a law for each way out of the functions; and the steps say the same.
 use Prim.Native.Nat.{ℕ, suc, ◌+◌, ◌*◌, ◌≤◌, ◌<◌}
 use mathlib.Core.List.{List}
-use mathlib.Core.Logic.{◌≢◌}
+use mathlib.Core.Logic.{◌≢◌, ◌⊎◌, inl, inr}
 use mathlib.Core.Path.{◌≡◌, refl, sym, ap, ap₂, ◌∙◌}
 use native.Mathlib.Numerals.{add-one}
+use native.Mathlib.Omega.{arith}
 use borrow.Author.Tests.{lt-ltb, le-ltb}
 use lib.ListN.{length, get_or, set, length-set}
 use Rattle.formats.specs.Numbers.{number_at}
 use Rattle.formats.specs.Tokens.{leaf_tag}
 use Rattle.formats.specs.Inner.Trees.{leaf_bytes}
-use Rattle.stepwise.specs.Inner.Rows.{gives_constant, gives_named, looks_at_tree, calls_function}
+use Rattle.stepwise.specs.Inner.Rows.{tags_node}
 use Rattle.stepwise.specs.Inner.Steps.{State, begin, stuck, action_at, operand_at, tree_at, more_at, after_at, frame_words, record_limit, Found, beginning}
 use Rattle.stepwise.proofs.Steps.{looks_leaf, looks_node, looks_past, begins_const, begins_var, begins_case, begins_bare, begins_args, begins_first}
+use Rattle.frames.specs.declared.Action.{Action}
+use Rattle.frames.specs.declared.Action.TheVariants.{GivesConstant, GivesNamed, EntersPart, TagsNode, LooksAtTree, CallsFunction}
+use Rattle.frames.specs.Inner.Named.{action_of_number}
+use Rattle.frames.proofs.Named.{ActionSays, action_says}
 use Rattle.stages.specs.declared.Stage.{Stage}
-use Rattle.stages.specs.declared.Mode.TheVariants.{Begin, Finished, Open, Stuck}
+use Rattle.stages.specs.declared.Next.TheVariants.{Begin, Finished, Open, Stuck}
 use Rattle.stages.specs.Inner.Stages.{state_of, staged, stage_of, words_of, returns_of}
 use Rattle.stages.proofs.Stages.{reach_begin, reach_finished, reach_open, reach_stuck}
 use Rattle.named_trees.specs.Inner.Offsets.{tree_offset, named_by}
@@ -33,14 +38,12 @@ pub ruleset slots = (label_put, slot_there)
 
 -- ---- `look`
 
-module _ (T input values : List ℕ) (s : Stage) (q : ℕ) (found : q ≡ tree_offset T input s.tree s.known s.end (tree_at T s.node)) where
+module _ (T input values : List ℕ) (r : ℕ) (s : Stage) (q : ℕ) (found : q ≡ tree_offset T input s.tree s.known s.end (tree_at T r)) where
   -- The next record begins, and the end of the leaf at q is known.
   abbrev leaf_stage : ℕ → Stage
-  leaf_stage r =
+  leaf_stage k =
       record {
-        mode = Begin;
-        node = r;
-        number = 0;
+        next = Begin k;
         calls = s.calls;
         tree = s.tree;
         known = q;
@@ -48,44 +51,44 @@ module _ (T input values : List ℕ) (s : Stage) (q : ℕ) (found : q ≡ tree_o
         written = s.written;
       }
 
-  pub look_past : (r : Stage) → length input ≤ q → r ≡ staged s Stuck s.node 0 → Looks T input values values s r
-  look_past r past e =
-      rw e (record { is = λ returns. rw (← found, looks_past T input q s.node (state_of values returns s) past) (reach_stuck values returns s) })
+  pub look_past : (t : Stage) → length input ≤ q → t ≡ staged s Stuck → Looks T input values values r s t
+  look_past t past e =
+      rw e (record { is = λ returns. rw (← found, looks_past T input q r (state_of values returns s) past) (reach_stuck values returns s) })
 
   pub look_leaf :
       (values' : List ℕ)
       → q < length input
       → get_or input q 0 ≡ leaf_tag
-      → values' ≡ set values (frame_words * s.calls + operand_at T s.node) (number_at 4 input (q + 1))
-      → Looks T input values values' s (leaf_stage (s.node + 1))
+      → values' ≡ set values (frame_words * s.calls + operand_at T r) (number_at 4 input (q + 1))
+      → Looks T input values values' r s (leaf_stage (r + 1))
   unfolding stage_of words_of returns_of
   look_leaf values' there tag put =
-      rw (put, add-one s.node, add-one q)
+      rw (put, add-one r, add-one q)
       (record {
         is = λ returns.
-            rw (← found, looks_leaf T input q s.node (state_of values returns s) there tag)
+            rw (← found, looks_leaf T input q r (state_of values returns s) there tag)
             (record {
               stage = refl;
               words = refl;
               returns_are = refl;
-              words_long = length-set values (frame_words * s.calls + operand_at T s.node) (number_at 4 input (suc q));
+              words_long = length-set values (frame_words * s.calls + operand_at T r) (number_at 4 input (suc q));
               returns_long = refl;
             });
       })
 
   pub look_node :
-      (b : ℕ) (r : Stage)
+      (b : ℕ) (t : Stage)
       → q < length input
       → get_or input q 0 ≢ leaf_tag
-      → b ≡ after_at T (s.node + 1)
-      → r ≡ staged s Begin b 0
-      → Looks T input values values s r
-  look_node b r there tag eb e =
-      rw (e, eb, add-one s.node)
+      → b ≡ after_at T (r + 1)
+      → t ≡ staged s (Begin b)
+      → Looks T input values values r s t
+  look_node b t there tag eb e =
+      rw (e, eb, add-one r)
       (record {
         is = λ returns.
-            rw (← found, looks_node T input q s.node (state_of values returns s) there tag)
-            (reach_begin values returns s (after_at T (suc s.node)));
+            rw (← found, looks_node T input q r (state_of values returns s) there tag)
+            (reach_begin values returns s (after_at T (suc r)));
       })
 
 pub ruleset looks = (look_past, look_leaf, look_node)
@@ -101,106 +104,107 @@ module _ (T input : List ℕ) (r : ℕ) (s : State) where
   unfolding begun_turn
   begun_past past = simp (begun_turn, le-ltb _ _ past)
 
-module _ (T input values : List ℕ) (s : Stage) where
-  pub begin_past : (r : Stage) → record_limit ≤ s.node → r ≡ staged s Stuck s.node 0 → Begins T input values values s r
-  begin_past r past e =
-      rw e (record { is = λ returns. rw (begun_past T input s.node (state_of values returns s) past) (reach_stuck values returns s) })
+module _ (T input values : List ℕ) (r : ℕ) (s : Stage) where
+  pub begin_past : (t : Stage) → record_limit ≤ r → t ≡ staged s Stuck → Begins T input values values r s t
+  begin_past t past e =
+      rw e (record { is = λ returns. rw (begun_past T input r (state_of values returns s) past) (reach_stuck values returns s) })
 
-  module _ (few : s.node < record_limit) (k : ℕ) (action : k ≡ action_at T s.node) where
+  module _ (few : r < record_limit) (a : Action) (action : a ≡ action_of_number (action_at T r)) where
+    says : (b : Action) → a ≡ b → ActionSays b (action_at T r)
+    says b is = action_says (action_at T r) a b action is
+
     -- The offset of the tree that the record names, whatever the return words hold.
     abbrev at : List ℕ → ℕ
-    at returns = named_by T input s.node (state_of values returns s)
+    at returns = named_by T input r (state_of values returns s)
 
     pub begin_const :
-        (x : ℕ) (r : Stage)
-        → k ≡ gives_constant
-        → x ≡ operand_at T s.node + 65536 * more_at T s.node
-        → r ≡ staged s Finished s.node x
-        → Begins T input values values s r
-    begin_const x r is ex e =
+        (x : ℕ) (t : Stage)
+        → a ≡ GivesConstant
+        → x ≡ operand_at T r + 65536 * more_at T r
+        → t ≡ staged s (Finished r x)
+        → Begins T input values values r s t
+    begin_const x t is ex e =
         rw (e, ex)
         (record {
           is = λ returns.
-              rw (begun_in T input s.node (state_of values returns s) few, begins_const T input (at returns) s.node (state_of values returns s) (sym action ∙ is))
-              (reach_finished values returns s s.node (operand_at T s.node + 65536 * more_at T s.node));
+              rw (begun_in T input r (state_of values returns s) few, begins_const T input (at returns) r (state_of values returns s) (says GivesConstant is))
+              (reach_finished values returns s r (operand_at T r + 65536 * more_at T r));
         })
 
     pub begin_var :
-        (x : ℕ) (r : Stage)
-        → k ≡ gives_named
-        → x ≡ get_or values (frame_words * s.calls + operand_at T s.node) 0
-        → r ≡ staged s Finished s.node x
-        → Begins T input values values s r
-    begin_var x r is ex e =
+        (x : ℕ) (t : Stage)
+        → a ≡ GivesNamed
+        → x ≡ get_or values (frame_words * s.calls + operand_at T r) 0
+        → t ≡ staged s (Finished r x)
+        → Begins T input values values r s t
+    begin_var x t is ex e =
         rw (e, ex)
         (record {
           is = λ returns.
-              rw (begun_in T input s.node (state_of values returns s) few, begins_var T input (at returns) s.node (state_of values returns s) (sym action ∙ is))
-              (reach_finished values returns s s.node (get_or values (frame_words * s.calls + operand_at T s.node) 0));
+              rw (begun_in T input r (state_of values returns s) few, begins_var T input (at returns) r (state_of values returns s) (says GivesNamed is))
+              (reach_finished values returns s r (get_or values (frame_words * s.calls + operand_at T r) 0));
         })
 
-    pub begin_case : (values' : List ℕ) (r : Stage) → k ≡ looks_at_tree → Looks T input values values' s r → Begins T input values values' s r
-    begin_case values' r is looked =
+    pub begin_case : (values' : List ℕ) (t : Stage) → a ≡ LooksAtTree → Looks T input values values' r s t → Begins T input values values' r s t
+    begin_case values' t is looked =
         record {
           is = λ returns.
-              rw (begun_in T input s.node (state_of values returns s) few, begins_case T input (at returns) s.node (state_of values returns s) (sym action ∙ is))
+              rw (begun_in T input r (state_of values returns s) few, begins_case T input (at returns) r (state_of values returns s) (says LooksAtTree is))
               (looked.is returns);
         }
 
     pub begin_bare :
-        (m : ℕ) (r : Stage)
-        → k ≡ calls_function
-        → m ≡ more_at T s.node
+        (m : ℕ) (t : Stage)
+        → a ≡ CallsFunction
+        → m ≡ more_at T r
         → m ≡ 0
-        → r ≡ staged s Open s.node 0
-        → Begins T input values values s r
-    begin_bare m r is em none e =
+        → t ≡ staged s (Open r)
+        → Begins T input values values r s t
+    begin_bare m t is em none e =
         rw e
         (record {
           is = λ returns.
               rw (
-                begun_in T input s.node (state_of values returns s) few,
-                begins_bare T input (at returns) s.node (state_of values returns s) (sym action ∙ is) (sym em ∙ none),
+                begun_in T input r (state_of values returns s) few,
+                begins_bare T input (at returns) r (state_of values returns s) (says CallsFunction is) (sym em ∙ none),
               )
-              (reach_open values returns s s.node);
+              (reach_open values returns s r);
         })
 
     -- the first part begins
-    first_part : (r : Stage)
-        → ((returns : List ℕ) → beginning T input (at returns) s.node (state_of values returns s) ≡ begin (suc s.node) (state_of values returns s))
-        → r ≡ staged s Begin (s.node + 1) 0
-        → Begins T input values values s r
-    first_part r begins e =
-        rw (e, add-one s.node)
+    first_part : (t : Stage)
+        → ((returns : List ℕ) → beginning T input (at returns) r (state_of values returns s) ≡ begin (suc r) (state_of values returns s))
+        → t ≡ staged s (Begin (r + 1))
+        → Begins T input values values r s t
+    first_part t begins e =
+        rw (e, add-one r)
         (record {
           is = λ returns.
-              rw (begun_in T input s.node (state_of values returns s) few, begins returns) (reach_begin values returns s (suc s.node));
+              rw (begun_in T input r (state_of values returns s) few, begins returns) (reach_begin values returns s (suc r));
         })
 
     pub begin_args :
-        (m : ℕ) (r : Stage)
-        → k ≡ calls_function
-        → m ≡ more_at T s.node
+        (m : ℕ) (t : Stage)
+        → a ≡ CallsFunction
+        → m ≡ more_at T r
         → m ≢ 0
-        → r ≡ staged s Begin (s.node + 1) 0
-        → Begins T input values values s r
-    begin_args m r is em some e =
-        first_part r
-        (λ returns. begins_args T input (at returns) s.node (state_of values returns s) (sym action ∙ is) (rw em at some))
+        → t ≡ staged s (Begin (r + 1))
+        → Begins T input values values r s t
+    begin_args m t is em some e =
+        first_part t
+        (λ returns. begins_args T input (at returns) r (state_of values returns s) (says CallsFunction is) (rw em at some))
         e
 
-    pub begin_first :
-        (r : Stage)
-        → k ≢ gives_constant
-        → k ≢ gives_named
-        → k ≢ looks_at_tree
-        → k ≢ calls_function
-        → r ≡ staged s Begin (s.node + 1) 0
-        → Begins T input values values s r
-    begin_first r a b c d e =
-        first_part r
+    pub begin_first : (t : Stage) → (a ≡ EntersPart) ⊎ (a ≡ TagsNode) → t ≡ staged s (Begin (r + 1)) → Begins T input values values r s t
+    begin_first t (inl is) e =
+        let no = says EntersPart is in
+        first_part t (λ returns. begins_first T input (at returns) r (state_of values returns s) no.0 no.1 no.3 no.4) e
+    begin_first t (inr is) e =
+        let node : action_at T r ≡ tags_node = says TagsNode is in
+        first_part t
         (λ returns.
-        begins_first T input (at returns) s.node (state_of values returns s) (rw action at a) (rw action at b) (rw action at c) (rw action at d))
+        begins_first T input (at returns) r (state_of values returns s)
+        (λ h. absurd (omega arith)) (λ h. absurd (omega arith)) (λ h. absurd (omega arith)) (λ h. absurd (omega arith)))
         e
 
 pub ruleset beginnings = (begin_past, begin_const, begin_var, begin_case, begin_bare, begin_args, begin_first)

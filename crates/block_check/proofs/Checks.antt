@@ -1,145 +1,75 @@
--- A law for each way out of the functions that check one block, in the form of their tests, and for
--- each step of their loops.
-use Rattle.std.proofs.Common.{◌≡◌, ℕ, zero, suc, ◌+◌, ◌*◌, ◌/◌, ◌%◌, ◌<◌, ◌≤◌, Bool, true, false, not, eqb, leb, ◌≢◌, List, [], ◌∷◌, length, get_or, take, drop, sym, refl, ap, ◌∙◌, zero-add, add-one, arith, lit<, length-drop, drop_of_length-le, length-take, get_or-take, le-ltb, lt-ltb, eq-eqb, ne_eqb, le-leb}
-use borrow.Author.Tests.{not-true, not-false, lt-leb}
-use Rattle.formats.specs.Numbers.{number_at}
-use Rattle.formats.specs.Refusals.{block_check, block_field}
-use Rattle.formats.specs.Results.{done, refusal, verdict}
-use Rattle.formats.specs.Records.{record_bytes}
-use Rattle.formats.specs.Blocks.{block_records, records_bytes, number_offset, used_offset, blocks_offset, word_sum, check_target, word_limit, zeros, used_fits, fields_fit, used_of}
-use Rattle.formats.proofs.Words.{word_sum_step}
-use Rattle.std.specs.Prelude.{Ok, Err}
-use Rattle.refusal.specs.Inner.Verdicts.{verdict_result}
-use Rattle.refusal.specs.declared.Refused.{Refused}
-use Rattle.refusal.specs.declared.Refusal.TheVariants.{BlockCheck, BlockField}
+-- The laws of the iterators that check one block: what a sum over pairs of bytes is, and a test of
+-- every byte.
+use Rattle.std.proofs.Common.{◌≡◌, ℕ, ◌+◌, ◌%◌, ◌<◌, Bool, ◌&&◌, eqb, List, [], ◌∷◌, ◌++◌, length, refl, ap, ◌∙◌, fold, zero-add, arith}
+use Rattle.std.specs.List.{list_all}
+use Rattle.std.specs.Slice.Iter.{chunks_exact_rest, chunks_exact_size, chunks_exact_steps}
+use Rattle.std.specs.declared.slice.ChunksExact.{ChunksExact}
+use Rattle.std.specs.Prelude.{Option}
+use Rattle.std.specs.Borrow.{Bor}
+use Rattle.std.specs.Fn.{Called}
+use Rattle.std.specs.Iterator.{FoldsItems}
+use Rattle.std.specs.Iterator.Runs.{Run}
+use Rattle.std.proofs.lemmas.Iterator.{YieldsList}
+use Rattle.std.proofs.lemmas.Iterator.Consumers.{fold_from_yields_List}
+use denote.Param.Members.{Mut}
+use Rattle.std.proofs.lemmas.Iterator.Splits.{YieldsList-from_shown_while}
+use Rattle.formats.specs.Numbers.{number_of, number_at}
+use Rattle.formats.specs.Blocks.{word_sum, word_limit, zeros}
+use Rattle.formats.proofs.Numbers.{number_at_whole}
 
 -- ---- the sum of 16-bit words
 
--- fewer than two bytes hold no word
-short_sum : (s : List ℕ) → length s < 2 → word_sum s ≡ 0
-unfolding word_sum
-short_sum [] h = refl
-short_sum (low ∷ []) h = refl
-short_sum (low ∷ (high ∷ s)) h = absurd (omega arith)
+-- the bytes two by two, as an iterator over chunks of two gives them
+pub pairs : List ℕ → List (List ℕ)
+pairs [] = []
+pairs (low ∷ []) = []
+pairs (low ∷ (high ∷ s)) = (low ∷ high ∷ []) ∷ pairs s
 
--- the sum of the first k words, which the other words make whole
-pub record Summed (s : List ℕ) (sum k : ℕ) : Type 0 where
-  pub small : sum < word_limit
-  pub others : (sum + word_sum (drop (2 * k) s)) % word_limit ≡ word_sum s % word_limit
+no_pair : (s : List ℕ) → length s < 2 → length (pairs s) ≡ 0
+unfolding pairs
+no_pair [] h = refl
+no_pair (low ∷ []) h = refl
+no_pair (low ∷ (high ∷ s)) h = absurd (omega arith)
 
-pub sum_none : (s : List ℕ) → Summed s 0 0
-sum_none s = record { small = lit< tt; others = ap (λ (m : ℕ). m % word_limit) (zero-add (word_sum s)) }
+first_pair : (s word rest : List ℕ) → s ≡ word ++ rest → length word ≡ 2 → pairs s ≡ word ∷ pairs rest
+unfolding pairs
+first_pair s (low ∷ high ∷ []) rest is two = ap pairs is
+first_pair s [] rest is two = absurd (omega arith)
+first_pair s (low ∷ []) rest is two = absurd (omega arith)
+first_pair s (low ∷ high ∷ more ∷ word) rest is two = absurd (omega arith)
 
-pub sum_more : (s : List ℕ) (sum k word next : ℕ) → k < length s / 2 → Summed s sum k → word ≡ number_at 2 s (2 * k) → next ≡ (sum + word) % word_limit
-    → Summed s next (k + 1)
-sum_more s sum k word next more c read added =
-    let step : word_sum (drop (2 * k) s) ≡ number_at 2 s (2 * k) + word_sum (drop (2 * k + 2) s) = word_sum_step s k (omega arith) in
-    let position : 2 * (k + 1) ≡ 2 * k + 2 = omega arith in
-    record { small = omega arith; others = rw position (omega (arith, step, c.others)) }
+pub pairs_in_order : {s : ChunksExact ℕ} (bytes : List ℕ) → chunks_exact_rest s ≡ bytes → chunks_exact_size s ≡ 2 → YieldsList chunks_exact_steps (λ word. word.now) s (pairs bytes)
+pairs_in_order {s} bytes is two =
+    rw (← is)
+    (YieldsList-from_shown_while chunks_exact_steps (λ word. word.now) (λ t. pairs (chunks_exact_rest t)) (λ t. chunks_exact_size t ≡ 2)
+    (λ t u size none. no_pair (chunks_exact_rest t) (omega (arith, none.1.0, size)))
+    (λ t word u size some. (some.0 ∙ size, first_pair (chunks_exact_rest t) word.now (chunks_exact_rest u) some.1.0 (some.1.1 ∙ size)))
+    s two)
 
-pub sum_all : (s : List ℕ) (sum k : ℕ) → length s / 2 ≤ k → Summed s sum k → sum ≡ word_sum s % word_limit
-sum_all s sum k all c = omega (arith, short_sum (drop (2 * k) s) (omega (arith, length-drop (2 * k) s)), c.small, c.others)
+-- a word more in the sum
+abbrev pub added : ℕ → List ℕ → ℕ
+added sum word = (sum + number_at 2 word 0) % word_limit
 
-pub ruleset summed = (sum_none, sum_more, sum_all)
+sum_from : (s : List ℕ) (sum : ℕ) → sum < word_limit → fold added sum (pairs s) ≡ (sum + word_sum s) % word_limit
+unfolding pairs word_sum
+sum_from [] sum small = omega arith
+sum_from (low ∷ []) sum small = omega arith
+sum_from (low ∷ (high ∷ s)) sum small =
+    let word : number_at 2 (low ∷ high ∷ []) 0 ≡ number_of (low ∷ high ∷ []) = number_at_whole 2 (low ∷ high ∷ []) 0 (omega arith) in
+    omega (arith, word, sum_from s (added sum (low ∷ high ∷ [])) (omega arith))
+
+-- an iterator over the pairs that adds each of them comes to the sum of the words (its run p shows
+-- which iterator it is)
+pub pairs_summed : {S F : Type 0} {steps : S → Option (Bor (List ℕ)) → S → Type 0} {s : S} {f : F} (g : Mut F (ℕ × (Bor (List ℕ) × Unit {0})) ℕ) (bytes : List ℕ) (r : ℕ)
+    (p : Run steps) → p.from ≡ s → FoldsItems steps g s f 0 r → YieldsList steps (λ word. word.now) s (pairs bytes)
+    → ((sum : ℕ) (word : Bor (List ℕ)) (next : ℕ) (q : F) → Called g f (sum, (word, tt)) next q → (q ≡ f) × (next ≡ added sum word.now))
+    → r ≡ word_sum bytes % word_limit
+pairs_summed g bytes r p starts ran chain adds =
+    fold_from_yields_List g added 0 r ran chain adds ∙ sum_from bytes 0 (omega arith) ∙ ap (λ (n : ℕ). n % word_limit) (zero-add (word_sum bytes))
 
 -- ---- zeros
 
--- a zero byte leaves the answer to those after it, another byte decides it
-zero_byte : (t : List ℕ) (k : ℕ) → get_or t k 0 ≡ 0 → zeros (drop k t) ≡ zeros (drop (suc k) t)
+pub zeros_is : (s : List ℕ) → list_all (λ byte. eqb byte 0) s ≡ zeros s
 unfolding zeros
-zero_byte [] zero e = refl
-zero_byte [] (suc k) e = refl
-zero_byte (b ∷ t) zero e = simp (zeros, eq-eqb _ _ e)
-zero_byte (b ∷ t) (suc k) e = zero_byte t k e
-
-some_byte : (t : List ℕ) (k : ℕ) → get_or t k 0 ≢ 0 → zeros (drop k t) ≡ false
-unfolding zeros
-some_byte [] zero n = absurd (n refl)
-some_byte [] (suc k) n = absurd (n refl)
-some_byte (b ∷ t) zero n = simp (zeros, ne_eqb _ _ n)
-some_byte (b ∷ t) (suc k) n = some_byte t k n
-
--- the bytes before k are zero, so that those from k on decide
-pub record Zeroed (s : List ℕ) (from to k : ℕ) : Type 0 where
-  pub others : zeros (drop k (take to s)) ≡ zeros (drop from (take to s))
-
-pub zero_none : (s : List ℕ) (from to : ℕ) → Zeroed s from to from
-zero_none s from to = record { others = refl }
-
-module _ (s : List ℕ) (from to k byte : ℕ) (more : k < to) (c : Zeroed s from to k) (read : byte ≡ get_or s k 0) where
-  -- the byte that was read is the byte of the part
-  same : get_or (take to s) k 0 ≡ byte
-  same = get_or-take to s k 0 more ∙ sym read
-
-  pub zero_more : byte ≡ 0 → Zeroed s from to (k + 1)
-  zero_more is = record { others = rw add-one (sym (zero_byte (take to s) k (same ∙ is)) ∙ c.others) }
-
-  pub zero_not : byte ≢ 0 → false ≡ zeros (drop from (take to s))
-  zero_not some = sym (some_byte (take to s) k (λ e. some (sym same ∙ e))) ∙ c.others
-
-pub zero_all : (s : List ℕ) (from to k : ℕ) → to ≤ k → Zeroed s from to k → true ≡ zeros (drop from (take to s))
-unfolding zeros
-zero_all s from to k all c = ap zeros (sym (drop_of_length-le (take to s) {i = k} (rw (length-take to s) (omega arith)))) ∙ c.others
-
-pub ruleset zeroed = (zero_none, zero_more, zero_not, zero_all)
-
--- ---- the records used
-
-pub fits_full : (blocks j used : ℕ) → j + 1 < blocks → eqb used block_records ≡ used_fits blocks j used
-unfolding used_fits
-fits_full blocks j used more = let h : suc j < blocks = omega arith in simp (used_fits, lt-ltb _ _ h)
-
-pub fits_none : (blocks j used : ℕ) → blocks ≤ j + 1 → used < 1 → false ≡ used_fits blocks j used
-unfolding used_fits
-fits_none blocks j used last none = let h : blocks ≤ suc j = omega arith in simp (used_fits, le-ltb _ _ h, lt-leb _ _ none)
-
-pub fits_few : (blocks j used : ℕ) → blocks ≤ j + 1 → 1 ≤ used → leb used block_records ≡ used_fits blocks j used
-unfolding used_fits
-fits_few blocks j used last some = let h : blocks ≤ suc j = omega arith in simp (used_fits, le-ltb _ _ h, le-leb _ _ some)
-
-pub ruleset used_reported = (fits_full, fits_none, fits_few)
-
--- ---- the fields and the unused records
-
-module _ (blocks j : ℕ) (block : List ℕ) where
-  pub field_number : (n : ℕ) → n ≡ number_at 2 block number_offset → n ≢ j → false ≡ fields_fit blocks j block
-  unfolding fields_fit
-  field_number n read wrong = simp (fields_fit, ← read, ne_eqb _ _ wrong)
-
-  pub field_used : (n used : ℕ) (fits : Bool) → n ≡ number_at 2 block number_offset → n ≡ j → used ≡ number_at 2 block used_offset
-      → fits ≡ used_fits blocks j used → not fits ≡ true → false ≡ fields_fit blocks j block
-  unfolding fields_fit
-  field_used n used fits read is read_used reported unfit = simp (fields_fit, ← read, ← read_used, eq-eqb _ _ is, ← reported, not-true fits unfit)
-
-  pub field_count : (n used count : ℕ) (fits : Bool) → n ≡ number_at 2 block number_offset → n ≡ j → used ≡ number_at 2 block used_offset
-      → fits ≡ used_fits blocks j used → not fits ≡ false → count ≡ number_at 2 block blocks_offset → count ≢ blocks → false ≡ fields_fit blocks j block
-  unfolding fields_fit
-  field_count n used count fits read is read_used reported fit read_count wrong =
-      simp (fields_fit, ← read, ← read_used, ← read_count, eq-eqb _ _ is, ← reported, not-false fits fit, ne_eqb _ _ wrong)
-
-  pub field_unused : (n used count : ℕ) (fits unused : Bool) → n ≡ number_at 2 block number_offset → n ≡ j
-      → used ≡ number_at 2 block used_offset → fits ≡ used_fits blocks j used → not fits ≡ false → count ≡ number_at 2 block blocks_offset → count ≡ blocks
-      → unused ≡ zeros (drop (record_bytes * used) (take records_bytes block)) → unused ≡ fields_fit blocks j block
-  unfolding fields_fit
-  field_unused n used count fits unused read is read_used reported fit read_count right looked =
-      simp (fields_fit, ← read, ← read_used, ← read_count, eq-eqb _ _ is, ← reported, not-false fits fit, eq-eqb _ _ right) looked
-
-pub ruleset fields_reported = (field_number, field_used, field_count, field_unused)
-
--- ---- the row of one block
-
-module _ (blocks j : ℕ) (block : List ℕ) (sum : ℕ) (added : sum ≡ word_sum block % word_limit) where
-  pub row_check : sum ≢ check_target → (r : Refused) → r ≡ record { why = BlockCheck; position = j } → verdict_result (Err r) ≡ verdict (used_of blocks j block)
-  unfolding used_of
-  row_check wrong r is = rw is (simp (used_of, ← added, ne_eqb _ _ wrong))
-
-  pub row_passed : (fits : Bool) → sum ≡ check_target → fits ≡ fields_fit blocks j block → fits ≡ true → done tt ≡ verdict (used_of blocks j block)
-  unfolding used_of
-  row_passed fits right reported fit = simp (used_of, ← added, eq-eqb _ _ right, ← reported, fit)
-
-  pub row_field : (fits : Bool) → sum ≡ check_target → fits ≡ fields_fit blocks j block → fits ≡ false
-      → (r : Refused) → r ≡ record { why = BlockField; position = j } → verdict_result (Err r) ≡ verdict (used_of blocks j block)
-  unfolding used_of
-  row_field fits right reported unfit r is = rw is (simp (used_of, ← added, eq-eqb _ _ right, ← reported, unfit))
-
-pub ruleset row_reported = (row_check, row_passed, row_field)
+zeros_is [] = refl
+zeros_is (b ∷ s) = ap (λ (rest : Bool). eqb b 0 && rest) (zeros_is s)

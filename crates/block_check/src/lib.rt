@@ -7,10 +7,9 @@ ghost use Rattle.formats.specs.Blocks.{word_limit, word_sum, zeros, used_fits, f
 ghost use Rattle.refusal.specs.Inner.Verdicts.{verdict_result};
 
 use refusal::{Refusal, Refused};
+use signatures::RECORD_BYTES;
 
-// What blocks are made of, for all crates that read and write them.
-pub const RECORD_BYTES: usize = 8;
-
+// A block has so many bytes.
 pub const BLOCK_BYTES: usize = 512;
 
 const BLOCK_RECORDS: u16 = 63;
@@ -32,68 +31,51 @@ pub const CHECK_SUM: u16 = 65535;
 pub fn word_sum(s: &[u8]) -> u16
     ensures { result ≡ word_sum s.now % word_limit }
 {
-    let n = s.len() / 2;
-    let mut sum: u16 = 0;
-    for k in 0..n {
-        sum = sum.wrapping_add(words::read16(s, 2 * k));
-    }
-    sum
+    s.chunks_exact(2).fold(0, |sum: u16, word| sum.wrapping_add(words::read16(word, 0)))
 }
 
 // Whether every byte from offset `from` up to offset `to` is zero.
 fn zero_between(s: &[u8], from: usize, to: usize) -> bool
     ensures { result ≡ zeros (drop from (take to s.now)) }
 {
-    for i in from..to {
-        if words::read8(s, i) != 0 {
-            return false;
-        }
-    }
-    true
+    s.iter().take(to).skip(from).all(|byte| *byte == 0)
 }
 
 // Whether block j of a file of `blocks` blocks may use `used` records.
+#[tactic(auto, unfolding(formats::specs::Blocks::used_fits))]
 fn used_fits(blocks: u16, j: u16, used: u16) -> bool
     ensures { result ≡ used_fits blocks j used }
 {
-    if (j as u32) + 1 < (blocks as u32) {
-        return used == BLOCK_RECORDS;
+    if u32::from(j) + 1 < u32::from(blocks) {
+        used == BLOCK_RECORDS
+    } else {
+        (1..=BLOCK_RECORDS).contains(&used)
     }
-    if used < 1 {
-        return false;
-    }
-    used <= BLOCK_RECORDS
 }
 
 // Whether the block's fields other than the check, and its unused records, are right.
+#[tactic(auto, unfolding(formats::specs::Blocks::fields_fit))]
 fn fields_fit(block: &[u8], blocks: u16, j: u16) -> bool
     ensures { result ≡ fields_fit blocks j block.now }
 {
-    let number = words::read16(block, NUMBER_OFFSET);
     let used = words::read16(block, USED_OFFSET);
-    let count = words::read16(block, BLOCKS_OFFSET);
-    if number != j {
-        return false;
-    }
-    if !used_fits(blocks, j, used) {
-        return false;
-    }
-    if count != blocks {
-        return false;
-    }
-    zero_between(block, RECORD_BYTES * (used as usize), PART_BYTES)
+    words::read16(block, NUMBER_OFFSET) == j
+        && used_fits(blocks, j, used)
+        && words::read16(block, BLOCKS_OFFSET) == blocks
+        && zero_between(block, RECORD_BYTES * usize::from(used), PART_BYTES)
 }
 
 // The row "each block" for block j of a file of `blocks` blocks: the check, then the other fields
 // and the unused records.
+#[tactic(auto, unfolding(formats::specs::Blocks::used_of))]
 pub fn block_row(block: &[u8], blocks: u16, j: u16) -> Result<(), Refused>
     ensures { verdict_result result ≡ verdict (used_of blocks j block.now) }
 {
     if word_sum(block) != CHECK_SUM {
-        return Err(Refusal::BlockCheck.at(j as usize));
+        return Err(Refusal::BlockCheck.at(usize::from(j)));
     }
     if fields_fit(block, blocks, j) {
         return Ok(());
     }
-    Err(Refusal::BlockField.at(j as usize))
+    Err(Refusal::BlockField.at(usize::from(j)))
 }

@@ -25,7 +25,10 @@ use Rattle.refusal.specs.declared.Refused.{Refused}
 use Rattle.refusal.specs.Inner.Numbers.{number}
 use Rattle.refusal.specs.Inner.Verdicts.{verdict_result}
 use Rattle.refusal.specs.Inner.FilledBuffer.{FilledBuffer}
-use Rattle.refusal.proofs.FilledBuffer.{put_refused, put_done}
+use Rattle.refusal.proofs.FilledBuffer.{put_raised, put_done}
+use Rattle.std.specs.Result.{IsErrAnd}
+use Rattle.std.specs.Prelude.{slice_index_or}
+use Rattle.block_reader.proofs.Rows.{Cut, chunk_at}
 
 -- ---- the parts that blocks give
 
@@ -132,24 +135,26 @@ module _ (s : List ℕ) (t : Taken s) where
 pub some_block : (s : List ℕ) → verdict (flat_in s) ≡ done tt → 1 ≤ length s / block_bytes
 some_block s passes = (taken s passes).whole.some_block
 
-pub last_block : (s : List ℕ) → verdict (flat_in s) ≡ done tt → block_bytes * (length s / block_bytes - 1) + block_bytes ≤ length s
-last_block s passes = omega (arith, some_block s passes)
+pub last_block : (s : List ℕ) (chunks : List (List ℕ)) → verdict (flat_in s) ≡ done tt → Cut s chunks → 1 ≤ length chunks
+last_block s chunks passes cut = omega (arith, cut.count, some_block s passes)
 
-pub flat_length : (s last : List ℕ) (n : ℕ) → verdict (flat_in s) ≡ done tt
-    → last ≡ take block_bytes (drop (block_bytes * (length s / block_bytes - 1)) s)
-    → n ≡ number_at 2 last used_offset
-    → done (records_bytes * (length s / block_bytes - 1) + record_bytes * n) ≡ on_value length (flat_in s)
-flat_length s last n passes there read =
+pub flat_length : (s : List ℕ) (chunks : List (List ℕ)) (word n : ℕ) → verdict (flat_in s) ≡ done tt → Cut s chunks
+    → word ≡ number_at 2 (slice_index_or chunks (length chunks - 1) []) used_offset → n ≡ word
+    → done (records_bytes * (length chunks - 1) + record_bytes * n) ≡ on_value length (flat_in s)
+flat_length s chunks word n passes cut says wide =
     let t = taken s passes in
-    let full : ℕ = count s t - 1 in
-    let one_more : suc full ≡ count s t = omega (arith, some_block s passes) in
-    let here : full < count s t = omega arith in
-    let same : n ≡ used s t full = read ∙ ap (λ (b : List ℕ). number_at 2 b used_offset) there in
+    let full : ℕ = length chunks - 1 in
+    let one_more : suc full ≡ count s t = omega (arith, cut.count, some_block s passes) in
+    let here : full < count s t = omega (arith, one_more) in
+    let there = chunk_at s chunks full cut (omega (arith, cut.count, one_more)) in
+    let same : n ≡ used s t full = wide ∙ says ∙ ap (λ (b : List ℕ). number_at 2 b used_offset) there in
     let all : length (concatenated t.parts) ≡ records_bytes * full + record_bytes * used s t full =
     ap (λ (l : List (List ℕ)). length (concatenated l)) (sym (all_parts s t) ∙ ap (λ (k : ℕ). take k t.parts) (sym one_more))
     ∙ length_more s t full here
     ∙ ap (λ (k : ℕ). k + record_bytes * used s t full) (length_before s t full here) in
     ap (λ (k : ℕ). done (records_bytes * full + record_bytes * k)) same ∙ ap done (sym all) ∙ sym (ap (on_value length) t.gives)
+
+pub ruleset flat_sized = (some_block, last_block, flat_length)
 
 -- ---- the parts written one after the other
 
@@ -183,15 +188,19 @@ module _ (s before : List ℕ) (passes : verdict (flat_in s) ≡ done tt) (size 
   t : Taken s
   t = taken s f.passes
 
-  pub gather_more : (after block next : List ℕ) (j used : ℕ) → j < length s / block_bytes → Gathered s before after j
-      → block ≡ take block_bytes (drop (block_bytes * j) s) → used ≡ number_at 2 block used_offset
-      → next ≡ written after (records_bytes * j) (take (record_bytes * used) block)
+  pub gather_more : (chunks : List (List ℕ)) (after records next : List ℕ) (j word used : ℕ) → Cut s chunks → j < length chunks → Gathered s before after j
+      → word ≡ number_at 2 (slice_index_or chunks j []) used_offset → used ≡ word
+      → records ≡ take (record_bytes * used) (slice_index_or chunks j []) → next ≡ written after (records_bytes * j) records
       → Gathered s before next (j + 1)
   unfolding t
-  gather_more after block next j used more c there read wrote =
+  gather_more chunks after records next j word used cut below c says wide front_part wrote =
+      let block : List ℕ = slice_index_or chunks j [] in
+      let there : block ≡ take block_bytes (drop (block_bytes * j) s) = chunk_at s chunks j cut below in
+      let more : j < length s / block_bytes = omega (arith, below, cut.count) in
+      let read : used ≡ number_at 2 block used_offset = wide ∙ says in
       let front : List ℕ = concatenated (take j t.parts) in
-      let same : take (record_bytes * used) block ≡ part s t j =
-      ap (λ (k : ℕ). take (record_bytes * k) block) read ∙ ap (λ (b : List ℕ). take (record_bytes * number_at 2 b used_offset) b) there in
+      let same : records ≡ part s t j =
+      front_part ∙ ap (λ (k : ℕ). take (record_bytes * k) block) read ∙ ap (λ (b : List ℕ). take (record_bytes * number_at 2 b used_offset) b) there in
       let both : front ++ part s t j ≡ concatenated (take (suc j) t.parts) = sym (joined_more s t j more) in
       let room : 0 + length (front ++ part s t j) ≤ length before = rw both (omega (arith, joined_front (suc j) t.parts, f.enough)) in
       let position : records_bytes * j ≡ 0 + length front = omega (arith, length_before s t j more) in
@@ -207,10 +216,10 @@ module _ (s before : List ℕ) (passes : verdict (flat_in s) ≡ done tt) (size 
             ∙ sym (front_lent s before t (suc j) (omega arith)));
       }
 
-  pub gather_all : (after : List ℕ) (j : ℕ) → length s / block_bytes ≤ j → Gathered s before after j → after ≡ buffer_after before (flat_in s)
+  pub gather_all : (chunks : List (List ℕ)) (after : List ℕ) (j : ℕ) → Cut s chunks → length chunks ≤ j → Gathered s before after j → after ≡ buffer_after before (flat_in s)
   unfolding buffer_after t
-  gather_all after j all c =
-      let done_all : j ≡ count s t = omega (arith, c.few) in
+  gather_all chunks after j cut all c =
+      let done_all : j ≡ count s t = omega (arith, c.few, cut.count, all) in
       c.so_far
       ∙ front_lent s before t j c.few
       ∙ ap (λ (k : ℕ). written before 0 (concatenated (take k t.parts))) done_all
@@ -218,10 +227,12 @@ module _ (s before : List ℕ) (passes : verdict (flat_in s) ≡ done tt) (size 
       ∙ sym (ap (buffer_after before) t.gives)
 
   -- a block holds the records that it uses
-  pub gather_inside : (block : List ℕ) (j used : ℕ) → j < length s / block_bytes → block ≡ take block_bytes (drop (block_bytes * j) s) → used ≡ number_at 2 block used_offset
-      → record_bytes * used ≡ length (take (record_bytes * used) block)
+  pub gather_inside : (chunks : List (List ℕ)) (j word used : ℕ) → Cut s chunks → j < length chunks → word ≡ number_at 2 (slice_index_or chunks j []) used_offset → used ≡ word
+      → record_bytes * used ≤ length (slice_index_or chunks j [])
   unfolding t
-  gather_inside block j used more there read = rw (read, there) (sym (length_part s t j more))
+  gather_inside chunks j word used cut below says wide =
+      let more : j < length s / block_bytes = omega (arith, below, cut.count) in
+      rw (wide, says, chunk_at s chunks j cut below) (omega (arith, length_block s t j more, (used_some (length s / block_bytes) j _ (share s t j more).fits).1))
 
 pub gather_length : (s before after : List ℕ) (j : ℕ) → Gathered s before after j → length after ≡ length before
 gather_length s before after j c = ap length c.so_far ∙ length_lent before _
@@ -241,9 +252,9 @@ flat s bytes e =
     let v = value_inv length (flat_in s) bytes (sym e) in
     record { records = v.value; is = v.first; measure = v.second }
 
-pub take_refused : (s before : List ℕ) (rows : Answer (Unit {0}) Refused) (r : Refused) → verdict_result rows ≡ verdict (flat_in s) → rows ≡ Err r
-    → FilledBuffer (flat_in s) before before (Err r)
-take_refused s before rows r reported is = put_refused _ before r (refused_is (flat_in s) (number r.why) r.position (sym reported ∙ ap verdict_result is))
+pub take_refused : (s before : List ℕ) (rows : Answer (Unit {0}) Refused) (r : Refused) (out : Answer ℕ Refused) → verdict_result rows ≡ verdict (flat_in s) → rows ≡ Err r → IsErrAnd out (λ q. q ≡ r)
+    → FilledBuffer (flat_in s) before before out
+take_refused s before rows r out reported is = put_raised _ before r out (refused_is (flat_in s) (number r.why) r.position (sym reported ∙ ap verdict_result is))
 
 pub take_passes : (s : List ℕ) (rows : Answer (Unit {0}) Refused) → verdict_result rows ≡ verdict (flat_in s) → rows ≡ Ok tt → verdict (flat_in s) ≡ done tt
 take_passes s rows reported is = sym reported ∙ ap verdict_result is

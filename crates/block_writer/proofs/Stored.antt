@@ -1,14 +1,15 @@
 -- Laws of writing blocks. Each write goes right after the one before it, so that all of them are
 -- one write: of a block's body, of a block, of the file.
-use Prim.Native.Nat.{ℕ, zero, suc, ◌+◌, ◌*◌, ◌-◌, ◌/◌, ◌%◌, ◌≤◌, ◌<◌}
+use Prim.Native.Nat.{ℕ, zero, suc, ◌+◌, ◌*◌, ◌-◌, ◌/◌, ◌%◌, ◌≤◌, ◌<◌, min}
 use mathlib.Core.List.{List, [], ◌∷◌, ◌++◌, append_assoc, append-nil}
 use mathlib.Core.Path.{◌≡◌, refl, sym, ap, ap₂, ◌∙◌}
 use lib.Dec.{lit<}
 use native.Mathlib.Nat.{add-mul-div_left, add-mul-mod_self_left, zero-add, add-zero, add-suc, suc-add, add-sub_of_le}
 use native.Mathlib.Numerals.{add-one}
+use native.Mathlib.Decide.{dec_le}
 use native.Mathlib.Omega.{arith}
-use lib.ListN.{length, take, drop, replicate, length-append, length-take, length-replicate, replicate-append-replicate}
-use lib.Seq.{length-take-le, drop_at, drop-drop, take-append_seam}
+use lib.ListN.{length, take, drop, replicate, length-append, length-drop, length-replicate, drop_of_length-le, replicate-append-replicate}
+use lib.Seq.{length-take-le, take_all, drop_at, drop-drop, take-append_seam}
 use Rattle.formats.specs.Numbers.{bytes_of}
 use Rattle.formats.specs.Written.{written}
 use Rattle.formats.specs.Records.{record_bytes}
@@ -191,19 +192,11 @@ pub record Stored (s before after : List ℕ) (blocks j : ℕ) : Type 0 where
   pub same_length : length after ≡ length before
   pub so_far : after ≡ written before 0 (blocks_from blocks j 0 s)
 
-pub stored_none : (s before : List ℕ) (blocks : ℕ) → Stored s before before blocks 0
+stored_none : (s before : List ℕ) (blocks : ℕ) → Stored s before before blocks 0
 unfolding blocks_from
 stored_none s before blocks = record { few = omega arith; same_length = refl; so_far = sym (written_none before 0) }
 
--- the next part begins within the flat records, and its block has room
-pub stored_part : (s : List ℕ) (blocks j : ℕ) → blocks ≡ blocks_for (length s) → j < blocks → records_bytes * j ≤ length s
-unfolding blocks_for
-stored_part s blocks j count more = omega arith
-
-pub stored_short : (s part : List ℕ) (j : ℕ) → part ≡ take records_bytes (drop (records_bytes * j) s) → length part ≤ records_bytes
-stored_short s part j is = rw (is, length-take) (omega arith)
-
-pub stored_more : (s before after next part made : List ℕ) (blocks j : ℕ)
+stored_more : (s before after next part made : List ℕ) (blocks j : ℕ)
     → block_bytes * blocks ≤ length before
     → j < blocks
     → Stored s before after blocks j
@@ -227,10 +220,10 @@ stored_more s before after next part made blocks j room more c is makes second =
           ∙ ap (written before 0) (sym both));
     }
 
-pub stored_length : (s before after : List ℕ) (blocks j : ℕ) → Stored s before after blocks j → length after ≡ length before
+stored_length : (s before after : List ℕ) (blocks j : ℕ) → Stored s before after blocks j → length after ≡ length before
 stored_length s before after blocks j c = c.same_length
 
-pub stored_all : (s before after : List ℕ) (blocks j : ℕ) → blocks ≡ blocks_for (length s) → blocks ≤ j → Stored s before after blocks j → after ≡ written before 0 (file_of s)
+stored_all : (s before after : List ℕ) (blocks j : ℕ) → blocks ≡ blocks_for (length s) → blocks ≤ j → Stored s before after blocks j → after ≡ written before 0 (file_of s)
 unfolding file_of
 stored_all s before after blocks j count all c =
     let done_all : j ≡ blocks = omega (arith, c.few) in
@@ -238,26 +231,81 @@ stored_all s before after blocks j count all c =
     ∙ ap (λ (n : ℕ). written before 0 (blocks_from blocks n 0 s)) done_all
     ∙ ap (λ (n : ℕ). written before 0 (blocks_from n n 0 s)) count
 
-pub ruleset stored = (stored_none, stored_part, stored_short, stored_more, stored_length, stored_all)
+-- the loop: so many blocks are written, and the records after theirs are left to cut
+pub record Storing (s before after : List ℕ) (blocks : ℕ) (left : List ℕ) (size count : ℕ) : Type 0 where
+  pub stored : Stored s before after blocks count
+  pub left_is : left ≡ drop (records_bytes * count) s
+  pub size_is : size ≡ records_bytes
+
+pub storing_none : (s before : List ℕ) (blocks : ℕ) (left : List ℕ) (size count : ℕ) → left ≡ s → size ≡ records_bytes → count ≡ 0 → Storing s before before blocks left size count
+storing_none s before blocks left size count all is none = rw (all, none) (record { stored = stored_none s before blocks; left_is = refl; size_is = is })
+
+-- a part has its full size, or is all that is left
+part_cut : (left part rest : List ℕ) → left ≡ part ++ rest → length part ≡ min records_bytes (length left) → (part ≡ take records_bytes left) × (rest ≡ drop records_bytes left)
+part_cut left part rest both size =
+    let first : take (length part) left ≡ part = ap (take (length part)) both ∙ take-append_seam part rest in
+    let second : drop (length part) left ≡ rest = ap (drop (length part)) both ∙ drop_at part rest (length part) refl in
+    elim (dec_le records_bytes (length left)) [
+      | yes whole ↦
+          let full : length part ≡ records_bytes = omega (arith, size, whole) in
+          (sym first ∙ ap (λ (k : ℕ). take k left) full, sym second ∙ ap (λ (k : ℕ). drop k left) full)
+      | no cut ↦
+          let all : length left ≤ length part = omega (arith, size, cut) in
+          let short : length left ≤ records_bytes = omega (arith, cut) in (
+            sym first ∙ take_all (length part) left all ∙ sym (take_all records_bytes left short),
+            sym second ∙ drop_of_length-le left all ∙ sym (drop_of_length-le left short),
+          )
+    ]
+
+module _ (s before after : List ℕ) (blocks : ℕ) (left : List ℕ) (size count : ℕ) (c : Storing s before after blocks left size count) (counted : blocks ≡ blocks_for (length s)) where
+  pub storing_short : (part : List ℕ) → length part ≡ min size (length left) → length part ≤ records_bytes
+  storing_short part is = omega (arith, is, c.size_is)
+
+  pub storing_more : (next part rest made : List ℕ) (size' count' j : ℕ) → block_bytes * blocks ≤ length before
+      → size' ≡ size → left ≡ part ++ rest → length part ≡ min size (length left) → 0 < length left → j ≡ count → count' ≡ count + 1
+      → made ≡ block_of part j blocks → next ≡ written after (block_bytes * j) made
+      → Storing s before next blocks rest size' count'
+  unfolding blocks_for
+  storing_more next part rest made size' count' j room same both is some here up makes put =
+      let long : length left ≡ length s - records_bytes * count = ap length c.left_is ∙ length-drop (records_bytes * count) s in
+      let more : count < blocks = omega (arith, counted, long, some) in
+      let cut = part_cut left part rest both (is ∙ ap (λ (k : ℕ). min k (length left)) c.size_is) in
+      let part_is : part ≡ take records_bytes (drop (records_bytes * count) s) = cut.0 ∙ ap (take records_bytes) c.left_is in
+      let past : records_bytes * count + records_bytes ≡ records_bytes * (count + 1) = omega arith in
+      record {
+        stored = rw up (stored_more s before after next part made blocks count room more c.stored part_is (rw here at makes) (rw here at put));
+        left_is = rw up (cut.1 ∙ ap (drop records_bytes) c.left_is ∙ drop-drop records_bytes (records_bytes * count) s ∙ ap (λ (k : ℕ). drop k s) past);
+        size_is = same ∙ c.size_is;
+      }
+
+  pub storing_all : length left ≡ 0 → after ≡ written before 0 (file_of s)
+  unfolding blocks_for
+  storing_all none =
+      let long : length left ≡ length s - records_bytes * count = ap length c.left_is ∙ length-drop (records_bytes * count) s in
+      stored_all s before after blocks count counted (omega (arith, counted, long, none)) c.stored
+
+pub storing_length : (s before after : List ℕ) (blocks : ℕ) (left : List ℕ) (size count : ℕ) → Storing s before after blocks left size count → length after ≡ length before
+storing_length s before after blocks left size count c = c.stored.same_length
+
+pub ruleset stored = (storing_none, storing_short, storing_more, storing_all, storing_length)
 
 -- ---- the ways out of `to_blocks`
 
-module _ (s before : List ℕ) where
-  abbrev count : ℕ
-  count = (length s + (records_bytes - 1)) / records_bytes
-
+module _ (s before : List ℕ) (count : ℕ) (ceil : count ≡ length s / records_bytes + min 1 (length s % records_bytes)) where
   -- as many blocks as the file has, each whole
-  size : length (file_of s) ≡ block_bytes * count
+  counted : count ≡ blocks_for (length s)
   unfolding blocks_for
-  size = length_file s
+  counted = omega (arith, ceil)
+
+  size : length (file_of s) ≡ block_bytes * count
+  size = length_file s ∙ ap (λ (n : ℕ). block_bytes * n) (sym counted)
 
   pub store_short : length before / block_bytes < count → (r : Refused) → r ≡ record { why = SpaceTooShort; position = 0 }
       → FilledBuffer (in_room (length before) (file_of s)) before before (Err r)
   store_short short r is = rw is (put_refused _ before _ (within_short (length before) (file_of s) (omega (arith, size))))
 
   pub store_room : count ≤ length before / block_bytes → (count ≡ blocks_for (length s)) × (block_bytes * count ≤ length before)
-  unfolding blocks_for
-  store_room room = (refl, omega arith)
+  store_room room = (counted, omega arith)
 
   pub store_done : (after : List ℕ) → count ≤ length before / block_bytes → after ≡ written before 0 (file_of s)
       → FilledBuffer (in_room (length before) (file_of s)) before after (Ok (block_bytes * count))

@@ -6,10 +6,9 @@ ghost use Rattle.formats.specs.Written.{written};
 ghost use Rattle.formats.specs.Blocks.{block_bytes, records_bytes, block_body, block_of, blocks_for, file_of, in_room};
 ghost use Rattle.refusal.specs.Inner.FilledBuffer.{FilledBuffer};
 
-use block_check::{
-    BLOCK_BYTES, BLOCKS_OFFSET, CHECK_SUM, NUMBER_OFFSET, PART_BYTES, RECORD_BYTES, USED_OFFSET,
-};
+use block_check::{BLOCK_BYTES, BLOCKS_OFFSET, CHECK_SUM, NUMBER_OFFSET, PART_BYTES, USED_OFFSET};
 use refusal::{Refusal, Refused};
+use signatures::RECORD_BYTES;
 
 // The offset of the check in a block.
 const CHECK_OFFSET: usize = 510;
@@ -18,7 +17,8 @@ const CHECK_OFFSET: usize = 510;
 const WORD_LIMIT: usize = 65536;
 
 // Block j: the records of its part, zeros for those that it does not use, its fields, and the check
-// word that makes its words sum to 65,535.
+// word that makes its words sum to 65,535. (A cast may lose no bits, so what is above 16 of them is
+// cut off before it.)
 fn block_of(part: &[u8], blocks: usize, j: usize) -> [u8; BLOCK_BYTES]
     requires { length part.now ≤ records_bytes }
     ensures { result ≡ block_of part.now j blocks }
@@ -34,18 +34,6 @@ fn block_of(part: &[u8], blocks: usize, j: usize) -> [u8; BLOCK_BYTES]
     block
 }
 
-// The flat records that go into block j.
-fn part_of(flat: &[u8], j: usize) -> &[u8]
-    requires { records_bytes * j ≤ length flat.now }
-    ensures { result.now ≡ take records_bytes (drop (records_bytes * j) flat.now) }
-{
-    let start = PART_BYTES * j;
-    if flat.len() - start < PART_BYTES {
-        return &flat[start..];
-    }
-    &flat[start..start + PART_BYTES]
-}
-
 // Writes the file of flat records, which has so many blocks, to the start of a lent buffer that has
 // room for it.
 fn write_blocks(flat: &[u8], blocks: usize, file: &mut [u8])
@@ -54,8 +42,8 @@ fn write_blocks(flat: &[u8], blocks: usize, file: &mut [u8])
     ensures { file.new ≡ written file.old 0
         (file_of flat.now) }
 {
-    for j in 0..blocks {
-        let block = block_of(part_of(flat, j), blocks, j);
+    for (j, part) in flat.chunks(PART_BYTES).enumerate() {
+        let block = block_of(part, blocks, j);
         writing::write_bytes(file, BLOCK_BYTES * j, &block);
     }
 }
@@ -66,7 +54,7 @@ pub fn to_blocks(flat: &[u8], file: &mut [u8]) -> Result<usize, Refused>
     ensures { FilledBuffer (in_room (length file.old) (file_of flat.now))
         file.old file.new result }
 {
-    let blocks = (flat.len() + (PART_BYTES - 1)) / PART_BYTES;
+    let blocks = flat.len().div_ceil(PART_BYTES);
     if file.len() / BLOCK_BYTES < blocks {
         return Err(Refusal::SpaceTooShort.at(0));
     }

@@ -16,7 +16,8 @@ const NO_WORD: u16 = 0;
 
 // What is known where an expression is emitted: the words that the number names stand on, how many
 // names there are, how many words stand above the base, and whether a tree is expected. More names
-// than 16 count as 16: no program that passes pass one has more.
+// than 16 count as 16: no program that passes pass one has more. (The Scope of `pass_one` is
+// another: it counts number and tree names, and has none of their words.)
 #[derive(Clone, Copy, Debug, PartialEq, Eq)]
 pub struct Scope {
     pub words: [u16; MOST_NAMES],
@@ -26,7 +27,9 @@ pub struct Scope {
 }
 
 impl Scope {
-    // How many names there are.
+    // How many names there are. (More count as the most, so that nothing is asked of callers, for
+    // whom all fields are open. `pending: Pending` counts its trees likewise: one line each, over
+    // another field.)
     fn count(self) -> usize
         ensures { result ≡ min self.names most_names }
     {
@@ -38,9 +41,8 @@ impl Scope {
     pub fn word_of(self, a: u8) -> u16
         ensures { result ≡ word_of (words_in self) a }
     {
-        let name = a as usize;
         self.words[..self.count()]
-            .get(name)
+            .get(usize::from(a))
             .copied()
             .unwrap_or(NO_WORD)
     }
@@ -55,6 +57,7 @@ impl Scope {
             return self;
         }
         let mut words = self.words;
+        // A cast may lose no bits, so what is above 16 of them is cut off before it.
         words[names] = (self.standing % 65536) as u16;
         Scope {
             words,

@@ -7,6 +7,8 @@ use native.Mathlib.Numerals.{add-one}
 use native.Mathlib.Omega.{arith}
 use borrow.Author.Rules.{rules}
 use lib.ListN.{length, take, length-append}
+use Rattle.std.proofs.lemmas.Option.{same_Some}
+use Rattle.std.specs.Prelude.{Option, Some, IsSome}
 use Rattle.formats.specs.Numbers.{Bytes}
 use Rattle.formats.specs.Results.{done}
 use Rattle.formats.specs.Records.{record_at}
@@ -22,7 +24,7 @@ use Rattle.functions.proofs.Functions.{total_is}
 use Rattle.meaning.specs.OpenCalls.{first_record}
 use Rattle.walks.specs.Inner.Standing.{Known, Holds, Bodies, no_more, one_more}
 use Rattle.walks.specs.Inner.Limits.{parameters_of_any}
-use Rattle.walks.specs.Inner.Walks.{Inside}
+use Rattle.walks.specs.Inner.Walks.{Inside, Went}
 use Rattle.walks.proofs.Walks.{program_held, signature-of}
 use Rattle.stepwise.specs.Inner.Rows.{row_words, body_location, rows_of, rows_of_all, tabled}
 use Rattle.stepwise.proofs.Rows.{length_rows, length_rows_all}
@@ -81,10 +83,10 @@ pub record Filling (s : List ℕ) (functions end : ℕ) (table₀ table cases : 
   pub left : (program : Program) → read_program s ≡ done program → Left s functions end table₀ table k j program
 
 -- at the start all functions are still to be done
-pub fill_first : (s table cases : List ℕ) (functions nodes end : ℕ) → Bytes s → TableReady s table → length cases ≡ most_records → functions ≡ (header_in s).functions → nodes ≡ (header_in s).nodes → end ≡ 1 + functions + nodes
-    → Filling s functions end table table cases (1 + functions) 0
+pub fill_first : (s table cases : List ℕ) (functions k end : ℕ) → Bytes s → TableReady s table → length cases ≡ most_records → functions ≡ (header_in s).functions → k ≡ 1 + (header_in s).functions → end ≡ 1 + (header_in s).functions + (header_in s).nodes
+    → Filling s functions end table table cases k 0
 unfolding header_in record_at tabled
-fill_first s table cases functions nodes end bytes ready long ef en el =
+fill_first s table cases functions k end bytes ready long ef ek el =
     let v = passed_is (read_program s) ready.is_read in
     let own = program_held s v.value bytes v.is in
     let few = (flattens s v.value bytes v.is).lawful.few_functions in
@@ -96,7 +98,7 @@ fill_first s table cases functions nodes end bytes ready long ef en el =
       stack = long;
       left = λ program e.
           let h = program_held s program bytes e in
-          let location : suc (length program.functions) ≡ 1 + functions = omega (arith, h.functions) in
+          let location : suc (length program.functions) ≡ k = omega (arith, h.functions) in
           record {
             others = program.functions;
             known = h.known;
@@ -191,10 +193,10 @@ module _ (s : List ℕ) (functions end : ℕ) (table₀ table cases : List ℕ) 
         → location_with p cases ≡ body_location (first_record program) (arity_of (signatures program)) (turn program e).here
     body-location program e = ap (λ q. location_with q cases) (starts_at program e)
 
-    module _ (table' cases' : List ℕ) (next : ℕ) (fills : FillsRows s table table' cases cases' k end p next) where
+    module _ (table' cases' : List ℕ) (found : Option ℕ) (fills : FillsRows s table table' cases cases' k end p found) where
       -- its rows are filled
       filled : (program : Program) (e : read_program s ≡ done program)
-          → Filled table table' cases cases' (first_record program) (arity_of (signatures program)) k p (turn program e).here.body next
+          → Filled table table' cases cases' (first_record program) (arity_of (signatures program)) k p (turn program e).here.body found
       filled program e = fills.is (first_record program) (arity_of (signatures program)) (turn program e).here.body (body_entered program e)
 
       -- the table keeps its length
@@ -203,46 +205,58 @@ module _ (s : List ℕ) (functions end : ℕ) (table₀ table cases : List ℕ) 
           let v = l.some_program in
           ap length (filled v.value v.is).rows ∙ (wrote table (row_words * k) _).same_length
 
-      -- the functions after it are still to be done
-      rest_left : (program : Program) → read_program s ≡ done program → Left s functions end table₀ table' next (j + 1) program
-      unfolding rows_of_all
-      rest_left program e =
-          let t = turn program e in
-          let g = filled program e in
-          let entry = first_record program in
-          let arity = arity_of (signatures program) in
-          let body = t.here.body in
-          let own = rows_of entry arity (body_location entry arity t.here) k body in
-          let others = rows_of_all entry arity (k + size body) t.others in
-          let location = row_words * k in
-          let long_own : length own ≡ row_words * size body = length_rows entry arity (body_location entry arity t.here) k body in
-          let own_written : table' ≡ written table location own =
-          g.rows ∙ ap (λ q. written table location (rows_of entry arity q k body)) (body-location program e) in
-          let after_own : location + length own ≡ row_words * next = omega (arith, g.after) in
-          let room : location + length (own ++ others) ≤ length table =
-          omega (arith, length-append own others, length_rows_all entry arity (k + size body) t.others, t.ends, l.inside.few, l.room, l.table_long) in
-          record {
-            others = t.others;
-            known = (l.left program e).known;
-            agrees = (l.left program e).agrees;
-            held = subst (λ n. Bodies s (signatures program) (j + 1) n t.others) (sym g.after) (rw add-one t.after);
-            many = omega (arith, t.many);
-            ends = omega (arith, t.ends, g.after);
-            due =
-                t.due
-                ∙ sym (written_append table location own others room)
-                ∙ ap₂ (λ (x : List ℕ) n. written x n others) (sym own_written) after_own
-                ∙ ap (λ n. written table' (row_words * next) (rows_of_all entry arity n t.others)) (sym g.after);
-          }
+      -- a record is given
+      pub fill_found : IsSome found
+      fill_found = let v = l.some_program in rw (filled v.value v.is).after refl
 
-      pub fill_more : Filling s functions end table₀ table' cases' next (j + 1)
-      fill_more = record {
-        some_program = l.some_program;
-        inside = record { before_end = fills.went.inside; few = l.inside.few };
-        table_long = same_table ∙ l.table_long;
-        room = l.room;
-        stack = let v = l.some_program in (filled v.value v.is).stack.long ∙ l.stack;
-        left = rest_left;
-      }
+      module _ (next : ℕ) (is : found ≡ Some next) where
+        went : Went (suc k) end next
+        went = rw is at fills.went
 
-pub ruleset filling = (fill_first, fill_asked, fill_more, fill_all, rules)
+        -- it is the one after the body
+        after : (program : Program) (e : read_program s ≡ done program) → next ≡ k + size (turn program e).here.body
+        after program e = same_Some next _ (sym is ∙ (filled program e).after)
+
+        -- the functions after it are still to be done
+        rest_left : (program : Program) → read_program s ≡ done program → Left s functions end table₀ table' next (j + 1) program
+        unfolding rows_of_all
+        rest_left program e =
+            let t = turn program e in
+            let g = filled program e in
+            let entry = first_record program in
+            let arity = arity_of (signatures program) in
+            let body = t.here.body in
+            let own = rows_of entry arity (body_location entry arity t.here) k body in
+            let others = rows_of_all entry arity (k + size body) t.others in
+            let location = row_words * k in
+            let long_own : length own ≡ row_words * size body = length_rows entry arity (body_location entry arity t.here) k body in
+            let own_written : table' ≡ written table location own =
+            g.rows ∙ ap (λ q. written table location (rows_of entry arity q k body)) (body-location program e) in
+            let after_own : location + length own ≡ row_words * next = omega (arith, after program e) in
+            let room : location + length (own ++ others) ≤ length table =
+            omega (arith, length-append own others, length_rows_all entry arity (k + size body) t.others, t.ends, l.inside.few, l.room, l.table_long) in
+            record {
+              others = t.others;
+              known = (l.left program e).known;
+              agrees = (l.left program e).agrees;
+              held = subst (λ n. Bodies s (signatures program) (j + 1) n t.others) (sym (after program e)) (rw add-one t.after);
+              many = omega (arith, t.many);
+              ends = omega (arith, t.ends, after program e);
+              due =
+                  t.due
+                  ∙ sym (written_append table location own others room)
+                  ∙ ap₂ (λ (x : List ℕ) n. written x n others) (sym own_written) after_own
+                  ∙ ap (λ n. written table' (row_words * next) (rows_of_all entry arity n t.others)) (sym (after program e));
+            }
+
+        pub fill_more : Filling s functions end table₀ table' cases' next (j + 1)
+        fill_more = record {
+          some_program = l.some_program;
+          inside = record { before_end = went.inside; few = l.inside.few };
+          table_long = same_table ∙ l.table_long;
+          room = l.room;
+          stack = let v = l.some_program in (filled v.value v.is).stack.long ∙ l.stack;
+          left = rest_left;
+        }
+
+pub ruleset filling = (fill_first, fill_asked, fill_found, fill_more, fill_all, rules)

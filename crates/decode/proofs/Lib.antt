@@ -2,6 +2,6 @@
 pub mod Leaves
 pub mod Locations
 pub mod Rows
-pub mod Walk
+pub mod Expressions
 pub mod All
 pub mod Calls

@@ -1,12 +1,15 @@
 -- The location of a part where counts are small, and what holds of it.
-use Prim.Native.Nat.{ℕ, zero, suc, ◌+◌, ◌%◌, ◌≤◌, ◌<◌}
+use Prim.Native.Nat.{ℕ, zero, suc, ◌+◌, ◌-◌, ◌%◌, ◌≤◌, ◌<◌}
+use mathlib.Core.Bool.{Bool, true, false}
 use mathlib.Core.List.{List, [], ◌∷◌, ◌++◌}
 use mathlib.Core.Path.{◌≡◌, refl, sym, ap, ap₂, ◌∙◌}
 use native.Mathlib.Decide.{dec_le}
 use native.Mathlib.Nat.{le_refl}
 use native.Mathlib.Omega.{arith}
+use lib.Dec.{eqb}
 use lib.ListN.{length, get_or, set, take, length-set}
 use lib.Seq.{get_or-set_same, get_or-set_other, get_or-take, take-set-le, take-suc-set, take-take}
+use Rattle.formats.specs.Arithmetic.{Op, plus}
 use Rattle.formats.specs.Records.{Kind, Part, a_number, a_tree, as_whole, under_number, under_trees, parts_of, part_count, nth, nth_part}
 use Rattle.formats.specs.Records.{Const as a_const, Var as a_var, Compute as an_operation, IfZero as an_if_zero, Let as a_let, Leaf as a_leaf, Node as a_node, Case as a_case, Call as a_call}
 use Rattle.formats.specs.Programs.{signature_of}
@@ -17,9 +20,12 @@ use Rattle.records.specs.Inner.Read.{meant, part_of}
 use Rattle.records.specs.declared.Part.{Part as RecordPart}
 use Rattle.records.specs.declared.Record.{Record}
 use Rattle.walks.specs.Inner.Limits.{most_count}
-use Rattle.stepwise.specs.Inner.Rows.{last_word, role_of, slot_of, names_in, keeps_in, cases_in, part_location}
+use Rattle.stepwise.specs.Inner.Rows.{kept, last_argument, last_word, second_of, role_of, slot_of, names_in, keeps_in, cases_in, part_location}
+use Rattle.frames.specs.declared.Role.{Role}
+use Rattle.frames.specs.declared.Role.TheVariants.{Whole}
+use Rattle.frames.specs.Inner.Named.{role_number, role_of_number}
 use Rattle.part_locations.specs.declared.Location.{Location}
-use Rattle.part_locations.specs.Inner.Locations.{location_with, capped, names_inside, keeps_inside, depth_inside, part_in, noted}
+use Rattle.part_locations.specs.Inner.Locations.{location_with, role_inside, slot_inside, capped, names_inside, keeps_inside, depth_inside, part_in, noted}
 use Rattle.part_locations.proofs.Parts.{placed}
 use Rattle.decode.specs.Inner.Walk.{names_under, deeper, inside_location, Grows, Stacked, Small, SmallParts, Counted, Same, Starts}
 
@@ -63,16 +69,16 @@ module _ (part : Part) (r count : ℕ) where
   pub inside_plain : (kind : Kind) (i : ℕ) (p : Location) → Grows i p → part_in part kind r i count p ≡ inside_location part kind r i count p
   unfolding part_in inside_location
   inside_plain kind i p g =
-      ap₂ (λ n k. placed (role_of (λ b. 0) (λ b. count) kind i) r (slot_of (λ b. 0) (λ b. count) (location_with p []) kind i) n k (depth_inside part p.depth))
+      ap₂ (λ n k. placed (role_inside kind i count) r (slot_inside kind i count p) n k (depth_inside part p.depth))
       (names_plain part p.names g.names) (keeps_plain kind i p g.keeps)
-      ∙ ap (placed (role_of (λ b. 0) (λ b. count) kind i) r (slot_of (λ b. 0) (λ b. count) (location_with p []) kind i) _ _) (depth_plain part p.depth g.depth)
+      ∙ ap (placed (role_inside kind i count) r (slot_inside kind i count p) _ _) (depth_plain part p.depth g.depth)
 
 -- ---- `start`
 
-pub started : (s : List ℕ) (j m : ℕ) (p : Location) → m ≡ arity_in s j → p ≡ placed 0 0 0 m 0 0 → Starts s j p
+pub started : (s : List ℕ) (j m : ℕ) (p : Location) → m ≡ arity_in s j → p ≡ placed Whole 0 0 m 0 0 → Starts s j p
 unfolding signature_of
 started s j m p em e = record {
-  is = λ f signed few. e ∙ ap (λ n. placed 0 0 0 n 0 0) (em ∙ sym (function_read s j (signature_of f) signed).arity);
+  is = λ f signed few. e ∙ ap (λ n. placed Whole 0 0 n 0 0) (em ∙ sym (function_read s j (signature_of f) signed).arity);
 }
 
 -- ---- what holds of a part's location
@@ -104,7 +110,7 @@ depth_near under_number n = omega arith
 depth_near under_trees n = omega arith
 
 -- a location that is near, by its counts
-near_to : (part : Part) (r i : ℕ) (p : Location) (role slot keeps : ℕ) → slot ≤ p.names + last_word → keeps ≤ p.keeps + i
+near_to : (part : Part) (r i : ℕ) (p : Location) (role : Role) (slot keeps : ℕ) → slot ≤ p.names + last_word → keeps ≤ p.keeps + i
     → Near r i p (placed role r slot (names_under part p.names) keeps (deeper part p.depth))
 near_to part r i p role slot keeps hs hk =
     record { parent = refl; slot = hs; names = names_near part p.names; keeps = hk; depth = depth_near part p.depth }
@@ -144,15 +150,27 @@ module _ (part : RecordPart) (node : Record) (r i count k end : ℕ) (p q : Loca
         depth = omega (arith, n.depth, small.depth);
       }
 
+-- the number of the role of an operation's second part
+second_role : (op : Op) → role_number (role_of_number (second_of op)) ≡ second_of op
+unfolding role_of_number second_of
+second_role plus = refl
+
+-- .. and of an argument's role
+call_role : (last : Bool) → role_number (role_of_number (elim last [ true ↦ last_argument | false ↦ kept ])) ≡ elim last [ true ↦ last_argument | false ↦ kept ]
+unfolding role_of_number
+call_role true = refl
+call_role false = refl
+
 -- it is the location wanted, with the stack as noted: what a part names by its kind is what it
 -- names by itself
 pub location_inside : (entry arity : ℕ → ℕ) (kind : Kind) (r i count : ℕ) (p : Location) (cases : List ℕ) → Counted arity kind count → i < count → r ≤ most_records → p.depth < length cases
     → location_with (inside_location (nth_part (parts_of kind) i) kind r i count p) (noted (nth_part (parts_of kind) i) r p.depth cases) ≡ part_location entry arity (location_with p cases) kind r i
-unfolding inside_location names_under noted role_of slot_of names_in keeps_in cases_in deeper parts_of part_count nth_part nth
+unfolding inside_location role_of_number names_under noted role_of slot_of names_in keeps_in cases_in deeper parts_of part_count nth_part nth
 location_inside entry arity (a_const c) r i count p cases counted more low room = absurd (omega (arith, counted.is))
 location_inside entry arity (a_var a) r i count p cases counted more low room = absurd (omega (arith, counted.is))
 location_inside entry arity (an_operation op) r zero count p cases counted more low room = refl
-location_inside entry arity (an_operation op) r (suc zero) count p cases counted more low room = refl
+location_inside entry arity (an_operation op) r (suc zero) count p cases counted more low room =
+    ap (λ n. record { role = n; parent = r; slot = last_word - p.keeps; names = p.names; keeps = suc p.keeps; cases = take p.depth cases }) (second_role op)
 location_inside entry arity (an_operation op) r (suc (suc i)) count p cases counted more low room = absurd (omega (arith, counted.is))
 location_inside entry arity an_if_zero r zero count p cases counted more low room = refl
 location_inside entry arity an_if_zero r (suc zero) count p cases counted more low room = refl
@@ -173,7 +191,8 @@ location_inside entry arity (a_case a) r (suc zero) count p cases counted more l
     (take-suc-set cases p.depth (r % 65536) room ∙ ap (λ n. take p.depth cases ++ (n ∷ [])) own)
 location_inside entry arity (a_case a) r (suc (suc i)) count p cases counted more low room = absurd (omega (arith, counted.is))
 location_inside entry arity (a_call a b) r i count p cases counted more low room =
-    ap (λ n. location_with (inside_location a_number (a_call a b) r i n p) cases) (sym counted.is)
+    ap (λ n. record { role = n; parent = r; slot = last_word - (p.keeps + i); names = p.names; keeps = p.keeps + i; cases = take p.depth cases })
+    (call_role (eqb (suc i) count) ∙ ap (λ n. elim (eqb (suc i) n) [ true ↦ last_argument | false ↦ kept ]) (sym counted.is))
 
 -- ---- the stack
 

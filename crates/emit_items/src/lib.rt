@@ -42,7 +42,7 @@ impl Emitter<'_> {
                 ..Opcode::Push.alone()
             },
             Item::Get(a) => Instruction {
-                operand: self.scope.word_of(a) as usize,
+                operand: usize::from(self.scope.word_of(a)),
                 ..Opcode::Get.alone()
             },
             Item::Add => Opcode::Add.alone(),
@@ -65,7 +65,7 @@ impl Emitter<'_> {
             Item::ReadNumber => Opcode::ReadNumber.alone(),
             Item::Call(b) => Instruction {
                 byte1: signatures::parameters(self.flat, b),
-                operand: template::entry_of(self.entries, b) as usize,
+                operand: usize::from(template::entry_of(self.entries, b)),
                 ..Opcode::Call.alone()
             },
         }
@@ -87,6 +87,7 @@ impl Emitter<'_> {
             self.now.flat.now self.now.entries.now self.now.scope self.now.last self.now.beyond
             (row items)) }
     {
+        // so the address after this one has a number
         if code.len() <= address {
             return;
         }

@@ -12,12 +12,13 @@ use Rattle.formats.specs.Inner.Blocks.{most_bytes, program_into}
 use Rattle.formats.proofs.Results.{then_done, then_refused, Value, passed_is, refused_is}
 use Rattle.formats.proofs.Files.{within_room, within_short}
 use Rattle.std.specs.Prelude.{Result as Answer, Ok, Err}
+use Rattle.std.specs.Result.{IsErrAnd}
 use Rattle.refusal.specs.declared.Refused.{Refused}
 use Rattle.refusal.specs.declared.Refusal.TheVariants.{SpaceTooShort}
 use Rattle.refusal.specs.Inner.Numbers.{number}
 use Rattle.refusal.specs.Inner.Verdicts.{verdict_result}
 use Rattle.refusal.specs.Inner.FilledBuffer.{FilledBuffer}
-use Rattle.refusal.proofs.FilledBuffer.{put_refused, put_done}
+use Rattle.refusal.proofs.FilledBuffer.{put_refused, put_raised, put_done}
 use Rattle.block_reader.proofs.Taken.{not_taken, taken_out, taken_inside}
 
 -- ---- the rows header to prefix form
@@ -34,10 +35,10 @@ rows_pass r rows reported is = passed_is (read_program r) (sym reported ∙ ap v
 module _ (r before : List ℕ) (rows : Answer (Unit {0}) Refused) (reported : verdict_result rows ≡ verdict (read_program r)) where
   -- ---- `put_program`
 
-  pub program_refused : (e : Refused) → rows ≡ Err e → FilledBuffer (program_into (length before) r) before before (Err e)
+  pub program_refused : (e : Refused) (out : Answer ℕ Refused) → rows ≡ Err e → IsErrAnd out (λ q. q ≡ e) → FilledBuffer (program_into (length before) r) before before out
   unfolding program_into program_records
-  program_refused e is =
-      put_refused _ before e (then_refused (in_room (length before)) (ap (on_value (λ program. r)) (rows_refuse r rows e reported is)))
+  program_refused e out is =
+      put_raised _ before e out (then_refused (in_room (length before)) (ap (on_value (λ program. r)) (rows_refuse r rows e reported is)))
 
   -- flat records that are a program go into the buffer where it has room
   into : rows ≡ Ok tt → program_into (length before) r ≡ in_room (length before) r
@@ -53,10 +54,10 @@ module _ (r before : List ℕ) (rows : Answer (Unit {0}) Refused) (reported : ve
 
   -- ---- `write_file`
 
-  pub file_refused : (e : Refused) → rows ≡ Err e → FilledBuffer (write_into (length before) r) before before (Err e)
+  pub file_refused : (e : Refused) (out : Answer ℕ Refused) → rows ≡ Err e → IsErrAnd out (λ q. q ≡ e) → FilledBuffer (write_into (length before) r) before before out
   unfolding write_into write_file
-  file_refused e is =
-      put_refused _ before e (then_refused (in_room (length before)) (ap (on_value (λ program. file_of r)) (rows_refuse r rows e reported is)))
+  file_refused e out is =
+      put_raised _ before e out (then_refused (in_room (length before)) (ap (on_value (λ program. file_of r)) (rows_refuse r rows e reported is)))
 
   pub file_put : (after : List ℕ) (filled : Answer ℕ Refused) → rows ≡ Ok tt → FilledBuffer (in_room (length before) (file_of r)) before after filled → FilledBuffer (write_into (length before) r) before after filled
   unfolding write_into write_file
@@ -69,10 +70,10 @@ pub ruleset write_ways = (file_refused, file_put)
 -- ---- `read_file`
 
 module _ (s space : List ℕ) (size : length space ≡ most_bytes) (after : List ℕ) (taken : Answer ℕ Refused) (put : FilledBuffer (flat_in s) space after taken) where
-  pub read_refused : (before : List ℕ) (e : Refused) → taken ≡ Err e → FilledBuffer (read_into (length before) s) before before (Err e)
+  pub read_refused : (before : List ℕ) (e : Refused) (out : Answer ℕ Refused) → taken ≡ Err e → IsErrAnd out (λ q. q ≡ e) → FilledBuffer (read_into (length before) s) before before out
   unfolding read_into read_file
-  read_refused before e is =
-      put_refused _ before e (then_refused (in_room (length before)) (then_refused program_records (not_taken s space size after taken put e is)))
+  read_refused before e out is =
+      put_raised _ before e out (then_refused (in_room (length before)) (then_refused program_records (not_taken s space size after taken put e is)))
 
   pub read_put : (before last : List ℕ) (bytes : ℕ) (filled : Answer ℕ Refused) → taken ≡ Ok bytes → FilledBuffer (program_into (length before) (take bytes after)) before last filled
       → FilledBuffer (read_into (length before) s) before last filled

@@ -32,6 +32,7 @@ pub fn read_file(file: &[u8], records: &mut [u8]) -> Result<usize, Refused>
         records.old records.new result }
 {
     let mut flat = [0u8; MOST_BYTES];
+    // `block_reader: from_blocks` says why each of its callers cuts the buffer.
     let bytes = block_reader::from_blocks(file, &mut flat)?;
     put_program(&flat[..bytes], records)
 }

@@ -11,17 +11,20 @@ use borrow.Author.Tests.{eq-eqb, ne_eqb}
 use lib.Dec.{eqb}
 use lib.ListN.{get_or, set}
 use Rattle.formats.specs.Arithmetic.{plus, result_of}
-use Rattle.stepwise.specs.Inner.Rows.{whole, kept, added, tested, passed, labelled, followed}
+use Rattle.stepwise.specs.Inner.Rows.{tested}
 use Rattle.stepwise.specs.Inner.Steps.{role_at, parent_at, slot_at, after_at, frame_words, on_right, known_after}
-use Rattle.stepwise.proofs.Steps.{closes_first, closes_waiting, computes_result, computes_none, rises_whole, rises_kept, rises_added, rises_zero, rises_other, rises_on}
-use Rattle.stepwise.proofs.Steps.{follows_passed, follows_labelled, follows_followed, follows_last}
+use Rattle.stepwise.proofs.Steps.{closes_first, closes_waiting, computes_result, computes_none, rises_whole, rises_kept, rises_added, rises_zero, rises_other, rises_passed, rises_labelled, rises_followed, rises_on, follows_last}
 use Rattle.std.specs.Prelude.{Option, Some, None}
 use Rattle.numbers.specs.Inner.Sums.{word_in}
+use Rattle.frames.specs.declared.Role.{Role}
+use Rattle.frames.specs.declared.Role.TheVariants.{Whole, Kept, Added, Tested, Passed, Labelled, Followed, LastArgument}
+use Rattle.frames.specs.Inner.Named.{role_of_number}
+use Rattle.frames.proofs.Named.{RoleSays, role_says}
 use Rattle.stages.specs.declared.Stage.{Stage}
-use Rattle.stages.specs.declared.Mode.TheVariants.{Begin, Finished, Open, Ended, Broken}
+use Rattle.stages.specs.declared.Next.TheVariants.{Begin, Finished, Open, Ended, Broken}
 use Rattle.stages.specs.Inner.Stages.{state_of, staged, stage_of, words_of, returns_of}
 use Rattle.stages.proofs.Stages.{reach_begin, reach_finished, reach_ended, reach_broken, put_begin, put_open}
-use Rattle.finish_record.specs.Inner.Rises.{Knows, Closes, Adds, Picks, Follows, Rises}
+use Rattle.finish_record.specs.Inner.Rises.{Knows, Closes, Adds, Picks, Rises}
 
 -- ---- `known_after`
 
@@ -69,11 +72,11 @@ pub ruleset knowing = (knows_other, knows_node, knows_still)
 
 -- ---- `close`
 
-module _ (T input returns : List ℕ) (s : Stage) where
-  pub close_first : (r : Stage) → s.calls ≡ 0 → r ≡ staged s Ended 0 s.number → Closes T input returns s r
-  close_first r none e =
+module _ (T input returns : List ℕ) (x : ℕ) (s : Stage) where
+  pub close_first : (t : Stage) → s.calls ≡ 0 → t ≡ staged s (Ended x) → Closes T input returns x s t
+  close_first t none e =
       rw e
-      (record { is = λ values. rw (closes_first T input s.number (state_of values returns s) none) (reach_ended values returns s s.number) })
+      (record { is = λ values. rw (closes_first T input x (state_of values returns s) none) (reach_ended values returns s x) })
 
   pub close_waiting :
       (a b k : ℕ)
@@ -81,11 +84,9 @@ module _ (T input returns : List ℕ) (s : Stage) where
       → a ≡ get_or returns (2 * (s.calls - 1)) 0
       → b ≡ get_or returns (2 * (s.calls - 1) + 1) 0
       → Knows T input (a % 65536) b s k
-      → Closes T input returns s
+      → Closes T input returns x s
       (record {
-        mode = Finished;
-        node = a % 65536;
-        number = s.number;
+        next = Finished (a % 65536) x;
         calls = s.calls - 1;
         tree = b;
         known = k;
@@ -99,7 +100,7 @@ module _ (T input returns : List ℕ) (s : Stage) where
       let there : b ≡ get_or returns (suc (2 * n)) 0 = eb ∙ ap (λ i. get_or returns i 0) (add-one (2 * n)) in
       record {
         is = λ values.
-            rw (knows.is values returns, there, ea, closes_waiting T input s.number n (state_of values returns s) later)
+            rw (knows.is values returns, there, ea, closes_waiting T input x n (state_of values returns s) later)
             (record { stage = refl; words = refl; returns_are = refl; words_long = refl; returns_long = refl });
       }
 
@@ -113,153 +114,152 @@ module _ (l : List ℕ) (base slot f : ℕ) (is : f ≡ slot) where
 
 pub ruleset slots = (slot_put)
 
-module _ (T values : List ℕ) (s r : Stage) (f left parent : ℕ) (sum : Option ℕ) (slot : f ≡ slot_at T s.node)
+module _ (T values : List ℕ) (r x : ℕ) (s t : Stage) (f left parent : ℕ) (sum : Option ℕ) (slot : f ≡ slot_at T r)
     (word : left ≡ get_or values (frame_words * s.calls + f) 0)
-    (above : parent ≡ parent_at T s.node)
-    (is_sum : word_in sum ≡ result_of plus left s.number)
+    (above : parent ≡ parent_at T r)
+    (is_sum : word_in sum ≡ result_of plus left x)
   where
     -- the sum is of the number kept
-    kept_word : left ≡ get_or values (frame_words * s.calls + slot_at T s.node) 0
+    kept_word : left ≡ get_or values (frame_words * s.calls + slot_at T r) 0
     kept_word = word ∙ ap (λ j. get_or values (frame_words * s.calls + j) 0) slot
 
-    pub adds_word : (w : ℕ) → sum ≡ Some w → r ≡ staged s Finished parent w → Adds T values s r
+    pub adds_word : (w : ℕ) → sum ≡ Some w → t ≡ staged s (Finished parent w) → Adds T values r x s t
     adds_word w case e =
         rw (e, above)
         (record {
           is = λ returns.
               rw (
                 ← kept_word,
-                computes_result plus left s.number (parent_at T s.node) (state_of values returns s) w (sym is_sum ∙ ap word_in case),
+                computes_result plus left x (parent_at T r) (state_of values returns s) w (sym is_sum ∙ ap word_in case),
               )
-              (reach_finished values returns s (parent_at T s.node) w);
+              (reach_finished values returns s (parent_at T r) w);
         })
 
-    pub adds_none : sum ≡ None → r ≡ staged s Broken parent 0 → Adds T values s r
+    pub adds_none : sum ≡ None → t ≡ staged s (Broken parent) → Adds T values r x s t
     adds_none case e =
         rw (e, above)
         (record {
           is = λ returns.
               rw (
                 ← kept_word,
-                computes_none plus left s.number (parent_at T s.node) (state_of values returns s) (sym is_sum ∙ ap word_in case),
+                computes_none plus left x (parent_at T r) (state_of values returns s) (sym is_sum ∙ ap word_in case),
               )
-              (reach_broken values returns s plus left s.number (parent_at T s.node));
+              (reach_broken values returns s plus left x (parent_at T r));
         })
 
 pub ruleset additions = (adds_word, adds_none)
 
 -- ---- `picked`
 
-module _ (T : List ℕ) (s : Stage) where
-  pub pick_zero : (b : ℕ) → b ≡ after_at T s.node → s.number ≡ 0 → Picks T s b
+module _ (T : List ℕ) (r x : ℕ) where
+  pub pick_zero : (b : ℕ) → b ≡ after_at T r → x ≡ 0 → Picks T r x b
   pick_zero b eb z = record { zero_part = λ z. eb; other_part = λ o. absurd (o z) }
 
-  pub pick_other : (b c : ℕ) → b ≡ after_at T s.node → s.number ≢ 0 → c ≡ after_at T b → Picks T s c
+  pub pick_other : (b c : ℕ) → b ≡ after_at T r → x ≢ 0 → c ≡ after_at T b → Picks T r x c
   pick_other b c eb o ec = record { zero_part = λ z. absurd (o z); other_part = λ o. ec ∙ ap (after_at T) eb }
 
 pub ruleset picks = (pick_zero, pick_other)
 
--- ---- `follow`, `rise`
+-- ---- `rise`
 
-module _ (T values : List ℕ) (s : Stage) (k : ℕ) (role : k ≡ role_at T s.node) where
-  pub follow_passed : (p : ℕ) (r : Stage) → k ≡ passed → p ≡ parent_at T s.node → r ≡ staged s Finished p s.number → Follows T values values s r
-  follow_passed p r is ep e =
-      rw (e, ep)
+module _ (T input values returns : List ℕ) (r x : ℕ) (s : Stage) (k : Role) (role : k ≡ role_of_number (role_at T r)) where
+  says : (b : Role) → k ≡ b → RoleSays b (role_at T r)
+  says b is = role_says (role_at T r) k b role is
+
+  pub rise_whole : (t : Stage) → k ≡ Whole → Closes T input returns x s t → Rises T input values values returns r x s t
+  rise_whole t is closed =
+      record { is = rw (rises_whole T input r x (state_of values returns s) (says Whole is)) (closed.is values) }
+
+  pub rise_kept :
+      (b : ℕ) (values' : List ℕ) (t : Stage)
+      → k ≡ Kept
+      → values' ≡ set values (frame_words * s.calls + slot_at T r) x
+      → b ≡ after_at T r
+      → t ≡ staged s (Begin b)
+      → Rises T input values values' returns r x s t
+  rise_kept b values' t is put eb e =
+      rw (e, eb, put)
       (record {
-        is = λ returns.
-            rw (follows_passed T s.node s.number (state_of values returns s) (sym role ∙ is)) (reach_finished values returns s (parent_at T s.node) s.number);
+        is =
+            rw (rises_kept T input r x (state_of values returns s) (says Kept is))
+            (put_begin values returns s (frame_words * s.calls + slot_at T r) x (after_at T r));
       })
 
-  pub follow_labelled : (p : ℕ) (r : Stage) → k ≡ labelled → p ≡ parent_at T s.node → r ≡ staged s Finished p 0 → Follows T values values s r
-  follow_labelled p r is ep e =
-      rw (e, ep)
+  pub rise_added : (t : Stage) → k ≡ Added → Adds T values r x s t → Rises T input values values returns r x s t
+  rise_added t is adds =
+      record { is = rw (rises_added T input r x (state_of values returns s) (says Added is)) (adds.is returns) }
+
+  pub rise_tested : (b : ℕ) (t : Stage) → k ≡ Tested → Picks T r x b → t ≡ staged s (Begin b) → Rises T input values values returns r x s t
+  rise_tested b t is picks e =
+      let at : role_at T r ≡ tested = says Tested is in
+      rw e
       (record {
-        is = λ returns.
-            rw (follows_labelled T s.node s.number (state_of values returns s) (sym role ∙ is)) (reach_finished values returns s (parent_at T s.node) 0);
+        is =
+            elim (dec_le x 0) [
+              | yes z ↦
+                  let none : x ≡ 0 = omega arith in
+                  rw (picks.zero_part none, rises_zero T input r x (state_of values returns s) at none)
+                  (reach_begin values returns s (after_at T r))
+              | no o ↦
+                  let some : x ≢ 0 = λ e. absurd (omega arith) in
+                  rw (picks.other_part some, rises_other T input r x (state_of values returns s) at some)
+                  (reach_begin values returns s (after_at T (after_at T r)))
+            ];
       })
 
-  pub follow_followed : (b : ℕ) (r : Stage) → k ≡ followed → b ≡ after_at T s.node → r ≡ staged s Begin b 0 → Follows T values values s r
-  follow_followed b r is eb e =
+  pub rise_followed : (b : ℕ) (t : Stage) → k ≡ Followed → b ≡ after_at T r → t ≡ staged s (Begin b) → Rises T input values values returns r x s t
+  rise_followed b t is eb e =
       rw (e, eb)
       (record {
-        is = λ returns.
-            rw (follows_followed T s.node s.number (state_of values returns s) (sym role ∙ is)) (reach_begin values returns s (after_at T s.node));
+        is =
+            rw (rises_followed T input r x (state_of values returns s) (says Followed is))
+            (reach_begin values returns s (after_at T r));
       })
 
-  pub follow_last :
-      (p : ℕ) (values' : List ℕ) (r : Stage)
-      → k ≢ passed
-      → k ≢ labelled
-      → k ≢ followed
-      → p ≡ parent_at T s.node
-      → values' ≡ set values (frame_words * s.calls + slot_at T s.node) s.number
-      → r ≡ staged s Open p 0
-      → Follows T values values' s r
-  follow_last p values' r a b c ep put e =
-      rw (e, ep, put)
-      (record {
-        is = λ returns.
-            rw (follows_last T s.node s.number (state_of values returns s) (rw role at a) (rw role at b) (rw role at c))
-            (put_open values returns s (frame_words * s.calls + slot_at T s.node) s.number (parent_at T s.node));
-      })
-
-  module _ (input returns : List ℕ) where
-    pub rise_whole : (r : Stage) → k ≡ whole → Closes T input returns s r → Rises T input values values returns s r
-    rise_whole r is closed =
-        record { is = rw (rises_whole T input s.node s.number (state_of values returns s) (sym role ∙ is)) (closed.is values) }
-
-    pub rise_kept :
-        (b : ℕ) (values' : List ℕ) (r : Stage)
-        → k ≡ kept
-        → values' ≡ set values (frame_words * s.calls + slot_at T s.node) s.number
-        → b ≡ after_at T s.node
-        → r ≡ staged s Begin b 0
-        → Rises T input values values' returns s r
-    rise_kept b values' r is put eb e =
-        rw (e, eb, put)
+  module _ (p : ℕ) (above : p ≡ parent_at T r) where
+    pub rise_passed : (t : Stage) → k ≡ Passed → t ≡ staged s (Finished p x) → Rises T input values values returns r x s t
+    rise_passed t is e =
+        rw (e, above)
         (record {
           is =
-              rw (rises_kept T input s.node s.number (state_of values returns s) (sym role ∙ is))
-              (put_begin values returns s (frame_words * s.calls + slot_at T s.node) s.number (after_at T s.node));
+              rw (rises_passed T input r x (state_of values returns s) (says Passed is))
+              (reach_finished values returns s (parent_at T r) x);
         })
 
-    pub rise_added : (r : Stage) → k ≡ added → Adds T values s r → Rises T input values values returns s r
-    rise_added r is adds =
-        record { is = rw (rises_added T input s.node s.number (state_of values returns s) (sym role ∙ is)) (adds.is returns) }
-
-    pub rise_tested : (b : ℕ) (r : Stage) → k ≡ tested → Picks T s b → r ≡ staged s Begin b 0 → Rises T input values values returns s r
-    rise_tested b r is picks e =
-        let at : role_at T s.node ≡ tested = sym role ∙ is in
-        rw e
+    pub rise_labelled : (t : Stage) → k ≡ Labelled → t ≡ staged s (Finished p 0) → Rises T input values values returns r x s t
+    rise_labelled t is e =
+        rw (e, above)
         (record {
           is =
-              elim (dec_le s.number 0) [
-                | yes z ↦
-                    let none : s.number ≡ 0 = omega arith in
-                    rw (picks.zero_part none, rises_zero T input s.node s.number (state_of values returns s) at none)
-                    (reach_begin values returns s (after_at T s.node))
-                | no o ↦
-                    let some : s.number ≢ 0 = λ e. absurd (omega arith) in
-                    rw (picks.other_part some, rises_other T input s.node s.number (state_of values returns s) at some)
-                    (reach_begin values returns s (after_at T (after_at T s.node)))
-              ];
+              rw (rises_labelled T input r x (state_of values returns s) (says Labelled is))
+              (reach_finished values returns s (parent_at T r) 0);
         })
 
-    pub rise_on :
-        (values' : List ℕ) (r : Stage)
-        → k ≢ whole
-        → k ≢ kept
-        → k ≢ added
-        → k ≢ tested
-        → Follows T values values' s r
-        → Rises T input values values' returns s r
-    rise_on values' r a b c d follows =
-        record {
+    pub rise_last :
+        (values' : List ℕ) (t : Stage)
+        → k ≡ LastArgument
+        → values' ≡ set values (frame_words * s.calls + slot_at T r) x
+        → t ≡ staged s (Open p)
+        → Rises T input values values' returns r x s t
+    rise_last values' t is put e =
+        let no = says LastArgument is in
+        rw (e, above, put)
+        (record {
           is =
-              rw (rises_on T input s.node s.number (state_of values returns s) (rw role at a) (rw role at b) (rw role at c) (rw role at d))
-              (follows.is returns);
-        }
+              rw (
+                rises_on T input r x (state_of values returns s) no.0 no.1 no.2 no.3,
+                follows_last T r x (state_of values returns s) no.4 no.5 no.6,
+              )
+              (put_open values returns s (frame_words * s.calls + slot_at T r) x (parent_at T r));
+        })
 
-pub ruleset followings = (follow_passed, follow_labelled, follow_followed, follow_last)
-
-pub ruleset risings = (rise_whole, rise_kept, rise_added, rise_tested, rise_on)
+pub ruleset risings = (
+  rise_whole,
+  rise_kept,
+  rise_added,
+  rise_tested,
+  rise_followed,
+  rise_passed,
+  rise_labelled,
+  rise_last,
+)

@@ -3,12 +3,10 @@
 
 ghost use Rattle.std.specs.Prelude.{◌+◌, ◌*◌, ◌≡◌, get_or, set};
 ghost use Rattle.stepwise.specs.Inner.Steps.{slot_at, frame_words, on_right};
-ghost use Rattle.finish_record.specs.Inner.Rises.{Knows, Closes, Adds, Picks, Follows, Rises};
+ghost use Rattle.finish_record.specs.Inner.Rises.{Knows, Closes, Adds, Picks, Rises};
 
-use frames::{
-    ADDED, AFTER, FOLLOWED, KEPT, LABELLED, PARENT, PASSED, ROLE, SLOT, TESTED, TREE, WHOLE,
-};
-use stages::{Mode, Stage};
+use frames::{AFTER, PARENT, Role, SLOT, TREE};
+use stages::{Next, Stage};
 use tree::NODE_TAG;
 
 // Whether the Call at record r is on the right tree of a node that is its frame's own tree, at
@@ -21,8 +19,7 @@ fn on_right(table: &[u16], input: &[u8], r: u16, own: usize) -> bool
     code % 2 == 0
         && 0 < code
         && frames::field(table, (code - 1) / 2, TREE) == 0
-        && own < input.len()
-        && input[own] == NODE_TAG
+        && input.get(own) == Some(&NODE_TAG)
 }
 
 // The offset of the tree whose end is known after the call closes that the Call at record r opened.
@@ -40,101 +37,95 @@ fn known_after(table: &[u16], input: &[u8], r: u16, own: usize, s: Stage) -> usi
 }
 
 // A call closes: the call that waits goes on with its number. Where none waits, the run has ended.
+// (A record is the low 16 bits of its word, as `stepwise: closing` has it. A cast to 16 bits may
+// lose none, so the word is cut before it.)
 #[tactic(auto, using(crate::proofs::Rises::closes))]
-fn close(table: &[u16], input: &[u8], returns: &[u64], s: Stage) -> Stage
-    ensures { Closes table.now input.now returns.now s result }
+fn close(table: &[u16], input: &[u8], returns: &[u64], number: u32, s: Stage) -> Stage
+    ensures { Closes table.now input.now returns.now number s result }
 {
     if s.calls == 0 {
-        return s.at(Mode::Ended, 0, s.number);
+        return s.at(Next::Ended(number));
     }
     let n = s.calls - 1;
-    let i = 2 * (n as usize);
+    let i = 2 * usize::from(n);
     let r = (returns.get(i).copied().unwrap_or(0) % 65536) as u16;
     let own = returns.get(i + 1).copied().unwrap_or(0) as usize;
     Stage {
         calls: n,
         tree: own,
         known: known_after(table, input, r, own, s),
-        ..s.at(Mode::Finished, r, s.number)
+        ..s.at(Next::Finished(r, number))
     }
 }
 
 // Puts the number of a record that is finished on its word.
 #[tactic(auto, using(crate::proofs::Rises::slots))]
-fn keep(table: &[u16], values: &mut [u32], s: Stage)
+fn keep(table: &[u16], values: &mut [u32], r: u16, number: u32, s: Stage)
     ensures { values.new ≡ set values.old
-        (frame_words * s.calls + slot_at table.now s.node) s.number }
+        (frame_words * s.calls + slot_at table.now r) number }
 {
-    frames::put_frame(
-        values,
-        s.calls,
-        frames::field(table, s.node, SLOT),
-        s.number,
-    )
+    frames::put_frame(values, s.calls, frames::field(table, r, SLOT), number)
 }
 
 // The sum of the number kept and the number of a record that is finished: Add's record is finished
 // with it, or Add has no result.
 #[tactic(auto, using(crate::proofs::Rises::additions))]
-fn add_kept(table: &[u16], values: &[u32], s: Stage) -> Stage
-    ensures { Adds table.now values.now s result }
+fn add_kept(table: &[u16], values: &[u32], r: u16, number: u32, s: Stage) -> Stage
+    ensures { Adds table.now values.now r number s result }
 {
-    let left = frames::frame_word(values, s.calls, frames::field(table, s.node, SLOT));
-    let parent = frames::field(table, s.node, PARENT);
-    match numbers::sum_of(left, s.number) {
-        Some(sum) => s.at(Mode::Finished, parent, sum),
-        None => s.at(Mode::Broken, parent, 0),
+    let left = frames::frame_word(values, s.calls, frames::field(table, r, SLOT));
+    let parent = frames::field(table, r, PARENT);
+    match numbers::sum_of(left, number) {
+        Some(sum) => s.at(Next::Finished(parent, sum)),
+        None => s.at(Next::Broken(parent)),
     }
 }
 
 // The record of the part that IfZero takes: the zero part is after the test, the other part after
 // that.
 #[tactic(auto, using(crate::proofs::Rises::picks))]
-fn picked(table: &[u16], s: Stage) -> u16
-    ensures { Picks table.now s result }
+fn picked(table: &[u16], r: u16, number: u32) -> u16
+    ensures { Picks table.now r number result }
 {
-    let zero_part = frames::field(table, s.node, AFTER);
-    if s.number == 0 {
+    let zero_part = frames::field(table, r, AFTER);
+    if number == 0 {
         zero_part
     } else {
         frames::field(table, zero_part, AFTER)
     }
 }
 
-// The next stage after a part with one of the other roles: its value is its record's; it is the
-// label of a leaf; it is Node's left tree, and the next part begins; or it is the last argument,
-// and the call opens.
-#[tactic(auto, using(crate::proofs::Rises::followings))]
-fn follow(table: &[u16], values: &mut [u32], s: Stage) -> Stage
-    ensures { Follows table.now values.old values.new s result }
-{
-    let parent = frames::field(table, s.node, PARENT);
-    match frames::field(table, s.node, ROLE) {
-        PASSED => s.at(Mode::Finished, parent, s.number),
-        LABELLED => s.at(Mode::Finished, parent, 0),
-        FOLLOWED => s.at(Mode::Begin, frames::field(table, s.node, AFTER), 0),
-        _ => {
-            keep(table, values, s);
-            s.at(Mode::Open, parent, 0)
-        }
-    }
-}
-
 // The next stage after a record is finished, by its role: it is a function's body; its number is
-// put on a word, and the next part begins; it is Add's second part; it is IfZero's test; or it has
-// one of the roles that `follow` handles.
-pub fn rise(table: &[u16], input: &[u8], values: &mut [u32], returns: &[u64], s: Stage) -> Stage
+// put on a word, and the next part begins; it is Add's second part; it is IfZero's test; its value
+// is its record's; it is the label of a leaf; it is Node's left tree, and the next part begins; or
+// it is the last argument, and the call opens.
+pub fn rise(
+    table: &[u16],
+    input: &[u8],
+    values: &mut [u32],
+    returns: &[u64],
+    r: u16,
+    number: u32,
+    s: Stage,
+) -> Stage
     ensures { Rises table.now input.now values.old
-        values.new returns.now s result }
+        values.new returns.now r number s result }
 {
-    match frames::field(table, s.node, ROLE) {
-        WHOLE => close(table, input, returns, s),
-        KEPT => {
-            keep(table, values, s);
-            s.at(Mode::Begin, frames::field(table, s.node, AFTER), 0)
+    let parent = frames::field(table, r, PARENT);
+    match frames::role_of(table, r) {
+        Role::Whole => close(table, input, returns, number, s),
+        Role::Kept => {
+            keep(table, values, r, number, s);
+            s.at(Next::Begin(frames::field(table, r, AFTER)))
         }
-        ADDED => add_kept(table, values, s),
-        TESTED => s.at(Mode::Begin, picked(table, s), 0),
-        _ => follow(table, values, s),
+        Role::Added => add_kept(table, values, r, number, s),
+        Role::Tested => s.at(Next::Begin(picked(table, r, number))),
+        Role::Passed => s.at(Next::Finished(parent, number)),
+        Role::Labelled => s.at(Next::Finished(parent, 0)),
+        Role::Followed => s.at(Next::Begin(frames::field(table, r, AFTER))),
+        Role::LastArgument => {
+            keep(table, values, r, number, s);
+            s.at(Next::Open(parent))
+        }
     }
 }

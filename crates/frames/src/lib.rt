@@ -2,7 +2,8 @@
 #![tactic(auto)]
 
 ghost use Rattle.std.specs.Prelude.{◌+◌, ◌*◌, ◌≡◌, get_or, set};
-ghost use Rattle.stepwise.specs.Inner.Steps.{field as field_of, frame_words};
+ghost use Rattle.stepwise.specs.Inner.Steps.{field as field_of, action_at, role_at, frame_words};
+ghost use Rattle.frames.specs.Inner.Named.{action_number, role_number, action_of_number, role_of_number};
 
 // How many words a row has.
 pub const ROW_WORDS: usize = 8;
@@ -10,7 +11,8 @@ pub const ROW_WORDS: usize = 8;
 // How many words a frame has.
 const FRAME_WORDS: usize = 16;
 
-// The fields of a row.
+// The fields of a row. (Numbers and no enum: `field` is promised of every number, and with a type
+// that has these alone it would ask more of its callers.)
 pub const ACTION: u16 = 0;
 
 pub const OPERAND: u16 = 1;
@@ -27,43 +29,106 @@ pub const SLOT: u16 = 6;
 
 pub const AFTER: u16 = 7;
 
-// Actions: what a record does when it begins. (Numbers and no enum, as the roles are: they are
-// words of the table, and must-fail edits speak of these.)
-pub const GIVES_CONSTANT: u16 = 0;
+// What a record does when it begins.
+#[derive(Clone, Copy, Debug, PartialEq, Eq)]
+pub enum Action {
+    GivesConstant,
+    GivesNamed,
+    EntersPart,
+    TagsNode,
+    LooksAtTree,
+    CallsFunction,
+}
 
-pub const GIVES_NAMED: u16 = 1;
+// What a record does with the value of its part.
+#[derive(Clone, Copy, Debug, PartialEq, Eq)]
+pub enum Role {
+    Whole,
+    Kept,
+    Added,
+    Tested,
+    Passed,
+    Labelled,
+    Followed,
+    LastArgument,
+}
 
-pub const ENTERS_PART: u16 = 2;
+// The number of an action in a row.
+impl From<Action> for u16 {
+    ghost from_gives = { λ action n. n ≡ action_number action };
 
-pub const TAGS_NODE: u16 = 3;
+    fn from(action: Action) -> u16 {
+        action as u16
+    }
+}
 
-pub const LOOKS_AT_TREE: u16 = 4;
+// The action of a number. (From and no TryFrom: every other number enters a part, as it does in
+// `stepwise: beginning`.)
+impl From<u16> for Action {
+    ghost from_gives = { λ n action. action ≡ action_of_number n };
 
-pub const CALLS_FUNCTION: u16 = 5;
+    #[tactic(auto, unfolding(crate::specs::Inner::Named::action_of_number))]
+    fn from(number: u16) -> Action {
+        match number {
+            0 => Action::GivesConstant,
+            1 => Action::GivesNamed,
+            3 => Action::TagsNode,
+            4 => Action::LooksAtTree,
+            5 => Action::CallsFunction,
+            _ => Action::EntersPart,
+        }
+    }
+}
 
-// Roles: what a record does with the value of its part.
-pub const WHOLE: u16 = 0;
+// The number of a role in a row.
+impl From<Role> for u16 {
+    ghost from_gives = { λ role n. n ≡ role_number role };
 
-pub const KEPT: u16 = 1;
+    fn from(role: Role) -> u16 {
+        role as u16
+    }
+}
 
-pub const ADDED: u16 = 2;
+// The role of a number. (From and no TryFrom: every larger number is a last argument, as it is in
+// `stepwise: following`.)
+impl From<u16> for Role {
+    ghost from_gives = { λ n role. role ≡ role_of_number n };
 
-pub const TESTED: u16 = 3;
-
-pub const PASSED: u16 = 4;
-
-pub const LABELLED: u16 = 5;
-
-pub const FOLLOWED: u16 = 6;
-
-pub const LAST_ARGUMENT: u16 = 7;
+    #[tactic(auto, unfolding(crate::specs::Inner::Named::role_of_number))]
+    fn from(number: u16) -> Role {
+        match number {
+            0 => Role::Whole,
+            1 => Role::Kept,
+            2 => Role::Added,
+            3 => Role::Tested,
+            4 => Role::Passed,
+            5 => Role::Labelled,
+            6 => Role::Followed,
+            _ => Role::LastArgument,
+        }
+    }
+}
 
 // A field of a record's row; 0 where the table has none.
 pub fn field(table: &[u16], r: u16, f: u16) -> u16
     ensures { result ≡ field_of table.now r f }
 {
-    let i = ROW_WORDS * (r as usize) + (f as usize);
+    let i = ROW_WORDS * usize::from(r) + usize::from(f);
     table.get(i).copied().unwrap_or(0)
+}
+
+// What record r does when it begins.
+pub fn action_of(table: &[u16], r: u16) -> Action
+    ensures { result ≡ action_of_number (action_at table.now r) }
+{
+    Action::from(field(table, r, ACTION))
+}
+
+// What record r does with the value of its part.
+pub fn role_of(table: &[u16], r: u16) -> Role
+    ensures { result ≡ role_of_number (role_at table.now r) }
+{
+    Role::from(field(table, r, ROLE))
 }
 
 // Puts an item at an index of a slice, if it reaches so far. By index: of what a slice's `get_mut`
@@ -80,7 +145,7 @@ pub fn put<T: Copy>(items: &mut [T], i: usize, x: T)
 fn word_offset(calls: u16, slot: u16) -> usize
     ensures { result ≡ frame_words * calls + slot }
 {
-    FRAME_WORDS * (calls as usize) + (slot as usize)
+    FRAME_WORDS * usize::from(calls) + usize::from(slot)
 }
 
 // A word of a frame; 0 where there is none.

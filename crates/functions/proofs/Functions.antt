@@ -1,10 +1,10 @@
 -- The row "functions": a law for each way out of its functions.
-use Prim.Native.Nat.{ℕ, zero, suc, ◌+◌, ◌-◌, ◌*◌, ◌≤◌, ◌<◌}
+use Prim.Native.Nat.{ℕ, zero, suc, ◌+◌, ◌*◌, ◌≤◌, ◌<◌, ◌^◌}
 use mathlib.Core.Bool.{Bool, true, false, not, ◌&&◌}
 use mathlib.Core.List.{List}
 use mathlib.Core.Logic.{◌≢◌}
 use mathlib.Core.Path.{◌≡◌, refl, sym, ap, ap₂, ◌∙◌}
-use native.Mathlib.Nat.{add_assoc, add-zero, zero-add, sub-zero}
+use native.Mathlib.Nat.{add-zero, zero-add, sub-zero}
 use native.Mathlib.Numerals.{add-one}
 use native.Mathlib.Omega.{arith}
 use borrow.Author.Tests.{leb-true, leb-false, not-true, not-false, eq-eqb, ne_eqb}
@@ -24,6 +24,9 @@ use Rattle.refusal.specs.declared.Refusal.TheVariants.{FunctionField}
 use Rattle.refusal.specs.declared.Refused.{Refused}
 use Rattle.std.specs.Prelude.{Result as Answer, Ok, Err}
 use Rattle.functions.specs.Inner.Counts.{counts_from}
+use Rattle.std.specs.List.{fold, sum_by, range_with_len}
+use Rattle.formats.specs.Numbers.{Bytes}
+use Rattle.formats.proofs.Numbers.{number_at_fits}
 
 -- ---- `most_parameters`
 
@@ -96,41 +99,30 @@ module _ (s : List ℕ) (j : ℕ) where
 
 -- ---- `count_sum`
 
--- the sum of the counts of the first j functions
-pub record Summed (s : List ℕ) (functions sum j : ℕ) : Type 0 where
-  pub small : sum ≤ 65535 * j
-  pub left : counts_from functions s 0 ≡ sum + counts_from (functions - j) s j
-
-pub sum_none : (s : List ℕ) (functions : ℕ) → Summed s functions 0 0
-sum_none s functions = record { small = omega arith; left = simp (zero-add, sub-zero) }
-
-pub sum_more :
-    (s : List ℕ) (functions sum j n : ℕ)
-    → j < functions
-    → Summed s functions sum j
-    → n ≡ count_in s j
-    → n < 65536
-    → Summed s functions (sum + n) (j + 1)
+-- the counts from function j on, added one after the other
+counts_added : (s : List ℕ) (n j sum : ℕ) → fold (λ m k. m + count_in s k) sum (range_with_len j n) ≡ sum + counts_from n s j
 unfolding counts_from
-sum_more s functions sum j n more c e small =
-    let next : functions - j ≡ suc (functions - (j + 1)) = omega arith in
-    record {
-      small = omega (arith, c.small);
-      left =
-          c.left
-          ∙ ap (λ m. sum + counts_from m s j) next
-          ∙ ap (λ m. sum + (m + counts_from (functions - (j + 1)) s (suc j))) (sym e)
-          ∙ sym (add_assoc sum n _)
-          ∙ ap (λ m. sum + n + counts_from (functions - (j + 1)) s m) (sym (add-one j));
-    }
+counts_added s zero j sum = sym (add-zero sum)
+counts_added s (suc n) j sum =
+    let next : counts_from n s (j + 1) ≡ counts_from n s (suc j) = ap (counts_from n s) (add-one j) in
+    omega (arith, counts_added s n (j + 1) (sum + count_in s j), next)
 
-pub sum_all : (s : List ℕ) (functions sum j : ℕ) → functions ≤ j → Summed s functions sum j → sum ≡ counts_from functions s 0
+pub counts_are : (s : List ℕ) (n : ℕ) → sum_by (count_in s) (range_with_len 0 n) ≡ counts_from n s 0
+counts_are s n = counts_added s n 0 0 ∙ zero-add (counts_from n s 0)
+
+-- a count has 16 bits ..
+count_small : (s : List ℕ) (j : ℕ) → Bytes s → count_in s j < 256 ^ 2
+unfolding count_in record_at
+count_small s j bytes = number_at_fits 2 s (record_bytes * suc j + 2) bytes
+
+-- .. so the sum of fewer than 65,536 counts has no more than 32
+counts_small : (s : List ℕ) (n j : ℕ) → Bytes s → counts_from n s j ≤ 65535 * n
 unfolding counts_from
-sum_all s functions sum j all c =
-    let none : functions - j ≡ 0 = omega arith in
-    sym (c.left ∙ ap (λ m. sum + counts_from m s j) none ∙ add-zero sum)
+counts_small s zero j bytes = omega arith
+counts_small s (suc n) j bytes = omega (arith, count_small s j bytes, counts_small s n (suc j) bytes)
 
-pub ruleset summed = (sum_none, sum_more, sum_all)
+pub counts_fit : (s : List ℕ) (n : ℕ) → Bytes s → n < 2 ^ 16 → sum_by (count_in s) (range_with_len 0 n) < 2 ^ 64
+counts_fit s n bytes few = rw (counts_are s n) (omega (arith, counts_small s n 0 bytes))
 
 -- ---- `function_fields`
 

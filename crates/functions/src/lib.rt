@@ -24,7 +24,9 @@ fn most_parameters(j: u16) -> u8
     if j == 0 { 0 } else { MOST_PARAMETERS }
 }
 
-// Whether the fields of function j's record are right. The largest number of a sort is tree's.
+// Whether the fields of function j's record are right. The largest number of a sort is tree's. (The
+// clause says the conditions of `function_from` over again: that definition is of a signature or a
+// refusal with its number, and gives no `Bool` by itself.)
 fn function_fits(flat: &[u8], j: u16) -> bool
     ensures { result ≡ (leb (sort_in flat.now j) 1
         && (leb (arity_in flat.now j) (most_parameters j)
@@ -45,7 +47,7 @@ fn function_fields(flat: &[u8], functions: u16) -> Result<(), Refused>
 {
     for j in 0..functions {
         if !function_fits(flat, j) {
-            return Err(Refusal::FunctionField.at((j as usize) + 1));
+            return Err(Refusal::FunctionField.at(usize::from(j) + 1));
         }
     }
     Ok(())
@@ -55,11 +57,9 @@ fn function_fields(flat: &[u8], functions: u16) -> Result<(), Refused>
 pub fn count_sum(flat: &[u8], functions: u16) -> usize
     ensures { result ≡ counts_from functions flat.now 0 }
 {
-    let mut sum = 0;
-    for j in 0..functions {
-        sum += signatures::count(flat, j) as usize;
-    }
-    sum
+    (0..functions)
+        .map(|j| usize::from(signatures::count(flat, j)))
+        .sum()
 }
 
 // The row "functions": the fields of each record, then the sum of the counts.
@@ -68,11 +68,11 @@ pub fn function_row(flat: &[u8]) -> Result<(), Refused>
     ensures { verdict_result result ≡ verdict
         (function_row (header_in flat.now) flat.now) }
 {
-    let functions = signatures::functions_in(flat) as u16;
-    let nodes = signatures::nodes_in(flat) as usize;
+    let functions = u16::from(signatures::functions_in(flat));
+    let nodes = usize::from(signatures::nodes_in(flat));
     function_fields(flat, functions)?;
     if count_sum(flat, functions) != nodes {
-        return Err(Refusal::FunctionField.at(functions as usize));
+        return Err(Refusal::FunctionField.at(usize::from(functions)));
     }
     Ok(())
 }

@@ -13,11 +13,14 @@ use signatures::RECORD_BYTES;
 
 const FIRST_EDITION: u8 = 1;
 
-const MOST_FUNCTIONS: usize = 32;
+// The most functions of a program.
+pub const MOST_FUNCTIONS: usize = 32;
 
 const MOST_NODES: usize = 1024;
 
-// Whether the header's fields and the record count are right.
+// Whether the header's fields and the record count are right. (The clause says the condition of
+// `header_from` over again: that definition is of a header or a refusal with its number, and gives
+// no `Bool` by itself.)
 fn header_fits(edition: u8, functions: usize, nodes: usize, rest: u32, bytes: usize) -> bool
     ensures { result ≡ (eqb edition first_edition
         && ((leb 1 functions && leb functions most_functions)
@@ -37,8 +40,8 @@ pub fn header_row(flat: &[u8]) -> Result<(), Refused>
     ensures { verdict_result result ≡ verdict (header_row flat.now) }
 {
     let edition = words::read8(flat, 0);
-    let functions = signatures::functions_in(flat) as usize;
-    let nodes = signatures::nodes_in(flat) as usize;
+    let functions = usize::from(signatures::functions_in(flat));
+    let nodes = usize::from(signatures::nodes_in(flat));
     let rest = words32::read32(flat, 4);
     if !header_fits(edition, functions, nodes, rest, flat.len()) {
         return Err(Refusal::HeaderField.at(0));

@@ -10,6 +10,9 @@ ghost use Rattle.instruction.specs.Inner.Opcodes.{number_of, fields_in};
 // The bytes of an instruction.
 pub const INSTRUCTION_BYTES: usize = 8;
 
+// The most instructions that code has: from this address on none is performed.
+pub const MOST_INSTRUCTIONS: usize = 4128;
+
 // The opcodes of 01, Opcodes, in the order of their numbers.
 #[derive(Clone, Copy, Debug, PartialEq, Eq)]
 pub enum Opcode {
@@ -63,20 +66,17 @@ impl Opcode {
 }
 
 impl Instruction {
-    // Writes this instruction at an address, or nothing where the buffer has no 8 bytes there. Of
-    // the operand the low 16 bits are written.
+    // Writes this instruction at an address, or nothing where the buffer has no 8 bytes there. (An
+    // offset that has no number of 64 bits is past every buffer's end, as the largest number is.)
+    // Of the operand the low 16 bits are written: a cast may lose none, so it is cut before it.
     pub fn write_at(self, code: &mut [u8], address: usize)
         ensures { code.new ≡ written code.old (record_bytes * address)
             (bytes_of_record (fields_in self)) }
     {
-        if code.len() / INSTRUCTION_BYTES <= address {
-            return;
-        }
         let opcode = u8::from(self.opcode);
-        let start = INSTRUCTION_BYTES * address;
         let [o0, o1] = ((self.operand % 65536) as u16).to_le_bytes();
         let [n0, n1, n2, n3] = self.number.to_le_bytes();
         let bytes = [opcode, self.byte1, o0, o1, n0, n1, n2, n3];
-        code[start..start + INSTRUCTION_BYTES].copy_from_slice(&bytes);
+        writing::write_bytes(code, INSTRUCTION_BYTES.saturating_mul(address), &bytes);
     }
 }

@@ -1,17 +1,19 @@
 -- Text put into a buffer: one piece after the other.
-use Prim.Native.Nat.{ℕ, ◌+◌, ◌/◌, ◌%◌, ◌≤◌, ◌<◌}
+use Prim.Native.Nat.{ℕ, suc, ◌+◌, ◌%◌, ◌^◌, ◌≤◌, ◌<◌}
 use mathlib.Core.List.{List, [], ◌∷◌, ◌++◌}
-use mathlib.Core.Path.{◌≡◌, refl, ap, ◌∙◌}
+use mathlib.Core.Path.{◌≡◌, sym, ap, subst, ◌∙◌}
 use native.Mathlib.Omega.{arith}
-use lib.IntN.{ℤ}
-use lib.ListN.{length, set, length-append, length-set}
-use mir.Syntax.{w32}
-use mir.Val.{SFits, to_z, of_z}
-use mir.Facts.{to_z-of_z}
+use lib.IntN.{ℤ, pos, negsuc}
+use lib.ListN.{length, length-append}
+use mir.Syntax.{w32, w64}
+use mir.Val.{Fits, SFits, to_z, of_z}
+use mir.Facts.{Fits-lt-pow, to_z-of_z}
+use Rattle.std.specs.Fmt.{decimal as printed, signed_decimal as printed_signed}
+use Rattle.std.proofs.lemmas.Fmt.{decimal_by_steps}
 use Rattle.formats.specs.Written.{written}
-use Rattle.formats.proofs.Written.{wrote, written_one, written_append}
+use Rattle.formats.proofs.Written.{wrote, written_append}
 use Rattle.translation.specs.Listing.{listing_line}
-use Rattle.formats.specs.Characters.{space, digit_zero}
+use Rattle.formats.specs.Characters.{newline, space, minus, digit_zero}
 use Rattle.formats.specs.Decimal.{decimal}
 use Rattle.translation.specs.ListingText.{field, signed_field, line_text}
 use Rattle.listing.specs.PrintedText.{Puts}
@@ -21,9 +23,6 @@ use Rattle.formats.proofs.Decimal.{decimal_one, decimal_more}
 
 pub put_length : (s t : List ℕ) (p : ℕ) (vs : List ℕ) (q : ℕ) → Puts s t p vs q → length t ≡ length s
 put_length s t p vs q put = ap length put.buffer ∙ (wrote s p vs).same_length
-
-pub put_one : (s : List ℕ) (p v : ℕ) → p < length s → Puts s (set s p v) p (v ∷ []) (p + 1)
-put_one s p v h = record { buffer = written_one s p v h; end = refl; inside = omega (arith, length-set s p v) }
 
 -- two pieces put one after the other are put as one, since both are within the buffer
 pub put_both : (s t u : List ℕ) (p q r : ℕ) (vs ws : List ℕ) → Puts s t p vs q → Puts t u q ws r → Puts s u p (vs ++ ws) r
@@ -48,50 +47,65 @@ first_room s p vs ws room = omega (arith, length-append vs ws)
 rest_room : (s t : List ℕ) (p q : ℕ) (vs ws : List ℕ) → p + length (vs ++ ws) ≤ length s → Puts s t p vs q → q + length ws ≤ length t
 rest_room s t p q vs ws room put = omega (arith, length-append vs ws, put.end, put_length s t p vs q put)
 
--- ---- `put_number`
+-- ---- `put_field` and `put_signed`
 
-module _ (s : List ℕ) (p n : ℕ) (room : p + length (decimal n) ≤ length s) where
-  pub digit_offset : n < 10 → p < length s
-  digit_offset h = omega (arith, rw (decimal_one n h) at room)
+-- what the library prints of a number is its digits
+printed_digits : (n : ℕ) → n < 2 ^ 64 → printed n ≡ decimal n
+printed_digits =
+    decimal_by_steps (λ n ds. ds ≡ decimal n) (λ n one. sym (decimal_one n one))
+    (λ n ds more tenth. ap (λ l. l ++ ((digit_zero + n % 10) ∷ [])) tenth ∙ sym (decimal_more n more))
 
-  pub digit_put : (t : List ℕ) (r : ℕ) → n < 10 → Puts s t p ((digit_zero + n) ∷ []) r → Puts s t p (decimal n) r
-  digit_put t r h put = rw (decimal_one n h) put
+signed_digits : (n : ℤ) → SFits w32 n → signed_field n ≡ printed_signed n ++ (newline ∷ [])
+unfolding signed_field field
+signed_digits (pos n) fits = ap (λ l. l ++ (newline ∷ [])) (sym (printed_digits n (omega arith)))
+signed_digits (negsuc n) fits = ap (λ l. minus ∷ (l ++ (newline ∷ []))) (sym (printed_digits (suc n) (omega arith)))
 
-  module _ (more : 10 ≤ n) where
-    split : length (decimal n) ≡ length (decimal (n / 10)) + 1
-    split = rw (decimal_more n more) (length-append (decimal (n / 10)) ((digit_zero + n % 10) ∷ []))
+-- bytes, and a character after them, are put as one
+module _ (s : List ℕ) (p after : ℕ) (whole bytes : List ℕ) (split : whole ≡ bytes ++ (after ∷ [])) (room : p + length whole ≤ length s) where
+  bytes_room : p + length bytes ≤ length s
+  bytes_room = first_room s p bytes (after ∷ []) (rw split at room)
 
-    pub tenth_room : p + length (decimal (n / 10)) ≤ length s
-    tenth_room = omega (arith, split)
+  module _ (t : List ℕ) (q : ℕ) (put : Puts s t p bytes q) where
+    after_room : q + 1 ≤ length t
+    after_room = rest_room s t p q bytes (after ∷ []) (rw split at room) put
 
-    module _ (t : List ℕ) (q : ℕ) (put : Puts s t p (decimal (n / 10)) q) where
-      pub last_offset : q < length t
-      last_offset = omega (arith, split, put.end, put_length s t p _ q put)
+    after_put : (u : List ℕ) (r : ℕ) → Puts t u q (after ∷ []) r → Puts s u p whole r
+    after_put u r byte = rw split (put_both s t u p q r bytes (after ∷ []) put byte)
 
-      pub last_put : (u : List ℕ) (r : ℕ) → Puts t u q ((digit_zero + n % 10) ∷ []) r → Puts s u p (decimal n) r
-      last_put u r digit = rw (decimal_more n more) (put_both s t u p q r _ _ put digit)
-
-pub ruleset number_ways = (digit_offset, digit_put, tenth_room, last_offset, last_put)
-
--- ---- `put_field`
-
-module _ (s : List ℕ) (p n after : ℕ) (room : p + length (field n after) ≤ length s) where
-  field_split : length (field n after) ≡ length (decimal n) + 1
-  unfolding field
-  field_split = length-append (decimal n) (after ∷ [])
-
-  pub number_room : p + length (decimal n) ≤ length s
-  number_room = omega (arith, field_split)
-
-  module _ (t : List ℕ) (q : ℕ) (put : Puts s t p (decimal n) q) where
-    pub after_offset : q < length t
-    after_offset = omega (arith, field_split, put.end, put_length s t p _ q put)
-
-    pub field_put : (u : List ℕ) (r : ℕ) → Puts t u q (after ∷ []) r → Puts s u p (field n after) r
+-- the bytes are those of what the library answers
+module _ (s : List ℕ) (p : ℕ) (bytes answer : List ℕ) (same : bytes ≡ answer) where
+  module _ (n after : ℕ) (fits : Fits w64 n) (text : answer ≡ printed n) (room : p + length (field n after) ≤ length s) where
+    field_split : field n after ≡ bytes ++ (after ∷ [])
     unfolding field
-    field_put u r byte = put_both s t u p q r (decimal n) (after ∷ []) put byte
+    field_split = ap (λ l. l ++ (after ∷ [])) (sym (same ∙ text ∙ printed_digits n (Fits-lt-pow fits)))
 
-pub ruleset field_ways = (number_room, after_offset, field_put)
+    pub digits_room : p + length bytes ≤ length s
+    digits_room = bytes_room s p after (field n after) bytes field_split room
+
+    module _ (t : List ℕ) (q : ℕ) (put : Puts s t p bytes q) where
+      pub character_room : q + 1 ≤ length t
+      character_room = after_room s p after (field n after) bytes field_split room t q put
+
+      pub field_put : (u : List ℕ) (r : ℕ) → Puts t u q (after ∷ []) r → Puts s u p (field n after) r
+      field_put = after_put s p after (field n after) bytes field_split room t q put
+
+  module _ (n : ℤ) (fits : SFits w32 n) (text : answer ≡ printed_signed (to_z w32 (of_z w32 n))) (room : p + length (signed_field n) ≤ length s) where
+    signed_split : signed_field n ≡ bytes ++ (newline ∷ [])
+    signed_split = signed_digits n fits ∙ ap (λ l. l ++ (newline ∷ [])) (sym (same ∙ text ∙ ap printed_signed (to_z-of_z fits)))
+
+    pub sign_room : p + length bytes ≤ length s
+    sign_room = bytes_room s p newline (signed_field n) bytes signed_split room
+
+    module _ (t : List ℕ) (q : ℕ) (put : Puts s t p bytes q) where
+      pub newline_room : q + 1 ≤ length t
+      newline_room = after_room s p newline (signed_field n) bytes signed_split room t q put
+
+      pub signed_put : (u : List ℕ) (r : ℕ) → Puts t u q (newline ∷ []) r → Puts s u p (signed_field n) r
+      signed_put = after_put s p newline (signed_field n) bytes signed_split room t q put
+
+pub ruleset field_ways = (digits_room, character_room, field_put)
+
+pub ruleset signed_ways = (sign_room, newline_room, signed_put)
 
 -- ---- `put_line`
 
@@ -105,26 +119,35 @@ module _ (s : List ℕ) (p a o b w : ℕ) (n : ℤ) (room : p + length (line_tex
     unfolding line_text
     rest₁ = rest_room s s₁ p q₁ (field a space) _ room put₁
 
-    pub opcode_room : q₁ + length (field o space) ≤ length s₁
-    opcode_room = first_room s₁ q₁ (field o space) _ rest₁
+    pub opcode_room : (k : ℕ) → k ≡ o → q₁ + length (field k space) ≤ length s₁
+    opcode_room k is = rw is (first_room s₁ q₁ (field o space) _ rest₁)
 
-    module _ (s₂ : List ℕ) (q₂ : ℕ) (put₂ : Puts s₁ s₂ q₁ (field o space) q₂) where
+    module _ (s₂ : List ℕ) (q₂ k₂ : ℕ) (is₂ : k₂ ≡ o) (field₂ : Puts s₁ s₂ q₁ (field k₂ space) q₂) where
+      put₂ : Puts s₁ s₂ q₁ (field o space) q₂
+      put₂ = subst (λ (k : ℕ). Puts s₁ s₂ q₁ (field k space) q₂) is₂ field₂
+
       rest₂ : q₂ + length (field b space ++ (field w space ++ signed_field n)) ≤ length s₂
       rest₂ = rest_room s₁ s₂ q₁ q₂ (field o space) _ rest₁ put₂
 
-      pub byte1_room : q₂ + length (field b space) ≤ length s₂
-      byte1_room = first_room s₂ q₂ (field b space) _ rest₂
+      pub byte1_room : (k : ℕ) → k ≡ b → q₂ + length (field k space) ≤ length s₂
+      byte1_room k is = rw is (first_room s₂ q₂ (field b space) _ rest₂)
 
-      module _ (s₃ : List ℕ) (q₃ : ℕ) (put₃ : Puts s₂ s₃ q₂ (field b space) q₃) where
+      module _ (s₃ : List ℕ) (q₃ k₃ : ℕ) (is₃ : k₃ ≡ b) (field₃ : Puts s₂ s₃ q₂ (field k₃ space) q₃) where
+        put₃ : Puts s₂ s₃ q₂ (field b space) q₃
+        put₃ = subst (λ (k : ℕ). Puts s₂ s₃ q₂ (field k space) q₃) is₃ field₃
+
         rest₃ : q₃ + length (field w space ++ signed_field n) ≤ length s₃
         rest₃ = rest_room s₂ s₃ q₂ q₃ (field b space) _ rest₂ put₃
 
-        pub operand_room : q₃ + length (field w space) ≤ length s₃
-        operand_room = first_room s₃ q₃ (field w space) _ rest₃
+        pub operand_room : (k : ℕ) → k ≡ w → q₃ + length (field k space) ≤ length s₃
+        operand_room k is = rw is (first_room s₃ q₃ (field w space) _ rest₃)
 
-        module _ (s₄ : List ℕ) (q₄ : ℕ) (put₄ : Puts s₃ s₄ q₃ (field w space) q₄) where
-          pub sign_room : SFits w32 n → q₄ + length (signed_field (to_z w32 (of_z w32 n))) ≤ length s₄
-          sign_room fits = rw (to_z-of_z fits) (rest_room s₃ s₄ q₃ q₄ (field w space) _ rest₃ put₄)
+        module _ (s₄ : List ℕ) (q₄ k₄ : ℕ) (is₄ : k₄ ≡ w) (field₄ : Puts s₃ s₄ q₃ (field k₄ space) q₄) where
+          put₄ : Puts s₃ s₄ q₃ (field w space) q₄
+          put₄ = subst (λ (k : ℕ). Puts s₃ s₄ q₃ (field k space) q₄) is₄ field₄
+
+          pub number_room : SFits w32 n → q₄ + length (signed_field (to_z w32 (of_z w32 n))) ≤ length s₄
+          number_room fits = rw (to_z-of_z fits) (rest_room s₃ s₄ q₃ q₄ (field w space) _ rest₃ put₄)
 
           pub line_put : SFits w32 n → (t : List ℕ) (r : ℕ) → Puts s₄ t q₄ (signed_field (to_z w32 (of_z w32 n))) r → Puts s t p (line_text (listing_line a o b w n)) r
           unfolding line_text
@@ -134,4 +157,4 @@ module _ (s : List ℕ) (p a o b w : ℕ) (n : ℤ) (room : p + length (line_tex
               (put_both s₁ s₂ t q₁ q₂ r _ _ put₂
               (put_both s₂ s₃ t q₂ q₃ r _ _ put₃ (put_both s₃ s₄ t q₃ q₄ r _ _ put₄ put)))
 
-pub ruleset line_ways = (address_room, opcode_room, byte1_room, operand_room, sign_room, line_put)
+pub ruleset line_ways = (address_room, opcode_room, byte1_room, operand_room, number_room, line_put)

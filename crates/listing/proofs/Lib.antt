@@ -1,5 +1,4 @@
 -- The laws of the listing's text, and of the functions that put it.
 pub mod Fields
-pub mod Signs
 pub mod Lines
 pub mod Texts

@@ -2,27 +2,27 @@
 // one proved function of the bytes that it is lent: `put_listing`.
 #![tactic(auto)]
 
-ghost use Rattle.std.specs.Prelude.{◌+◌, ◌*◌, ◌≤◌, ◌<◌, [], ◌∷◌, ◌≡◌, length, take};
+ghost use Rattle.std.specs.Prelude.{◌+◌, ◌*◌, ◌≤◌, ◌<◌, ◌≡◌, length, take};
 ghost use Rattle.std.specs.Io.KnownBytes.{Consumes};
 ghost use Rattle.formats.specs.Records.{record_at};
 ghost use Rattle.formats.specs.Results.{done};
 ghost use Rattle.translation.specs.Listing.{line_of, lines_from, refused_listing, instructions_in, listing_of, listing};
-ghost use Rattle.formats.specs.Decimal.{decimal};
 ghost use Rattle.translation.specs.ListingText.{field, signed_field, line_text, lines_text, text};
 ghost use Rattle.listing.specs.PrintedText.{longest_line, most_text, Puts};
 ghost use Rattle.listing.specs.Inner.Shown.{most_code, shown};
 
-use instruction::INSTRUCTION_BYTES;
+use instruction::{INSTRUCTION_BYTES, MOST_INSTRUCTIONS};
+use itoa::Buffer;
 use std::io::{Read, Write};
 
-// 17 blocks of 512 bytes, and one byte more, to see that a file is too long.
-const INPUT_BYTES: usize = 8705;
+// A file has at most 17 blocks of 512 bytes; one byte more shows that it is too long.
+const INPUT_BYTES: usize = 17 * 512 + 1;
 
-// Room for the code of every program: 4,128 instructions.
-const CODE_BYTES: usize = 33024;
+// Room for the code of every program.
+const CODE_BYTES: usize = INSTRUCTION_BYTES * MOST_INSTRUCTIONS;
 
-// Room for a heading of 10 bytes and 4,128 lines of at most 31.
-const TEXT_BYTES: usize = 127978;
+// Room for a heading of 10 bytes and the lines, of at most 31 bytes each.
+const TEXT_BYTES: usize = 10 + 31 * MOST_INSTRUCTIONS;
 
 // A line of the listing.
 #[derive(Drop)]
@@ -35,6 +35,7 @@ struct Line {
 }
 
 // The line of instruction k.
+#[tactic(auto, using(crate::proofs::Lines::line_shown), unfolding(translation::specs::Listing::instructions_in))]
 fn line_at(code: &[u8], k: usize) -> Line
     requires { k < instructions_in code.now }
     ensures { shown result ≡ line_of k (record_at code.now k) }
@@ -53,7 +54,10 @@ fn line_at(code: &[u8], k: usize) -> Line
     }
 }
 
-// The text as far as it is put: its bytes from the start on, and how many they are.
+// The text as far as it is put: its bytes from the start on, and how many they are. `Puts` promises
+// that the bytes after these stay, and of the library's `InlineText` no clause says that. (That
+// there are no more of them than bytes is no field's fact: each method needs room besides, and how
+// much differs by what it puts, so one clause of each says both.)
 #[derive(Drop)]
 struct Text {
     bytes: [u8; TEXT_BYTES],
@@ -69,16 +73,7 @@ impl Text {
         &self.bytes[..self.len]
     }
 
-    // Puts a byte after those that are there, as all that follow do.
-    fn put_byte(&mut self, byte: u8)
-        requires { self.old.len < length self.old.bytes }
-        ensures { Puts self.old.bytes self.new.bytes self.old.len (byte ∷ []) self.new.len }
-    {
-        self.bytes[self.len] = byte;
-        self.len += 1;
-    }
-
-    // Puts a word.
+    // Puts a word after what is there, as all that follow do.
     fn put_word(&mut self, word: &[u8])
         requires { self.old.len + length word.now ≤ length self.old.bytes }
         ensures { Puts self.old.bytes self.new.bytes self.old.len word.now self.new.len }
@@ -87,55 +82,44 @@ impl Text {
         self.len += word.len();
     }
 
-    // Puts a number in decimal. (`write!` would need a writer of our own over the rest of the
-    // buffer, and a proof that what it prints is `decimal`: no plainer than this.)
-    fn put_number(&mut self, n: usize)
-        requires { self.old.len + length (decimal n) ≤ length self.old.bytes }
-        ensures { Puts self.old.bytes self.new.bytes self.old.len (decimal n) self.new.len }
-    {
-        if n < 10 {
-            return self.put_byte(b'0' + (n as u8));
-        }
-        self.put_number(n / 10);
-        self.put_byte(b'0' + ((n % 10) as u8));
-    }
-
-    // Puts a number and the character after it.
+    // Puts a number in decimal, and the character after it. (Not by `write!`: its contract says
+    // nothing where it answers `Err`, nor that it answers `Ok` where there is room. Tried with an
+    // `InlineText`: the goal that the digits are put stays open.)
     fn put_field(&mut self, n: usize, after: u8)
         requires { self.old.len + length (field n after) ≤ length self.old.bytes }
         ensures { Puts self.old.bytes self.new.bytes self.old.len (field n after) self.new.len }
     {
-        self.put_number(n);
-        self.put_byte(after);
+        self.put_word(Buffer::new().format(n).as_bytes());
+        self.put_word(&[after]);
     }
 
-    // Puts a number with its sign, and a newline.
+    // Puts a number with its sign, and a newline. (One method for all types of `itoa::Integer` was
+    // tried: no fact at its calls in `put_line` says that a line's numbers fit their types, and the
+    // library's `decimal` is the definition's only of numbers that do.)
     fn put_signed(&mut self, n: i32)
         requires { self.old.len + length (signed_field n) ≤ length self.old.bytes }
         ensures { Puts self.old.bytes self.new.bytes self.old.len (signed_field n) self.new.len }
     {
-        let digits = n.unsigned_abs() as usize;
-        if n < 0 {
-            self.put_byte(b'-');
-            return self.put_field(digits, b'\n');
-        }
-        self.put_field(digits, b'\n');
+        self.put_word(Buffer::new().format(n).as_bytes());
+        self.put_word(b"\n");
     }
 
     // Puts a line.
+    #[tactic(auto, using(crate::proofs::Fields::line_ways))]
     fn put_line(&mut self, l: Line)
         requires { self.old.len + length (line_text (shown l)) ≤ length self.old.bytes }
         ensures { Puts self.old.bytes self.new.bytes self.old.len
             (line_text (shown l)) self.new.len }
     {
         self.put_field(l.address, b' ');
-        self.put_field(l.opcode as usize, b' ');
-        self.put_field(l.byte1 as usize, b' ');
-        self.put_field(l.operand as usize, b' ');
+        self.put_field(usize::from(l.opcode), b' ');
+        self.put_field(usize::from(l.byte1), b' ');
+        self.put_field(usize::from(l.operand), b' ');
         self.put_signed(l.number);
     }
 
     // Puts the lines of code.
+    #[tactic(auto, using(crate::proofs::Lines::lines_ways), unfolding(translation::specs::Listing::instructions_in))]
     fn put_lines(&mut self, code: &[u8])
         requires { (length code.now ≤ most_code) ×
             (self.old.len + longest_line * instructions_in code.now ≤ length self.old.bytes) }
@@ -148,6 +132,7 @@ impl Text {
     }
 
     // Puts the one line of a refusal.
+    #[tactic(auto, using(crate::proofs::Texts::refusal_ways), unfolding(translation::specs::ListingText::refused_word, formats::specs::Characters::ascii))]
     fn put_refusal(&mut self, number: usize, position: usize)
         requires { self.old.len + most_text ≤ length self.old.bytes }
         ensures { Puts self.old.bytes self.new.bytes self.old.len
@@ -159,6 +144,7 @@ impl Text {
     }
 
     // Puts the listing of code: the heading, and the lines.
+    #[tactic(auto, using(crate::proofs::Texts::code_ways), unfolding(translation::specs::Listing::instructions_in, translation::specs::ListingText::code_word, formats::specs::Characters::ascii))]
     fn put_code(&mut self, code: &[u8])
         requires { (self.old.len + most_text ≤ length self.old.bytes) ×
             (length code.now ≤ most_code) }
@@ -171,6 +157,7 @@ impl Text {
     }
 
     // Puts the listing of a program file.
+    #[tactic(auto, using(crate::proofs::Texts::listing_ways))]
     fn put_listing(&mut self, file: &[u8])
         requires { self.old.len + most_text ≤ length self.old.bytes }
         ensures { Puts self.old.bytes self.new.bytes self.old.len

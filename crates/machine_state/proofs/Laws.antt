@@ -2,15 +2,15 @@
 use Rattle.std.proofs.Common.{◌≡◌, ℕ, suc, ◌+◌, ◌-◌, ◌%◌, ◌^◌, ◌<◌, ◌≤◌, ◌≢◌, Bool, true, false, List, ◌∷◌, get_or, Ok, Err, sym, refl, ap, ◌∙◌, arith}
 use mathlib.Core.Logic.{◌⊎◌, inl, inr}
 use Rattle.std.proofs.lemmas.Option.{unwrap_or-slice_get}
-use Rattle.refusal.specs.Inner.Numbers.{number}
 use Rattle.refusal.specs.declared.Refusal.{Refusal}
+use Rattle.refusal.specs.declared.Refusal.TheVariants.{CannotPerform}
 use Rattle.refusal.specs.declared.Refused.{Refused}
 use Rattle.meaning.specs.Performing.{number_kept}
 use Rattle.machine_state.specs.declared.Machine.{Machine}
 use Rattle.machine_state.specs.declared.Answer.{Answer}
 use Rattle.machine_state.specs.declared.Stop.{Stop}
-use Rattle.machine_state.specs.declared.Stop.TheVariants.{GoesOn, Ended, FuelUsedUp, InputEnded, NotATag, OutputFull, TooManyCalls, CannotPerform, OutOfRange}
-use Rattle.machine_state.specs.Inner.States.{words_from, frame_of, goes_on, has_ended, refusal_number}
+use Rattle.machine_state.specs.declared.Stop.TheVariants.{GoesOn, Ended, Refused as RefusedWith}
+use Rattle.machine_state.specs.Inner.States.{words_from, frame_of, goes_on, has_ended}
 use Rattle.machine_state.specs.Inner.Answers.{run_answer, due_at, Reports, in_64_bits}
 
 -- ---- what a stop is not
@@ -18,24 +18,12 @@ use Rattle.machine_state.specs.Inner.Answers.{run_answer, due_at, Reports, in_64
 pub stops : (k : Stop) → k ≢ GoesOn → goes_on k ≡ false
 stops GoesOn h = absurd (h refl)
 stops Ended h = refl
-stops FuelUsedUp h = refl
-stops InputEnded h = refl
-stops NotATag h = refl
-stops OutputFull h = refl
-stops TooManyCalls h = refl
-stops CannotPerform h = refl
-stops OutOfRange h = refl
+stops (RefusedWith why) h = refl
 
 pub not_ended : (k : Stop) → k ≢ Ended → has_ended k ≡ false
 not_ended GoesOn h = refl
 not_ended Ended h = absurd (h refl)
-not_ended FuelUsedUp h = refl
-not_ended InputEnded h = refl
-not_ended NotATag h = refl
-not_ended OutputFull h = refl
-not_ended TooManyCalls h = refl
-not_ended CannotPerform h = refl
-not_ended OutOfRange h = refl
+not_ended (RefusedWith why) h = refl
 
 no_end : (k : Stop) → has_ended k ≡ false → k ≢ Ended
 no_end k h e = let wrong : true ≡ false = sym (ap has_ended e) ∙ h in cc
@@ -43,13 +31,7 @@ no_end k h e = let wrong : true ≡ false = sym (ap has_ended e) ∙ h in cc
 pub ended_or : (k : Stop) → (k ≡ Ended) ⊎ (k ≢ Ended)
 ended_or GoesOn = inr (no_end GoesOn refl)
 ended_or Ended = inl refl
-ended_or FuelUsedUp = inr (no_end FuelUsedUp refl)
-ended_or InputEnded = inr (no_end InputEnded refl)
-ended_or NotATag = inr (no_end NotATag refl)
-ended_or OutputFull = inr (no_end OutputFull refl)
-ended_or TooManyCalls = inr (no_end TooManyCalls refl)
-ended_or CannotPerform = inr (no_end CannotPerform refl)
-ended_or OutOfRange = inr (no_end OutOfRange refl)
+ended_or (RefusedWith why) = inr (no_end (RefusedWith why) refl)
 
 -- ---- `number_kept`
 
@@ -83,19 +65,28 @@ module _ (values : List ℕ) (units : ℕ) (s : Machine) where
       → s.stop ≡ Ended
       → number ≡ number_kept (frame_of values s)
       → more ≡ (units + 1) % 2 ^ 64
-      → run_answer (record { verdict = Ok tt; units = more; read = s.read; written = s.written; number = number }) ≡ in_64_bits (due_at values units s)
+      → run_answer (record { outcome = Ok number; units = more; read = s.read; written = s.written }) ≡ in_64_bits (due_at values units s)
   unfolding due_at
   wrapped_ended number more e is counted = rw (due_at, e, is, counted) refl
 
+  -- the refusal is the machine's own, or 19 where it goes on
   pub wrapped_refused :
       (r : Refused) (why : Refusal)
-      → s.stop ≢ Ended
+      → s.stop ≡ RefusedWith why
       → units < 2 ^ 64
-      → number why ≡ refusal_number s.stop
       → r ≡ record { why = why; position = s.read }
-      → run_answer (record { verdict = Err r; units = units; read = s.read; written = s.written; number = 0 }) ≡ in_64_bits (due_at values units s)
+      → run_answer (record { outcome = Err r; units = units; read = s.read; written = s.written }) ≡ in_64_bits (due_at values units s)
   unfolding due_at
-  wrapped_refused r why h wide is at = let fits : units % 2 ^ 64 ≡ units = omega arith in rw (due_at, not_ended _ h, at, is, fits) refl
+  wrapped_refused r why e wide at = let fits : units % 2 ^ 64 ≡ units = omega arith in rw (due_at, e, e, at, fits) refl
+
+  pub wrapped_going :
+      (r : Refused)
+      → s.stop ≡ GoesOn
+      → units < 2 ^ 64
+      → r ≡ record { why = CannotPerform; position = s.read }
+      → run_answer (record { outcome = Err r; units = units; read = s.read; written = s.written }) ≡ in_64_bits (due_at values units s)
+  unfolding due_at
+  wrapped_going r e wide at = let fits : units % 2 ^ 64 ≡ units = omega arith in rw (due_at, e, e, at, fits) refl
 
   -- where the unit of the last return does not wrap, nothing is cut off
   due_fits : units + 1 < 2 ^ 64 → in_64_bits (due_at values units s) ≡ due_at values units s
@@ -112,4 +103,4 @@ module _ (values : List ℕ) (units : ℕ) (s : Machine) where
   pub reports_whole : (r : Answer) → run_answer r ≡ in_64_bits (due_at values units s) → units + 1 < 2 ^ 64 → Reports values units s r
   reports_whole r is wide = record { reports = is ∙ due_fits wide }
 
-pub ruleset reported = (wrapped_ended, wrapped_refused, reports_whole)
+pub ruleset reported = (wrapped_ended, wrapped_refused, wrapped_going, reports_whole)

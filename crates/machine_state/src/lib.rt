@@ -4,8 +4,7 @@
 
 ghost use Rattle.std.specs.Prelude.{◌≡◌, ◌+◌, ◌^◌, ◌<◌};
 ghost use Rattle.meaning.specs.Performing.{number_kept};
-ghost use Rattle.refusal.specs.Inner.Numbers.{number};
-ghost use Rattle.machine_state.specs.Inner.States.{frame_of, refusal_number, stopped_by, jump_to};
+ghost use Rattle.machine_state.specs.Inner.States.{frame_of, stopped_by, refused_by, jump_to};
 ghost use Rattle.machine_state.specs.Inner.Answers.{run_answer, nothing_done, due_at, Reports, in_64_bits};
 
 use refusal::{Refusal, Refused};
@@ -16,28 +15,13 @@ pub enum Stop {
     GoesOn,
     // the last frame has returned
     Ended,
-    // 14, which no instruction stops with
-    FuelUsedUp,
-    InputEnded,
-    NotATag,
-    OutputFull,
-    TooManyCalls,
-    CannotPerform,
-    OutOfRange,
+    Refused(Refusal),
 }
 
-// The value words that a run is lent, and the words of the return places. One return place is never
-// used, since the first frame has none: so at most 2,046 words are saved.
+// The value words that a run is lent, and the words of the return places.
 pub const VALUE_WORDS: usize = 16384;
 
 pub const RETURN_WORDS: usize = 2048;
-
-pub const MOST_SAVED: usize = 2046;
-
-// Where in the bytes of an instruction its operand and its number begin.
-pub const OPERAND: usize = 2;
-
-pub const NUMBER: usize = 4;
 
 // The numbers of the machine: the address, why it stops, where the frame's words begin and end, how
 // many bytes are read and written, how many words of the return places are in use. Flat, so that it
@@ -53,31 +37,13 @@ pub struct Machine {
     pub saved: usize,
 }
 
-// What a run answers: ended or refused, units, bytes read and written, and the number.
+// What a run answers: its number or its refusal, units, bytes read and written.
 #[derive(Clone, Copy)]
 pub struct Answer {
-    pub verdict: Result<(), Refused>,
+    pub outcome: Result<u32, Refused>,
     pub units: u64,
     pub read: usize,
     pub written: usize,
-    pub number: u32,
-}
-
-impl Stop {
-    // The refusal that stops the machine: 19 where it has not been refused.
-    fn refusal(self) -> Refusal
-        ensures { number result ≡ refusal_number self }
-    {
-        match self {
-            Stop::FuelUsedUp => Refusal::FuelUsedUp,
-            Stop::InputEnded => Refusal::InputEnded,
-            Stop::NotATag => Refusal::NotATag,
-            Stop::OutputFull => Refusal::OutputFull,
-            Stop::TooManyCalls => Refusal::TooManyCalls,
-            Stop::OutOfRange => Refusal::OutOfRange,
-            Stop::GoesOn | Stop::Ended | Stop::CannotPerform => Refusal::CannotPerform,
-        }
-    }
 }
 
 impl Machine {
@@ -88,12 +54,19 @@ impl Machine {
         Machine { stop: why, ..self }
     }
 
+    // .. since the instruction is refused.
+    pub fn refused(self, why: Refusal) -> Machine
+        ensures { result ≡ refused_by why self }
+    {
+        self.stopped(Stop::Refused(why))
+    }
+
     // The machine at an address.
     pub fn jump(self, address: u16) -> Machine
         ensures { result ≡ jump_to address self }
     {
         Machine {
-            address: address as usize,
+            address: usize::from(address),
             ..self
         }
     }
@@ -110,26 +83,21 @@ impl Machine {
     }
 
     // The answer of a run that stops here, after `units` instructions. The unit of the last return
-    // is counted in 64 bits, so that nothing is asked of the units.
+    // is counted in 64 bits, so that nothing is asked of the units. 19 where the machine goes on.
     pub fn report(self, units: u64, values: &[u32]) -> Answer
         ensures reports { units + 1 < 2 ^ 64 → Reports values.now units self result }
         ensures wrapped { run_answer result ≡ in_64_bits (due_at values.now units self) }
     {
-        match self.stop {
-            Stop::Ended => Answer {
-                verdict: Ok(()),
-                units: units.wrapping_add(1),
-                read: self.read,
-                written: self.written,
-                number: self.number_kept(values),
-            },
-            _ => Answer {
-                verdict: Err(self.stop.refusal().at(self.read)),
-                units: units,
-                read: self.read,
-                written: self.written,
-                number: 0,
-            },
+        let (outcome, units) = match self.stop {
+            Stop::Ended => (Ok(self.number_kept(values)), units.wrapping_add(1)),
+            Stop::Refused(why) => (Err(why.at(self.read)), units),
+            Stop::GoesOn => (Err(Refusal::CannotPerform.at(self.read)), units),
+        };
+        Answer {
+            outcome,
+            units,
+            read: self.read,
+            written: self.written,
         }
     }
 }
@@ -140,11 +108,10 @@ impl Answer {
         ensures { run_answer result ≡ nothing_done why }
     {
         Answer {
-            verdict: Err(why),
+            outcome: Err(why),
             units: 0,
             read: 0,
             written: 0,
-            number: 0,
         }
     }
 }

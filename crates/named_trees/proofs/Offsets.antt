@@ -16,6 +16,8 @@ use Rattle.formats.specs.Results.{Result, on_value}
 use Rattle.formats.proofs.Endings.{end_within}
 use Rattle.formats.proofs.Measures.{first-end}
 use Rattle.std.specs.Prelude.{Result as Answer, Ok, Err}
+use Rattle.std.specs.Result.{MatchResult}
+use Rattle.std.proofs.lemmas.Result.{MatchResult-at_ok, MatchResult-at_err}
 use Rattle.refusal.specs.declared.Refused.{Refused}
 use Rattle.tree.specs.declared.Measures.{Measures}
 use Rattle.tree.specs.Inner.TreeResults.{measured, tree_result}
@@ -70,6 +72,15 @@ module _ (input : List ℕ) (known end p j : ℕ) where
           pub part_right : (m : Measures) → found ≡ Ok m → p + 1 + m.bytes ≡ part_at input known end p j
           unfolding after_tree
           part_right m e = ap (λ q. q + m.bytes) (add-one p) ∙ sym (by_end ∙ ap (λ a. after_tree (suc p) (found_end a)) e)
+
+          -- the reader's answer, whatever it is
+          pub part_read : (r : ℕ) (P : Measures → Type 0) → MatchResult found P (λ why. r ≡ 0) → ((m : Measures) → P m → r ≡ p + 1 + m.bytes)
+              → r ≡ part_at input known end p j
+          part_read r P given counted = by found refl
+            where
+              by : (a : Answer Measures Refused) → found ≡ a → r ≡ part_at input known end p j
+              by (Ok m) e = counted m (MatchResult-at_ok P (λ why. r ≡ 0) m e given) ∙ part_right m e
+              by (Err why) e = MatchResult-at_err P (λ why. r ≡ 0) why e given ∙ part_broken why e
 
           -- a tree ends within its bytes
           pub part_within : (m : Measures) → found ≡ Ok m → m.bytes ≤ length after

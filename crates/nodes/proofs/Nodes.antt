@@ -13,6 +13,7 @@ use Rattle.formats.proofs.Results.{by_result, done_injective, done_not, Passing,
 use Rattle.refusal.specs.Inner.Numbers.{number}
 use Rattle.refusal.specs.declared.Refused.{Refused}
 use Rattle.std.specs.Prelude.{Result as Answer, Ok, Err}
+use Rattle.std.specs.Result.{MatchResult}
 use Rattle.records.specs.Inner.Read.{Shape, described, listed, shape_of}
 use Rattle.records.specs.declared.Part.{Part}
 use Rattle.records.specs.declared.Parts.{Parts}
@@ -28,15 +29,12 @@ value_said f (done x) = refl
 value_said f (refusal number position) = refl
 
 module _ (s : List ℕ) where
-  pub nodes_first :
-      (functions nodes : ℕ)
-      → functions ≡ (header_in s).functions
-      → nodes ≡ (header_in s).nodes
-      → Passing (node_in s) (verdict (node_row (header_in s) s)) (1 + functions + nodes) (1 + functions)
+  pub nodes_first : (first end : ℕ) → first ≡ 1 + (header_in s).functions → end ≡ 1 + (header_in s).functions + (header_in s).nodes
+      → Passing (node_in s) (verdict (node_row (header_in s) s)) end first
   unfolding node_row header_in record_at node_in
-  nodes_first functions nodes ef en =
-      let count : number_at 2 s 2 ≡ (1 + functions + nodes) - (1 + functions) = omega arith in
-      let position : suc (get_or s 1 0) ≡ 1 + functions = omega arith in
+  nodes_first first end ef ee =
+      let count : number_at 2 s 2 ≡ end - first = omega arith in
+      let position : suc (get_or s 1 0) ≡ first = omega arith in
       record { left = ap₂ (λ n k. verdict (each (node_in s) n k)) count position }
 
   module _ (all : Result (Unit {0})) (end k : ℕ) (more : k < end) (p : Passing (node_in s) all end k)
@@ -96,4 +94,10 @@ module _ (s : List ℕ) (k : ℕ) (found : Answer Described Refused) (reported :
       (λ kind h. done_not (ap (on_value shape_of) h) (sym reported ∙ ap described case))
       (λ m q h. sym (rw (h, parts_in)))
 
-pub ruleset parts_found = (parts_read, parts_refused)
+  -- the number is that of the record's parts, or 0
+  pub parts_or_none : (counted : Described → Type 0) (n : ℕ) → MatchResult found counted (λ r. n ≡ 0) → ((d : Described) → counted d → n ≡ part_count (arity_in s) (listed d.parts)) → n ≡ parts_in s k
+  parts_or_none counted n = by found refl
+    where
+      by : (r : Answer Described Refused) → found ≡ r → MatchResult r counted (λ e. n ≡ 0) → ((d : Described) → counted d → n ≡ part_count (arity_in s) (listed d.parts)) → n ≡ parts_in s k
+      by (Ok d) case is counts = parts_read d n case (counts d is)
+      by (Err r) case is counts = is ∙ parts_refused r case

@@ -19,10 +19,8 @@ pub fn node_row(flat: &[u8]) -> Result<(), Refused>
     ensures { verdict_result result ≡ verdict
         (node_row (header_in flat.now) flat.now) }
 {
-    let functions = signatures::functions_in(flat) as usize;
-    let nodes = signatures::nodes_in(flat) as usize;
-    let end = 1 + functions + nodes;
-    for k in (1 + functions)..end {
+    let end = signatures::nodes_end(flat);
+    for k in signatures::first_node(flat)..end {
         records::record_at(flat, k)?;
     }
     Ok(())
@@ -38,17 +36,13 @@ pub fn part_count(flat: &[u8], parts: Parts) -> usize
         Parts::One(_) => 1,
         Parts::Two(_, _) => 2,
         Parts::Three(_, _, _) => 3,
-        Parts::Arguments(b) => signatures::parameters(flat, b) as usize,
+        Parts::Arguments(b) => usize::from(signatures::parameters(flat, b)),
     }
 }
 
-// How many parts record k has; 0 where it is refused.
-#[tactic(auto, using(crate::proofs::Nodes::parts_found))]
+// How many parts record k has; 0 where it is refused, as the definition `parts_in` says.
 pub fn parts_at(flat: &[u8], k: usize) -> usize
     ensures { result ≡ parts_in flat.now k }
 {
-    match records::record_at(flat, k) {
-        Ok(found) => part_count(flat, found.parts),
-        Err(_) => 0,
-    }
+    records::record_at(flat, k).map_or(0, |found| part_count(flat, found.parts))
 }

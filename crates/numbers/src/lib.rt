@@ -9,8 +9,9 @@ ghost use Rattle.numbers.specs.Inner.Sums.{word_in};
 
 // The exact sum of the numbers that two words stand for, as a word, if one stands for it. With 2^31
 // more it is at most 2^32 - 1 where it is in range, and above that, as a word of 64 bits, where it
-// is not. The compiler makes an addition and a jump on overflow of this (docs/BENCHMARKS.md), as it
-// does not of the library's `checked_add`.
+// is not. The compiler makes an addition and a jump on overflow of this. Tried, not proved, in
+// `hogvax_perform`, machine instructions for each one performed on Grow and on Sum: this 23.9 and
+// 25.7, `checked_add` of the two numbers 26.9 and 29.5, `i32::try_from(sum)` 27.3 and 29.6.
 #[tactic(auto, using(crate::proofs::Sums::sum_ways))]
 pub fn sum_of(a: u32, b: u32) -> Option<u32>
     ensures { word_in result ≡ result_of plus a b }
@@ -22,7 +23,8 @@ pub fn sum_of(a: u32, b: u32) -> Option<u32>
     Some(a.wrapping_add(b))
 }
 
-// The number that a word stands for in two's complement.
+// The number that a word stands for in two's complement. (The method of std has a contract of its
+// own; `signed32`, which the definitions speak of, is promised here.)
 #[tactic(auto, using(crate::proofs::Sums::signed_is))]
 pub fn signed(w: u32) -> i32
     ensures { result ≡ signed32 w }

@@ -2,7 +2,6 @@
 use Prim.Native.Nat.{ℕ, suc, ◌+◌, ◌-◌, ◌*◌, ◌≤◌, ◌<◌}
 use mathlib.Core.Bool.{Bool, true, false}
 use mathlib.Core.List.{List}
-use mathlib.Core.Logic.{◌≢◌}
 use mathlib.Core.Path.{◌≡◌, refl, ap, ap₂, ◌∙◌}
 use native.Mathlib.Numerals.{add-one}
 use native.Mathlib.Omega.{arith}
@@ -13,8 +12,8 @@ use Rattle.stepwise.specs.Inner.Steps.{State, begin, deep, stuck, operand_at, tr
 use Rattle.stepwise.proofs.Steps.{opens_deep, opens_frame}
 use Rattle.stepwise.proofs.Words.{copied_length}
 use Rattle.stages.specs.declared.Stage.{Stage}
-use Rattle.stages.specs.declared.Mode.TheVariants.{Begin, Finished, Open, Deep, Stuck}
-use Rattle.stages.specs.Inner.Stages.{state_of, staged, stage_of, words_of, returns_of}
+use Rattle.stages.specs.declared.Next.TheVariants.{Begin, Deep, Stuck}
+use Rattle.stages.specs.Inner.Stages.{is_finished, to_open, state_of, staged, stage_of, words_of, returns_of}
 use Rattle.stages.proofs.Stages.{reach_deep, reach_stuck}
 use Rattle.named_trees.specs.Inner.Offsets.{tree_offset, named_by}
 use Rattle.named_trees.proofs.Offsets.{found_offset}
@@ -68,45 +67,45 @@ module _ (T input : List ℕ) (r : ℕ) (s : State) where
   unfolding opened_turn
   opened_past past = simp (opened_turn, le-ltb _ _ past)
 
-module _ (T input values returns : List ℕ) (s : Stage) where
-  pub open_past : (r : Stage) → record_limit ≤ s.node → r ≡ staged s Stuck s.node 0 → Opens T input values values returns returns s r
-  open_past r past e = rw e (record { is = rw (opened_past T input s.node (state_of values returns s) past) (reach_stuck values returns s) })
+module _ (T input values returns : List ℕ) (r : ℕ) (s : Stage) where
+  pub open_past : (t : Stage) → record_limit ≤ r → t ≡ staged s Stuck → Opens T input values values returns returns r s t
+  open_past t past e = rw e (record { is = rw (opened_past T input r (state_of values returns s) past) (reach_stuck values returns s) })
 
-  module _ (few : s.node < record_limit) where
-    pub open_deep : (r : Stage) → most_waiting ≤ s.calls → r ≡ staged s Deep s.node 0 → Opens T input values values returns returns s r
-    open_deep r full e =
+  module _ (few : r < record_limit) where
+    pub open_deep : (t : Stage) → most_waiting ≤ s.calls → t ≡ staged s (Deep r) → Opens T input values values returns returns r s t
+    open_deep t full e =
         rw e
         (record {
           is =
               rw (
-                opened_in T input s.node (state_of values returns s) few,
-                opens_deep T (named_by T input s.node (state_of values returns s)) s.node (state_of values returns s) full,
+                opened_in T input r (state_of values returns s) few,
+                opens_deep T (named_by T input r (state_of values returns s)) r (state_of values returns s) full,
               )
-              (reach_deep values returns s s.node);
+              (reach_deep values returns s r);
         })
 
     pub open_frame :
         (q f : ℕ) (values' returns' : List ℕ) (b : Stage)
         → s.calls < most_waiting
-        → q ≡ tree_offset T input s.tree s.known s.end (tree_at T s.node)
-        → values' ≡ copied values (frame_words * s.calls) (slot_at T (suc s.node)) (more_at T s.node)
-        → returns' ≡ set (set returns (2 * s.calls) s.node) (suc (2 * s.calls)) s.tree
-        → f ≡ operand_at T s.node
-        → b ≡ staged s Begin f 0
-        → Opens T input values values' returns returns' s
-        (record { mode = b.mode; node = b.node; number = b.number; calls = s.calls + 1; tree = q; known = b.known; end = b.end; written = b.written })
+        → q ≡ tree_offset T input s.tree s.known s.end (tree_at T r)
+        → values' ≡ copied values (frame_words * s.calls) (slot_at T (suc r)) (more_at T r)
+        → returns' ≡ set (set returns (2 * s.calls) r) (suc (2 * s.calls)) s.tree
+        → f ≡ operand_at T r
+        → b ≡ staged s (Begin f)
+        → Opens T input values values' returns returns' r s
+        (record { next = b.next; calls = s.calls + 1; tree = q; known = b.known; end = b.end; written = b.written })
     unfolding stage_of words_of returns_of
     open_frame q f values' returns' b room found passed-on saved ef at =
         rw (at, passed-on, saved, ef, add-one s.calls)
         (record {
           is =
-              rw (opened_in T input s.node (state_of values returns s) few, ← found, opens_frame T q s.node (state_of values returns s) room)
+              rw (opened_in T input r (state_of values returns s) few, ← found, opens_frame T q r (state_of values returns s) room)
               (record {
                 stage = refl;
                 words = refl;
                 returns_are = refl;
-                words_long = copied_length values _ _ (more_at T s.node);
-                returns_long = length-set (set returns (2 * s.calls) s.node) (suc (2 * s.calls)) s.tree ∙ length-set returns (2 * s.calls) s.node;
+                words_long = copied_length values _ _ (more_at T r);
+                returns_long = length-set (set returns (2 * s.calls) r) (suc (2 * s.calls)) s.tree ∙ length-set returns (2 * s.calls) r;
               });
         })
 
@@ -122,14 +121,14 @@ opened_found T input r p s few found =
 -- a call that has opened leaves no record finished, and no other call to open
 module _ (s : Stage) (r f : ℕ) (t : State) where
   settled_by : (a b : Bool)
-      → ((stage_of s (elim a [ true ↦ elim b [ true ↦ deep r | false ↦ begin f t ] | false ↦ stuck ])).mode ≢ Finished)
-      × ((stage_of s (elim a [ true ↦ elim b [ true ↦ deep r | false ↦ begin f t ] | false ↦ stuck ])).mode ≢ Open)
+      → (is_finished (stage_of s (elim a [ true ↦ elim b [ true ↦ deep r | false ↦ begin f t ] | false ↦ stuck ])).next ≡ false)
+      × (to_open (stage_of s (elim a [ true ↦ elim b [ true ↦ deep r | false ↦ begin f t ] | false ↦ stuck ])).next ≡ false)
   unfolding stage_of
-  settled_by true true = (λ (e : Deep ≡ Finished). cc, λ (e : Deep ≡ Open). cc)
-  settled_by true false = (λ (e : Begin ≡ Finished). cc, λ (e : Begin ≡ Open). cc)
-  settled_by false b = (λ (e : Stuck ≡ Finished). cc, λ (e : Stuck ≡ Open). cc)
+  settled_by true true = (refl, refl)
+  settled_by true false = (refl, refl)
+  settled_by false b = (refl, refl)
 
 pub opened_settled : (T input : List ℕ) (r : ℕ) (t : State) (s : Stage)
-    → ((stage_of s (opened_turn T input r t)).mode ≢ Finished) × ((stage_of s (opened_turn T input r t)).mode ≢ Open)
+    → (is_finished (stage_of s (opened_turn T input r t)).next ≡ false) × (to_open (stage_of s (opened_turn T input r t)).next ≡ false)
 unfolding opened_turn opening
 opened_settled T input r t s = settled_by s r _ _ (ltb r record_limit) (leb most_waiting t.calls)

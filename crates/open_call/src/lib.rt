@@ -6,7 +6,7 @@ ghost use Rattle.stepwise.specs.Inner.Steps.{slot_at, more_at, frame_words, reco
 ghost use Rattle.open_call.specs.Inner.Opens.{Opens};
 
 use frames::{MORE, OPERAND, SLOT};
-use stages::{Mode, RECORD_LIMIT, Stage};
+use stages::{Next, RECORD_LIMIT, Stage};
 
 // The most calls that may wait: with the one that goes on, 1,024 are open.
 const MOST_WAITING: u16 = 1023;
@@ -24,46 +24,52 @@ fn copy(values: &mut [u32], calls: u16, slot: u16, count: u16)
     }
 }
 
-// Copies the arguments of the call at the stage's record to the first words of the next frame.
+// Copies the arguments of the call at record r to the first words of the next frame.
 #[tactic(auto, using(crate::proofs::Opens::passing))]
-fn pass_arguments(table: &[u16], values: &mut [u32], s: Stage)
-    requires { (s.node < record_limit) × (s.calls < most_waiting) }
+fn pass_arguments(table: &[u16], values: &mut [u32], r: u16, s: Stage)
+    requires { (r < record_limit) × (s.calls < most_waiting) }
     ensures { values.new ≡ copied values.old (frame_words * s.calls)
-        (slot_at table.now (suc s.node)) (more_at table.now s.node) }
+        (slot_at table.now (suc r)) (more_at table.now r) }
 {
-    let slot = frames::field(table, s.node + 1, SLOT);
-    copy(values, s.calls, slot, frames::field(table, s.node, MORE))
+    let slot = frames::field(table, r + 1, SLOT);
+    copy(values, s.calls, slot, frames::field(table, r, MORE))
 }
 
-// Saves the call's record and its frame's tree on the return words.
+// Saves the record of the call and its frame's tree on the return words.
 #[tactic(auto, using(crate::proofs::Opens::passing))]
-fn save(returns: &mut [u64], s: Stage)
-    ensures { returns.new ≡ set (set returns.old (2 * s.calls) s.node)
+fn save(returns: &mut [u64], r: u16, s: Stage)
+    ensures { returns.new ≡ set (set returns.old (2 * s.calls) r)
         (suc (2 * s.calls)) s.tree }
 {
-    let i = 2 * (s.calls as usize);
-    frames::put(returns, i, s.node as u64);
+    let i = 2 * usize::from(s.calls);
+    frames::put(returns, i, u64::from(r));
     frames::put(returns, i + 1, s.tree as u64)
 }
 
-// Opens the call at the stage's record: its function's body begins, or it is one too many.
-pub fn open(table: &[u16], input: &[u8], values: &mut [u32], returns: &mut [u64], s: Stage) -> Stage
+// Opens the call at record r: its function's body begins, or it is one too many.
+pub fn open(
+    table: &[u16],
+    input: &[u8],
+    values: &mut [u32],
+    returns: &mut [u64],
+    r: u16,
+    s: Stage,
+) -> Stage
     ensures { Opens table.now input.now values.old
-        values.new returns.old returns.new s result }
+        values.new returns.old returns.new r s result }
 {
-    let r = s.node;
     if RECORD_LIMIT <= r {
-        return s.at(Mode::Stuck, r, 0);
+        return s.at(Next::Stuck);
     }
     if MOST_WAITING <= s.calls {
-        return s.at(Mode::Deep, r, 0);
+        return s.at(Next::Deep(r));
     }
-    let p = named_trees::named_offset(table, input, s);
-    pass_arguments(table, values, s);
-    save(returns, s);
+    let p = named_trees::named_offset(table, input, r, s);
+    pass_arguments(table, values, r, s);
+    save(returns, r, s);
     Stage {
         calls: s.calls + 1,
         tree: p,
-        ..s.at(Mode::Begin, frames::field(table, r, OPERAND), 0)
+        ..s.at(Next::Begin(frames::field(table, r, OPERAND)))
     }
 }

@@ -9,19 +9,19 @@ use native.Mathlib.Omega.{arith}
 use native.Mathlib.Numerals.{towards_suc}
 use borrow.Author.Tests.{le-leb, lt-leb, le-ltb, lt-ltb}
 use lib.ListN.{length, get_or, set, take, drop, length-set}
-use Rattle.formats.specs.Refusals.{too_many_calls, cannot_perform}
 use Rattle.meaning.specs.Instructions.{Call, Return}
 use Rattle.meaning.specs.Performing.{Setting, calls_open, ends, open_call, kept, number_kept, leave, operate}
 use Rattle.meaning.specs.Running.{value_words, return_words}
 use Rattle.machine_state.specs.declared.Machine.{Machine}
-use Rattle.machine_state.specs.declared.Stop.TheVariants.{GoesOn, Ended, TooManyCalls, CannotPerform}
+use Rattle.refusal.specs.declared.Refusal.TheVariants.{TooManyCalls, CannotPerform}
+use Rattle.machine_state.specs.declared.Stop.TheVariants.{GoesOn, Ended}
 use Rattle.machine_state.proofs.Laws.{words_top}
 use Rattle.machine_state.specs.Inner.States.{words_from, waiting, frame_of, state_of, step_of, Chained, first, above, Held, Sound}
-use Rattle.machine_state.specs.Inner.States.{stopped_by, jump_to, left}
+use Rattle.machine_state.specs.Inner.States.{stopped_by, refused_by, jump_to, left}
 use Rattle.operations.specs.Inner.Effects.{Does, OnReturns, FromReturns}
 use Rattle.operations.proofs.Frames.{length_words, words_pushed, words_taken, words_left}
 use Rattle.operations.proofs.Frames.{waiting_kept, waiting_more, chained_more, count_waiting}
-use Rattle.operations.proofs.Effects.{held_as, names_calls, names_cannot, refused_so, goes_so}
+use Rattle.operations.proofs.Effects.{held_as, refused_so, goes_so}
 
 -- ---- `leave`
 
@@ -54,13 +54,13 @@ pub ruleset leaves = (left_first, left_back)
 
 module _ (entry n : ℕ) (returns : List ℕ) (s : Machine) where
   -- 01, Instructions that cannot be performed: "19 .. (.. missing .. words)"
-  pub call_few : (r : Machine) → s.top - s.base < n → r ≡ stopped_by CannotPerform s → OnReturns (Call entry n) returns returns s r
+  pub call_few : (r : Machine) → s.top - s.base < n → r ≡ refused_by CannotPerform s → OnReturns (Call entry n) returns returns s r
   unfolding operate
   call_few r few e =
       record {
         does =
             λ m values output h.
-            refused_so m _ values returns output s r CannotPerform cannot_perform e (rw (operate, length_words, lt-leb n (s.top - s.base) few)) names_cannot h;
+            refused_so m _ values returns output s r CannotPerform e (rw (operate, length_words, lt-leb n (s.top - s.base) few)) h;
       }
 
   module _ (there : n ≤ s.top - s.base) where
@@ -71,7 +71,7 @@ module _ (entry n : ℕ) (returns : List ℕ) (s : Machine) where
     calls m values output = rw (operate, length_words, le-leb n (s.top - s.base) there)
 
     -- 01, The table of refusals: "18 a call with 1,024 open"
-    pub call_deep : (r : Machine) → return_words - 2 ≤ s.saved → r ≡ stopped_by TooManyCalls s → OnReturns (Call entry n) returns returns s r
+    pub call_deep : (r : Machine) → return_words - 2 ≤ s.saved → r ≡ refused_by TooManyCalls s → OnReturns (Call entry n) returns returns s r
     unfolding open_call calls_open
     call_deep r deep e =
         record {
@@ -79,7 +79,7 @@ module _ (entry n : ℕ) (returns : List ℕ) (s : Machine) where
               λ m values output h.
               let counted = count_waiting values returns s.base s.saved h.chained in
               let full : m.most_open ≤ suc (length (waiting values returns s.base s.saved)) = omega (arith, h.calls_limit) in
-              refused_so m _ values returns output s r TooManyCalls too_many_calls e (calls m values output ∙ rw (open_call, calls_open, le-ltb _ _ full)) names_calls h;
+              refused_so m _ values returns output s r TooManyCalls e (calls m values output ∙ rw (open_call, calls_open, le-ltb _ _ full)) h;
         }
 
     -- the machine in the new frame, and the return places after the call
@@ -247,20 +247,20 @@ module _ (k : ℕ) (returns values : List ℕ) (s r : Machine) where
             rw (e, operate, keeps) (rw same at so);
       }
 
-  gives_none : kept k (frame_of values s) ≡ none → r ≡ stopped_by CannotPerform s → FromReturns (Return k) returns values values s r
+  gives_none : kept k (frame_of values s) ≡ none → r ≡ refused_by CannotPerform s → FromReturns (Return k) returns values values s r
   unfolding operate
   gives_none missing e =
-      record { does = λ m output h. refused_so m _ values returns output s r CannotPerform cannot_perform e (rw (operate, missing)) names_cannot h }
+      record { does = λ m output h. refused_so m _ values returns output s r CannotPerform e (rw (operate, missing)) h }
 
   pub return_none : Sound s → k ≡ 0 → r ≡ left returns s.base s → FromReturns (Return k) returns values values s r
   unfolding kept
   return_none sound is e = gives values [] s.base sound.going (rw is) (cut_all values s.base (omega arith)) e
 
-  pub return_more : k ≢ 0 → k ≢ 1 → r ≡ stopped_by CannotPerform s → FromReturns (Return k) returns values values s r
+  pub return_more : k ≢ 0 → k ≢ 1 → r ≡ refused_by CannotPerform s → FromReturns (Return k) returns values values s r
   return_more h g e = gives_none (kept_more k (frame_of values s) h g) e
 
   -- 01, Instructions that cannot be performed: "19 .. (.. missing .. words)"
-  pub return_empty : k ≡ 1 → s.top ≤ s.base → r ≡ stopped_by CannotPerform s → FromReturns (Return k) returns values values s r
+  pub return_empty : k ≡ 1 → s.top ≤ s.base → r ≡ refused_by CannotPerform s → FromReturns (Return k) returns values values s r
   unfolding kept words_from
   return_empty is empty e = let no_word : s.top - s.base ≡ 0 = omega arith in gives_none (rw (is, no_word)) e
 

@@ -1,10 +1,10 @@
 -- The run of a checked program's code: a law for each way through its functions. An instruction
 -- that is not refused with 19 has its words, its room and its return byte (`CannotPerform`), which
 -- is what a test would show; and a function does what the one of any code does, once fuel is left.
-use Prim.Native.Nat.{ℕ, ◌+◌, ◌-◌, ◌≤◌, ◌<◌}
+use Prim.Native.Nat.{ℕ, ◌+◌, ◌-◌, ◌%◌, ◌≤◌, ◌<◌}
 use mathlib.Core.Bool.{Bool, true, false}
 use Rattle.std.specs.Prelude.{◌↔◌, IsTrue}
-use mathlib.Core.List.{List, []}
+use mathlib.Core.List.{List}
 use mathlib.Core.Logic.{◌≢◌}
 use mathlib.Core.Option.{some}
 use mathlib.Core.Path.{◌≡◌, refl, sym, ap, ◌∙◌}
@@ -13,33 +13,31 @@ use native.Mathlib.Omega.{arith}
 use lib.ListN.{length, get_or}
 use Rattle.formats.specs.Numbers.{number_at}
 use Rattle.formats.specs.Records.{fields, record_at, nth}
-use Rattle.formats.specs.Tokens.{leaf_tag, node_tag}
+use Rattle.formats.proofs.Records.{but}
 use Rattle.meaning.specs.Instructions.{Instruction, Operation, operations, operation_of}
-use Rattle.meaning.specs.Instructions.{Push, Get, Add, Ifnot, Slide, Drop, WriteNumber, ReadTag, ReadNumber, Call, Return}
+use Rattle.meaning.specs.Instructions.{Push, Get, Add, Ifnot, Slide, Drop, WriteNumber, ReadNumber, Call, Return}
 use Rattle.meaning.specs.Performing.{State}
 use Rattle.meaning.specs.Running.{value_words}
 use Rattle.meaning.specs.CannotPerform.{last_opcode, words_needed, words_added, fetched, CannotPerform, no_operation, return_byte, missing_words, surplus_words}
 use Rattle.meaning.proofs.Steps.{one_step}
 use Rattle.machine_state.specs.declared.Machine.{Machine}
-use Rattle.machine_state.specs.declared.Stop.TheVariants.{FuelUsedUp, CannotPerform as Cannot}
-use Rattle.machine_state.specs.Inner.States.{state_of, Sound, stopped_by, jump_to}
-use Rattle.operations.specs.Inner.Effects.{OnNumbers, OnValues, WritesTag, OnOutput, FromInput, OnInput, OnReturns, FromReturns, Performs}
-use Rattle.operations.specs.Inner.Checked.{Able, Words, Room, ReturnByte, Fuelled, Turns}
+use Rattle.refusal.specs.declared.Refusal.TheVariants.{FuelUsedUp}
+use Rattle.machine_state.specs.Inner.States.{state_of, refused_by}
+use Rattle.operations.specs.Inner.Effects.{OnValues, Performs}
+use Rattle.operations.specs.Inner.Checked.{Able, Words, Room, ReturnByte, Turns}
 use Rattle.operations.proofs.Frames.{length_words, all_standing}
-use Rattle.operations.proofs.StepLaws.{placed, pushes, gets, adds, ifnots, jumps, slides, drops, writes_leaf, writes_node, writes_number, reads_tag, reads_number, calls, returned_so, names_none}
+use Rattle.operations.proofs.StackLaws.{pushes}
+use Rattle.operations.proofs.StepLaws.{placed, gets, adds, performed_so}
 
 -- ---- the fuel
 
-module _ (fuel : ℕ) (s r : Machine) (Done : Type 0) where
-  -- none is left
-  pub fuel_none : (lent : List ℕ) → fuel ≡ 0 → r ≡ stopped_by FuelUsedUp s → Fuelled fuel lent lent s r Done
-  fuel_none lent none-left is = record { used_up = λ e. (is, refl); performed = λ some_left. absurd (some_left none-left) }
-
-  -- some is
-  pub fuel_some : (lent lent' : List ℕ) → fuel ≢ 0 → Done → Fuelled fuel lent lent' s r Done
-  fuel_some lent lent' some_left d = record { used_up = λ e. absurd (some_left e); performed = λ h. d }
-
-pub ruleset fuelled = (fuel_none, fuel_some)
+-- some is left, and the instruction is performed
+pub with_fuel :
+    (fuel : ℕ) (i : Instruction) (input values returns output values' returns' output' : List ℕ) (s r : Machine)
+    → fuel ≢ 0
+    → Performs i input values returns output values' returns' output' s r
+    → Turns fuel i input values returns output values' returns' output' s r
+with_fuel fuel i input values returns output values' returns' output' s r more d = record { used_up = λ e. absurd (more e); performed = λ h. d }
 
 -- ---- what a test says
 
@@ -222,95 +220,68 @@ module _ (i : List ℕ) where
     unfolding operations nth
     return_keeps e = record { few = kept_byte (record_at i 0) s a b (named 13 e) }
 
-  module _ (input values returns output : List ℕ) (s r : Machine) where
-    -- the instruction is performed, or no fuel is left
-    module _ (fuel : ℕ) where
-      -- .. with these buffers
-      abbrev pub Turned : (values' returns' output' : List ℕ) → Type 0
-      Turned values' returns' output' = Turns fuel (record_at i 0) input values returns output values' returns' output' s r
-
-      on_values : {Done : Type 0} (values' : List ℕ) → Fuelled fuel values values' s r Done → (Done → Performs (record_at i 0) input values returns output values' returns output s r) → Turned values' returns output
-      on_values values' d did =
-          record {
-            used_up = λ e. ((d.used_up e).0, (d.used_up e).1, refl, refl);
-            performed = λ h. did (d.performed h);
-          }
-
-      on_returns : {Done : Type 0} (returns' : List ℕ) → Fuelled fuel returns returns' s r Done → (Done → Performs (record_at i 0) input values returns output values returns' output s r) → Turned values returns' output
-      on_returns returns' d did =
-          record {
-            used_up = λ e. ((d.used_up e).0, refl, (d.used_up e).1, refl);
-            performed = λ h. did (d.performed h);
-          }
-
-      on_output : {Done : Type 0} (output' : List ℕ) → Fuelled fuel output output' s r Done → (Done → Performs (record_at i 0) input values returns output values returns output' s r) → Turned values returns output'
-      on_output output' d did =
-          record {
-            used_up = λ e. ((d.used_up e).0, refl, refl, (d.used_up e).1);
-            performed = λ h. did (d.performed h);
-          }
-
-      on_none : {Done : Type 0} → Fuelled fuel [] [] s r Done → (Done → Performs (record_at i 0) input values returns output values returns output s r) → Turned values returns output
-      on_none d did =
-          record {
-            used_up = λ e. ((d.used_up e).0, refl, refl, refl);
-            performed = λ h. did (d.performed h);
-          }
-
-      pub push_turned : (n : ℕ) (values' : List ℕ) → x ≡ 0 → n ≡ number → Fuelled fuel values values' s r (OnValues (Push n) values values' s r) → Turned values' returns output
-      push_turned n values' e is d = on_values values' d (pushes i input values returns output s r n values' e is)
-
-      pub get_turned : (o : ℕ) (values' : List ℕ) → x ≡ 1 → o ≡ operand → Fuelled fuel values values' s r (OnValues (Get o) values values' s r) → Turned values' returns output
-      get_turned o values' e is d = on_values values' d (gets i input values returns output s r o values' e is)
-
-      pub add_turned : (values' : List ℕ) → x ≡ 2 → Fuelled fuel values values' s r (OnValues Add values values' s r) → Turned values' returns output
-      add_turned values' e d = on_values values' d (adds i input values returns output s r values' e)
-
-      pub ifnot_turned : (o : ℕ) → x ≡ 3 → o ≡ operand → Fuelled fuel values values s r (OnValues (Ifnot o) values values s r) → Turned values returns output
-      ifnot_turned o e is d = on_values values d (ifnots i input values returns output s r o e is)
-
-      pub jump_turned : (o : ℕ) → x ≡ 4 → o ≡ operand → Sound s → Fuelled fuel [] [] s r (r ≡ jump_to o s) → Turned values returns output
-      jump_turned o e is sound d = on_none d (jumps i input values returns output s r o e is sound)
-
-      pub slide_turned : (values' : List ℕ) → x ≡ 5 → Fuelled fuel values values' s r (OnValues Slide values values' s r) → Turned values' returns output
-      slide_turned values' e d = on_values values' d (slides i input values returns output s r values' e)
-
-      pub drop_turned : x ≡ 6 → Fuelled fuel [] [] s r (OnNumbers Drop s r) → Turned values returns output
-      drop_turned e d = on_none d (drops i input values returns output s r e)
-
-      pub leaf_turned : (output' : List ℕ) → x ≡ 7 → Fuelled fuel output output' s r (WritesTag leaf_tag output output' s r) → Turned values returns output'
-      leaf_turned output' e d = on_output output' d (writes_leaf i input values returns output s r output' e)
-
-      pub node_turned : (output' : List ℕ) → x ≡ 8 → Fuelled fuel output output' s r (WritesTag node_tag output output' s r) → Turned values returns output'
-      node_turned output' e d = on_output output' d (writes_node i input values returns output s r output' e)
-
-      pub written_turned : (output' : List ℕ) → x ≡ 9 → Fuelled fuel output output' s r (OnOutput WriteNumber values output output' s r) → Turned values returns output'
-      written_turned output' e d = on_output output' d (writes_number i input values returns output s r output' e)
-
-      pub tag_turned : (o : ℕ) → x ≡ 10 → o ≡ operand → Fuelled fuel [] [] s r (OnInput (ReadTag o) input s r) → Turned values returns output
-      tag_turned o e is d = on_none d (reads_tag i input values returns output s r o e is)
-
-      pub label_turned : (values' : List ℕ) → x ≡ 11 → Fuelled fuel values values' s r (FromInput ReadNumber input values values' s r) → Turned values' returns output
-      label_turned values' e d = on_values values' d (reads_number i input values returns output s r values' e)
-
-      pub call_turned : (o : ℕ) (returns' : List ℕ) → x ≡ 12 → o ≡ operand → Fuelled fuel returns returns' s r (OnReturns (Call o b) returns returns' s r) → Turned values returns' output
-      call_turned o returns' e is d = on_returns returns' d (calls i input values returns output s r o returns' e is)
-
-      pub return_turned : (values' : List ℕ) → x ≡ 13 → Fuelled fuel values values' s r (FromReturns (Return b) returns values values' s r) → Turned values' returns output
-      return_turned values' e d = on_values values' d (returned_so i input values returns output s r values' e)
-
-      -- no operation
-      pub none_14 : x ≡ 14 → Fuelled fuel [] [] s r (r ≡ stopped_by Cannot s) → Turned values returns output
-      none_14 e d = on_none d (names_none i input values returns output s r
-          (λ z. absurd (omega arith)) (λ z. absurd (omega arith)) (λ z. absurd (omega arith)) (λ z. absurd (omega arith)) (λ z. absurd (omega arith))
-          (λ z. absurd (omega arith)) (λ z. absurd (omega arith)) (λ z. absurd (omega arith)) (λ z. absurd (omega arith)) (λ z. absurd (omega arith))
-          (λ z. absurd (omega arith)) (λ z. absurd (omega arith)) (λ z. absurd (omega arith)) (λ z. absurd (omega arith)))
-
-      pub none_more :
-          x ≢ 0 → x ≢ 1 → x ≢ 2 → x ≢ 3 → x ≢ 4 → x ≢ 5 → x ≢ 6 → x ≢ 7 → x ≢ 8 → x ≢ 9 → x ≢ 10 → x ≢ 11 → x ≢ 12 → x ≢ 13
-          → Fuelled fuel [] [] s r (r ≡ stopped_by Cannot s)
-          → Turned values returns output
-      none_more n0 n1 n2 n3 n4 n5 n6 n7 n8 n9 n10 n11 n12 n13 d =
-          on_none d (names_none i input values returns output s r n0 n1 n2 n3 n4 n5 n6 n7 n8 n9 n10 n11 n12 n13)
-
 pub ruleset asked = (push_room, get_room, get_words, add_words, ifnot_words, slide_words, drop_words, written_words, label_room, call_words, return_needs, return_keeps, opcode_low)
+
+-- what `step` and `push` are answered by
+pub ruleset stepping = (asked, with_fuel, performed_so)
+
+pub ruleset to_push = (test_up_to, test_above, pushes)
+
+-- ---- an instruction whole: it is performed, or no fuel is left
+
+module _ (i input values returns output : List ℕ) (s r : Machine) (a : Able (record_at i 0) s) (fuel : ℕ) where
+  -- .. with these buffers
+  abbrev pub Turned : (values' returns' output' : List ℕ) → Type 0
+  Turned values' returns' output' = Turns fuel (record_at i 0) input values returns output values' returns' output' s r
+
+  -- an opcode under the mask is the opcode itself
+  pub masked : (k : ℕ) → get_or i 0 0 % 16 ≡ k → get_or i 0 0 ≡ k
+  masked k e = let low = opcode_low i s a in omega arith
+
+  -- what is done to the value words, with no fuel and with some
+  on_values :
+      {Done : Type 0} (values' : List ℕ)
+      → (fuel ≡ 0 → (r ≡ refused_by FuelUsedUp s) × (values' ≡ values))
+      → (fuel ≢ 0 → Done)
+      → (Done → Performs (record_at i 0) input values returns output values' returns output s r)
+      → Turned values' returns output
+  on_values values' unfuelled done did =
+      record {
+        used_up = λ e. ((unfuelled e).0, (unfuelled e).1, refl, refl);
+        performed = λ h. did (done h);
+      }
+
+  pub get_turned :
+      (o : ℕ) (values' : List ℕ)
+      → get_or i 0 0 % 16 ≡ 1
+      → o ≡ number_at 2 i 2
+      → (fuel ≡ 0 → (r ≡ refused_by FuelUsedUp s) × (values' ≡ values))
+      → (fuel ≢ 0 → OnValues (Get o) values values' s r)
+      → Turned values' returns output
+  get_turned o values' e is unfuelled done = on_values values' unfuelled done (gets i input values returns output s r o values' (masked 1 e) is)
+
+  pub add_turned :
+      (values' : List ℕ)
+      → get_or i 0 0 % 16 ≡ 2
+      → (fuel ≡ 0 → (r ≡ refused_by FuelUsedUp s) × (values' ≡ values))
+      → (fuel ≢ 0 → OnValues Add values values' s r)
+      → Turned values' returns output
+  add_turned values' e unfuelled done = on_values values' unfuelled done (adds i input values returns output s r values' (masked 2 e))
+
+  -- there is no opcode above 13
+  pub none_14 : (values' returns' output' : List ℕ) → get_or i 0 0 % 16 ≡ 14 → Turned values' returns' output'
+  none_14 values' returns' output' e = let low = opcode_low i s a in absurd (omega (arith, masked 14 e))
+
+  pub none_more :
+      (values' returns' output' : List ℕ)
+      → get_or i 0 0 % 16 ≢ 0 → get_or i 0 0 % 16 ≢ 1 → get_or i 0 0 % 16 ≢ 2 → get_or i 0 0 % 16 ≢ 3 → get_or i 0 0 % 16 ≢ 4
+      → get_or i 0 0 % 16 ≢ 5 → get_or i 0 0 % 16 ≢ 6 → get_or i 0 0 % 16 ≢ 7 → get_or i 0 0 % 16 ≢ 8 → get_or i 0 0 % 16 ≢ 9
+      → get_or i 0 0 % 16 ≢ 10 → get_or i 0 0 % 16 ≢ 11 → get_or i 0 0 % 16 ≢ 12 → get_or i 0 0 % 16 ≢ 13
+      → Turned values' returns' output'
+  none_more values' returns' output' n0 n1 n2 n3 n4 n5 n6 n7 n8 n9 n10 n11 n12 n13 =
+      let y : ℕ = get_or i 0 0 % 16 in
+      let from_7 : 7 ≤ y = but 6 y (but 5 y (but 4 y (but 3 y (but 2 y (but 1 y (but 0 y (omega arith) n0) n1) n2) n3) n4) n5) n6 in
+      let from_14 : 14 ≤ y = but 13 y (but 12 y (but 11 y (but 10 y (but 9 y (but 8 y (but 7 y from_7 n7) n8) n9) n10) n11) n12) n13 in
+      let own = masked y refl in
+      let low = opcode_low i s a in
+      absurd (omega arith)

@@ -17,7 +17,8 @@ use Rattle.meaning.specs.Instructions.{instruction_bytes}
 use Rattle.meaning.specs.Performing.{Setting, State, refuses, perform, step}
 use Rattle.meaning.specs.Running.{Ran, of_code, stream_run}
 use Rattle.machine_state.specs.declared.Machine.{Machine}
-use Rattle.machine_state.specs.declared.Stop.TheVariants.{GoesOn, FuelUsedUp}
+use Rattle.refusal.specs.declared.Refusal.TheVariants.{FuelUsedUp}
+use Rattle.machine_state.specs.declared.Stop.TheVariants.{GoesOn, Refused}
 use Rattle.machine_state.specs.declared.Answer.{Answer}
 use Rattle.machine_state.specs.Inner.States.{state_of, limit_of, Sound}
 use Rattle.machine_state.specs.Inner.Answers.{run_answer, in_64_bits, due_at, Reports, Performed}
@@ -61,7 +62,7 @@ module _ (code input : List ℕ) (fuel : ℕ) (output₀ values₀ returns₀ ou
   -- where it goes on, fuel was left
   going_left : r.stop ≡ GoesOn → fuel - units ≢ 0
   going_left goes none =
-      let stop : r.stop ≡ FuelUsedUp = ap (λ (q : Machine). q.stop) (d.used_up none).0 in
+      let stop : r.stop ≡ Refused FuelUsedUp = ap (λ (q : Machine). q.stop) (d.used_up none).0 in
       cc
 
   pub checked_more : r.stop ≡ GoesOn → units < fuel

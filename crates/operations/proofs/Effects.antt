@@ -4,13 +4,13 @@ use Prim.Native.Nat.{ℕ, ◌+◌, ◌≤◌}
 use mathlib.Core.List.{List}
 use mathlib.Core.Path.{◌≡◌, refl, sym, ◌∙◌}
 use lib.ListN.{length, drop}
-use Rattle.formats.specs.Refusals.{input_ended, not_a_tag, output_full, too_many_calls, cannot_perform, out_of_range}
+use Rattle.refusal.specs.Inner.Numbers.{number}
+use Rattle.refusal.specs.declared.Refusal.{Refusal}
 use Rattle.meaning.specs.Performing.{Setting, Step, goes, refuses}
 use Rattle.meaning.specs.Running.{value_words, return_words}
 use Rattle.machine_state.specs.declared.Machine.{Machine}
-use Rattle.machine_state.specs.declared.Stop.{Stop}
-use Rattle.machine_state.specs.declared.Stop.TheVariants.{GoesOn, InputEnded, NotATag, OutputFull, TooManyCalls, CannotPerform, OutOfRange}
-use Rattle.machine_state.specs.Inner.States.{state_of, step_of, Chained, Held, stopped_by}
+use Rattle.machine_state.specs.declared.Stop.TheVariants.{GoesOn}
+use Rattle.machine_state.specs.Inner.States.{state_of, step_of, Chained, Held, refused_by}
 use Rattle.operations.specs.Inner.Effects.{Does}
 
 -- other numbers and buffers stand for a state too, where the buffers keep their lengths and the
@@ -61,45 +61,17 @@ pub held_moved :
 held_moved m values returns output values' output' s address top read written h lv lo based topped there fits =
     held_as m values returns output values' returns output' s _ h lv refl lo based topped h.saved_fits h.chained there fits
 
--- a machine stopped so is refused with this number
-abbrev pub Names : Stop → ℕ → Type 0
-Names why number = (values returns output : List ℕ) (s : Machine) → step_of values returns output (stopped_by why s) ≡ refuses number
-
-pub names_ended : Names InputEnded input_ended
-unfolding step_of
-names_ended values returns output s = refl
-
-pub names_tag : Names NotATag not_a_tag
-unfolding step_of
-names_tag values returns output s = refl
-
-pub names_full : Names OutputFull output_full
-unfolding step_of
-names_full values returns output s = refl
-
-pub names_calls : Names TooManyCalls too_many_calls
-unfolding step_of
-names_calls values returns output s = refl
-
-pub names_cannot : Names CannotPerform cannot_perform
-unfolding step_of
-names_cannot values returns output s = refl
-
-pub names_range : Names OutOfRange out_of_range
-unfolding step_of
-names_range values returns output s = refl
-
 -- 01, Fuel and units: "A refused instruction .. changes nothing."
 pub refused_so :
-    (m : Setting) (due : Step) (values returns output : List ℕ) (s r : Machine) (why : Stop) (number : ℕ)
-    → r ≡ stopped_by why s
-    → due ≡ refuses number
-    → Names why number
+    (m : Setting) (due : Step) (values returns output : List ℕ) (s r : Machine) (why : Refusal)
+    → r ≡ refused_by why s
+    → due ≡ refuses (number why)
     → Held m values returns output s
     → Does m due values returns output values returns output s r
-refused_so m due values returns output s r why number is e named h =
+unfolding step_of
+refused_so m due values returns output s r why is e h =
     rw is (record {
-      reported = named values returns output s ∙ sym e;
+      reported = sym e;
       held =
           held_as m values returns output values returns output s _ h refl refl refl
           h.based h.topped h.saved_fits h.chained h.read_there h.written_there;

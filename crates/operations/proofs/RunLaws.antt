@@ -26,9 +26,10 @@ use Rattle.meaning.proofs.Runs.{runs}
 use Rattle.meaning.specs.WorkWords.{WorkWords, before_stream}
 use Rattle.meaning.proofs.WorkWords.{untouched, run_refused, ended as words_ended}
 use Rattle.machine_state.specs.declared.Machine.{Machine}
-use Rattle.machine_state.specs.declared.Stop.TheVariants.{GoesOn, Ended, FuelUsedUp}
+use Rattle.refusal.specs.declared.Refusal.TheVariants.{FuelUsedUp}
+use Rattle.machine_state.specs.declared.Stop.TheVariants.{GoesOn, Ended}
 use Rattle.machine_state.specs.declared.Answer.{Answer}
-use Rattle.machine_state.specs.Inner.States.{words_from, waiting, frame_of, state_of, step_of, refusal_number, stopped_by, first, Going, Held, Lent}
+use Rattle.machine_state.specs.Inner.States.{words_from, waiting, frame_of, state_of, step_of, refusal_number, refused_by, first, Going, Held, Lent}
 use Rattle.operations.specs.Inner.Effects.{Does, Steps}
 use Rattle.machine_state.specs.Inner.Answers.{run_answer, nothing_done, in_64_bits, due_at, Reports, Performed}
 use Rattle.machine_state.proofs.Laws.{stops, not_ended, ended_or}
@@ -202,7 +203,7 @@ module _ (code input : List ℕ) (fuel : ℕ) (output₀ values₀ returns₀ : 
           (a : Answer) (r : Machine) (output' values' returns' : List ℕ)
           → Fits w64 fuel
           → fuel ≤ units
-          → r ≡ stopped_by FuelUsedUp s
+          → r ≡ refused_by FuelUsedUp s
           → run_answer a ≡ in_64_bits (due_at values' fuel r)
           → output' ≡ output
           → length values' ≡ length values₀

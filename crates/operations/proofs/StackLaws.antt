@@ -9,19 +9,20 @@ use native.Mathlib.Omega.{arith}
 use borrow.Author.Tests.{eq-eqb, ne_eqb, lt-ltb, le-ltb}
 use lib.ListN.{length, get_or, set, length-set}
 use Rattle.formats.specs.Arithmetic.{plus, result_of}
-use Rattle.formats.specs.Refusals.{cannot_perform, out_of_range}
+use Rattle.formats.specs.Refusals.{cannot_perform}
 use Rattle.meaning.specs.Instructions.{Operation, Push, Get, Add, Ifnot, Slide, Drop}
 use Rattle.meaning.specs.Performing.{Setting, Step, goes, refuses, to_next, holding, if_room, push_word, push_result, operate}
 use Rattle.meaning.specs.Running.{value_words}
 use Rattle.numbers.specs.Inner.Sums.{word_in}
 use Rattle.std.specs.Prelude.{Option, Some, None}
 use Rattle.machine_state.specs.declared.Machine.{Machine}
-use Rattle.machine_state.specs.declared.Stop.{Stop}
-use Rattle.machine_state.specs.declared.Stop.TheVariants.{CannotPerform, OutOfRange}
-use Rattle.machine_state.specs.Inner.States.{words_from, state_of, Held, Sound, stopped_by, next_to, jump_to}
+use Rattle.refusal.specs.Inner.Numbers.{number}
+use Rattle.refusal.specs.declared.Refusal.{Refusal}
+use Rattle.refusal.specs.declared.Refusal.TheVariants.{CannotPerform, OutOfRange}
+use Rattle.machine_state.specs.Inner.States.{words_from, state_of, Held, Sound, refused_by, next_to, jump_to}
 use Rattle.operations.specs.Inner.Effects.{OnNumbers, OnValues}
 use Rattle.operations.proofs.Frames.{words_pushed, one_missing, one_taken, two_missing, two_taken, word_found, word_missing, waiting_kept, all_standing}
-use Rattle.operations.proofs.Effects.{moved, held_moved, Names, names_cannot, names_range, refused_so, goes_so}
+use Rattle.operations.proofs.Effects.{moved, held_moved, refused_so, goes_so}
 
 -- ---- an operation refused, and one that goes on in its frame
 
@@ -38,21 +39,20 @@ on_numbers op s r h = record { does = λ m values returns output held. (h values
 
 -- it is refused
 refused :
-    (why : Stop) (number : ℕ) (op : Operation) (values : List ℕ) (s r : Machine)
-    → Names why number
-    → r ≡ stopped_by why s
-    → Becomes op values s (λ returns output. refuses number)
+    (why : Refusal) (op : Operation) (values : List ℕ) (s r : Machine)
+    → r ≡ refused_by why s
+    → Becomes op values s (λ returns output. refuses (number why))
     → OnValues op values values s r
-refused why number op values s r named is e =
-    record { does = λ m returns output h. refused_so m _ values returns output s r why number is (e m returns output h) named h }
+refused why op values s r is e =
+    record { does = λ m returns output h. refused_so m _ values returns output s r why is (e m returns output h) h }
 
 -- it cannot be performed
 cannot :
     (op : Operation) (values : List ℕ) (s r : Machine)
-    → r ≡ stopped_by CannotPerform s
+    → r ≡ refused_by CannotPerform s
     → Becomes op values s (λ returns output. refuses cannot_perform)
     → OnValues op values values s r
-cannot op values s r = refused CannotPerform cannot_perform op values s r names_cannot
+cannot op values s r = refused CannotPerform op values s r
 
 -- it goes on at an address, with the frame's words up to a new top
 stays :
@@ -95,7 +95,7 @@ stays_set op values s r i top x sound lent is above based topped e =
 -- ---- `push`
 
 module _ (values : List ℕ) (x : ℕ) (s r : Machine) (sound : Sound s) where
-  pub push_full : value_words ≤ s.top → r ≡ stopped_by CannotPerform s → OnValues (Push x) values values s r
+  pub push_full : value_words ≤ s.top → r ≡ refused_by CannotPerform s → OnValues (Push x) values values s r
   unfolding operate push_word if_room
   push_full full is =
       cannot (Push x) values s r is
@@ -120,7 +120,7 @@ pub ruleset pushes = (push_full, push_room)
 -- ---- `get`
 
 module _ (values : List ℕ) (k : ℕ) (s r : Machine) where
-  pub get_missing : s.top - s.base ≤ k → r ≡ stopped_by CannotPerform s → OnValues (Get k) values values s r
+  pub get_missing : s.top - s.base ≤ k → r ≡ refused_by CannotPerform s → OnValues (Get k) values values s r
   unfolding operate
   get_missing few is = cannot (Get k) values s r is (λ m returns output h. rw (operate, word_missing values s.base (s.top - s.base) k few))
 
@@ -139,7 +139,7 @@ pub ruleset gets = (get_missing, get_found)
 -- ---- `add`
 
 module _ (values : List ℕ) (s r : Machine) where
-  pub add_missing : s.top - s.base < 2 → r ≡ stopped_by CannotPerform s → OnValues Add values values s r
+  pub add_missing : s.top - s.base < 2 → r ≡ refused_by CannotPerform s → OnValues Add values values s r
   unfolding operate
   add_missing few is = cannot Add values s r is (λ m returns output h. two_missing values s.base s.top _ few)
 
@@ -159,11 +159,11 @@ module _ (values : List ℕ) (s r : Machine) where
         stays_set Add values s r (s.top - 2) (s.top - 1) x sound lent is (omega arith) (omega arith) (omega arith)
         (λ m returns output h. two_taken values s.base s.top _ (omega arith) ∙ rw (result, push_result))
 
-    pub add_outside : sum ≡ None → r ≡ stopped_by OutOfRange s → OnValues Add values values s r
+    pub add_outside : sum ≡ None → r ≡ refused_by OutOfRange s → OnValues Add values values s r
     unfolding operate push_result
     add_outside none_there is =
         let missing = sym is_sum ∙ ap word_in none_there in
-        refused OutOfRange out_of_range Add values s r names_range is
+        refused OutOfRange Add values s r is
         (λ m returns output h. two_taken values s.base s.top _ (omega arith) ∙ rw (missing, push_result))
 
 pub ruleset adds = (add_missing, add_two, add_outside)
@@ -171,7 +171,7 @@ pub ruleset adds = (add_missing, add_two, add_outside)
 -- ---- `ifnot`
 
 module _ (values : List ℕ) (a : ℕ) (s t : Machine) where
-  pub ifnot_missing : s.top ≤ s.base → t ≡ stopped_by CannotPerform s → OnValues (Ifnot a) values values s t
+  pub ifnot_missing : s.top ≤ s.base → t ≡ refused_by CannotPerform s → OnValues (Ifnot a) values values s t
   unfolding operate
   ifnot_missing few is = cannot (Ifnot a) values s t is (λ m returns output h. one_missing values s.base s.top _ few)
 
@@ -195,7 +195,7 @@ pub ruleset ifnots = (ifnot_missing, ifnot_goes, ifnot_stays)
 -- ---- `slide`
 
 module _ (values : List ℕ) (s r : Machine) where
-  pub slide_missing : s.top - s.base < 2 → r ≡ stopped_by CannotPerform s → OnValues Slide values values s r
+  pub slide_missing : s.top - s.base < 2 → r ≡ refused_by CannotPerform s → OnValues Slide values values s r
   unfolding operate
   slide_missing few is = cannot Slide values s r is (λ m returns output h. two_missing values s.base s.top _ few)
 
@@ -216,7 +216,7 @@ pub ruleset slides = (slide_missing, slide_two)
 -- ---- `drop`
 
 module _ (s r : Machine) where
-  pub drop_missing : s.top ≤ s.base → r ≡ stopped_by CannotPerform s → OnNumbers Drop s r
+  pub drop_missing : s.top ≤ s.base → r ≡ refused_by CannotPerform s → OnNumbers Drop s r
   unfolding operate
   drop_missing few is =
       on_numbers Drop s r (λ values. cannot Drop values s r is (λ m returns output h. one_missing values s.base s.top _ few))

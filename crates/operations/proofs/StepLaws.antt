@@ -20,11 +20,11 @@ use Rattle.meaning.specs.Instructions.{Instruction, instruction_bytes, most_inst
 use Rattle.meaning.specs.Instructions.{Push, Get, Add, Ifnot, Jump, Slide, Drop, LeafTag, NodeTag, WriteNumber, ReadTag, ReadNumber, Call, Return}
 use Rattle.meaning.specs.Performing.{Setting, State, refuses, operate, perform, step}
 use Rattle.machine_state.specs.declared.Machine.{Machine}
-use Rattle.machine_state.specs.declared.Stop.TheVariants.{CannotPerform}
-use Rattle.machine_state.specs.Inner.States.{state_of, Held, Sound, limit_of, stopped_by, jump_to}
+use Rattle.refusal.specs.declared.Refusal.TheVariants.{CannotPerform}
+use Rattle.machine_state.specs.Inner.States.{state_of, Held, Sound, limit_of, refused_by, jump_to}
 use Rattle.operations.specs.Inner.Effects.{Does, OnNumbers, OnValues, WritesTag, OnOutput, FromInput, OnInput, OnReturns, FromReturns, Performs, Steps}
 use Rattle.operations.specs.Inner.Checked.{Turns}
-use Rattle.operations.proofs.Effects.{held_moved, names_cannot, refused_so, goes_so}
+use Rattle.operations.proofs.Effects.{held_moved, refused_so, goes_so}
 
 -- ---- the operation that an opcode names
 
@@ -147,14 +147,25 @@ module _ (i input values returns output : List ℕ) (s r : Machine) where
   -- any other opcode
   pub names_none :
       x ≢ 0 → x ≢ 1 → x ≢ 2 → x ≢ 3 → x ≢ 4 → x ≢ 5 → x ≢ 6 → x ≢ 7 → x ≢ 8 → x ≢ 9 → x ≢ 10 → x ≢ 11 → x ≢ 12 → x ≢ 13
-      → r ≡ stopped_by CannotPerform s
+      → r ≡ refused_by CannotPerform s
       → Leaves values returns output
   unfolding operation_of record_at operations
   names_none n0 n1 n2 n3 n4 n5 n6 n7 n8 n9 n10 n11 n12 n13 is =
       let from_7 : 7 ≤ x = but 6 x (but 5 x (but 4 x (but 3 x (but 2 x (but 1 x (but 0 x (omega arith) n0) n1) n2) n3) n4) n5) n6 in
       let from_14 : 14 ≤ x = but 13 x (but 12 x (but 11 x (but 10 x (but 9 x (but 8 x (but 7 x from_7 n7) n8) n9) n10) n11) n12) n13 in
       let unnamed : operation_of (record_at i 0) ≡ none = none_past (operations b operand number) x from_14 in
-      record { does = λ m given h. refused_so m _ values returns output s r CannotPerform cannot_perform is (performs_none m _ _ unnamed) names_cannot h }
+      record { does = λ m given h. refused_so m _ values returns output s r CannotPerform is (performs_none m _ _ unnamed) h }
+
+  -- .. as the one after the last that is named
+  pub names_none_14 : x ≡ 14 → r ≡ refused_by CannotPerform s → Leaves values returns output
+  names_none_14 e is =
+      names_none
+      (λ z. absurd (omega arith)) (λ z. absurd (omega arith)) (λ z. absurd (omega arith)) (λ z. absurd (omega arith)) (λ z. absurd (omega arith))
+      (λ z. absurd (omega arith)) (λ z. absurd (omega arith)) (λ z. absurd (omega arith)) (λ z. absurd (omega arith)) (λ z. absurd (omega arith))
+      (λ z. absurd (omega arith)) (λ z. absurd (omega arith)) (λ z. absurd (omega arith)) (λ z. absurd (omega arith))
+      is
+
+pub ruleset performed_so = (pushes, gets, adds, ifnots, jumps, slides, drops, writes_leaf, writes_node, writes_number, reads_tag, reads_number, calls, returned_so, names_none_14, names_none)
 
 -- ---- `turn`
 
@@ -190,12 +201,12 @@ pub turned_once :
 turned_once i input values returns output values' returns' output' s r d = d.performed (λ e. absurd (omega arith))
 
 module _ (code input values returns output : List ℕ) (limit : ℕ) (s r : Machine) (limited : limit ≡ limit_of (length code)) where
-  pub turns_past : limit ≤ s.address → r ≡ stopped_by CannotPerform s → Steps code input values returns output values returns output s r
+  pub turns_past : limit ≤ s.address → r ≡ refused_by CannotPerform s → Steps code input values returns output values returns output s r
   turns_past h is =
       let none_held : held_by code s.address ≡ none = not_there code s.address (omega arith) in
       record {
         does = λ m holds i held.
-            refused_so m _ values returns output s r CannotPerform cannot_perform is (steps_none m _ (ap (λ f. f s.address) holds ∙ none_held)) names_cannot held;
+            refused_so m _ values returns output s r CannotPerform is (steps_none m _ (ap (λ f. f s.address) holds ∙ none_held)) held;
       }
 
   pub turns_there :
@@ -210,3 +221,5 @@ module _ (code input values returns output : List ℕ) (limit : ℕ) (s r : Mach
         does = λ m holds given held. rw (steps_held m (state_of values returns output s) i (ap (λ f. f s.address) holds ∙ this_held))
             (performs.does m given held);
       }
+
+pub ruleset turning = (turned_once, turns_past, turns_there)

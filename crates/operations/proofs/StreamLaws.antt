@@ -4,17 +4,22 @@ use Prim.Native.Nat.{ℕ, suc, ◌+◌, ◌-◌, ◌≤◌, ◌<◌}
 use mathlib.Core.List.{List, [], ◌∷◌}
 use mathlib.Core.Logic.{◌≢◌}
 use mathlib.Core.Path.{◌≡◌, refl, ap, ◌∙◌}
-use native.Mathlib.Nat.{add-zero, le_refl}
+use native.Mathlib.Nat.{le_refl}
 use native.Mathlib.Numerals.{add-one}
 use native.Mathlib.Omega.{arith}
 use borrow.Author.Tests.{le-leb, lt-leb, lt-ltb, le-ltb}
-use lib.ListN.{length, get_or, set, take, length-set}
+use lib.ListN.{length, get_or, set, take, drop, length-set}
+use borrow.Rule.Slice.PartMut.{put_mid}
+use Rattle.std.specs.Int.{w32, from_le_bytes, to_le_bytes}
+use Rattle.std.specs.Array.{IsFirstChunk}
+use Rattle.std.proofs.lemmas.List.{length-drop, take_all}
+use Rattle.words.proofs.Bytes.{four_read}
+use Rattle.writing.proofs.Placed.{place, four_bytes_of, as_bytes}
 use lib.Seq.{length-take-le}
-use Rattle.formats.specs.Numbers.{bytes_of, number_of, number_at}
-use Rattle.formats.specs.Refusals.{input_ended, not_a_tag, output_full, cannot_perform}
+use Rattle.formats.specs.Numbers.{bytes_of, number_at}
+use Rattle.formats.specs.Refusals.{output_full}
 use Rattle.formats.specs.Tokens.{leaf_tag, node_tag, label_bytes, Tag, no_byte, a_leaf, a_node, other, tag_at}
 use Rattle.formats.specs.Written.{written}
-use Rattle.formats.proofs.Numbers.{number-read}
 use Rattle.formats.proofs.Tokens.{past, at_leaf, at_node, at_other, tag_is}
 use Rattle.formats.proofs.Written.{front_written, after_written, written_one, wrote}
 use Rattle.meaning.specs.Instructions.{WriteNumber, ReadTag, ReadNumber}
@@ -22,12 +27,14 @@ use Rattle.meaning.specs.Performing.{Setting, State, Step, goes, refuses, to_nex
 use Rattle.meaning.specs.Performing.{if_room, write, on_tag, take_number, operate}
 use Rattle.meaning.specs.Running.{value_words}
 use Rattle.machine_state.specs.declared.Machine.{Machine}
-use Rattle.machine_state.specs.declared.Stop.{Stop}
-use Rattle.machine_state.specs.declared.Stop.TheVariants.{GoesOn, InputEnded, NotATag, OutputFull, CannotPerform}
-use Rattle.machine_state.specs.Inner.States.{words_from, frame_of, state_of, Sound, Held, stopped_by, next_to, jump_to}
+use Rattle.refusal.specs.Inner.Numbers.{number}
+use Rattle.refusal.specs.declared.Refusal.{Refusal}
+use Rattle.refusal.specs.declared.Refusal.TheVariants.{InputEnded, NotATag, OutputFull, CannotPerform}
+use Rattle.machine_state.specs.declared.Stop.TheVariants.{GoesOn}
+use Rattle.machine_state.specs.Inner.States.{words_from, frame_of, state_of, Sound, Held, refused_by, next_to, jump_to}
 use Rattle.operations.specs.Inner.Effects.{Does, WritesTag, OnOutput, FromInput, OnInput}
 use Rattle.operations.proofs.Frames.{words_pushed, one_missing, one_taken, waiting_kept, all_standing}
-use Rattle.operations.proofs.Effects.{moved, held_moved, Names, names_ended, names_tag, names_full, names_cannot, refused_so, goes_so}
+use Rattle.operations.proofs.Effects.{moved, held_moved, refused_so, goes_so}
 
 -- ---- bytes to the output
 
@@ -78,10 +85,10 @@ writes_so m due values returns output bytes s top e h going based fewer fits =
 
 module _ (tag : ℕ) (output : List ℕ) (s r : Machine) where
   -- the byte does not fit
-  pub tag_full : length output ≤ s.written → r ≡ stopped_by OutputFull s → WritesTag tag output output s r
+  pub tag_full : length output ≤ s.written → r ≡ refused_by OutputFull s → WritesTag tag output output s r
   tag_full full is = record {
     does = λ m values returns h.
-        refused_so m _ values returns output s r OutputFull output_full is (full_so m values returns output (tag ∷ []) _ s h (omega arith)) names_full h;
+        refused_so m _ values returns output s r OutputFull is (full_so m values returns output (tag ∷ []) _ s h (omega arith)) h;
   }
 
   -- it fits
@@ -102,38 +109,46 @@ pub ruleset tags = (tag_full, tag_fits)
 
 module _ (values output : List ℕ) (s r : Machine) where
   -- no word, which comes first
-  pub number_missing : s.top ≤ s.base → r ≡ stopped_by CannotPerform s → OnOutput WriteNumber values output output s r
+  pub number_missing : s.top ≤ s.base → r ≡ refused_by CannotPerform s → OnOutput WriteNumber values output output s r
   unfolding operate
   number_missing none is = record {
     does = λ m returns h.
-        refused_so m _ values returns output s r CannotPerform cannot_perform is (one_missing values s.base s.top _ none) names_cannot h;
+        refused_so m _ values returns output s r CannotPerform is (one_missing values s.base s.top _ none) h;
   }
 
   module _ (some : s.base < s.top) where
     -- the word's bytes do not fit
     pub number_full :
         length output - s.written < label_bytes
-        → r ≡ stopped_by OutputFull s
+        → r ≡ refused_by OutputFull s
         → OnOutput WriteNumber values output output s r
     unfolding operate bytes_of
     number_full full is = record {
       does = λ m returns h.
           let bytes = bytes_of label_bytes (get_or values (s.top - 1) 0) in
           let over = full_so m values returns output bytes _ s h (omega arith) in
-          refused_so m _ values returns output s r OutputFull output_full is (one_taken values s.base s.top _ some ∙ over) names_full h;
+          refused_so m _ values returns output s r OutputFull is (one_taken values s.base s.top _ some ∙ over) h;
     }
 
     -- they fit
     pub number_fits :
-        (output' : List ℕ)
+        (bytes placed : List ℕ)
         → label_bytes ≤ length output - s.written
-        → output' ≡ written output s.written (bytes_of label_bytes (get_or values (s.top - 1) 0))
+        → bytes ≡ to_le_bytes w32 (get_or values (s.top - 1) 0)
+        → placed ≡ bytes
         → Sound s
         → r ≡ next_to (s.top - 1) s
-        → OnOutput WriteNumber values output output' s (moved r.address r.top r.read (s.written + label_bytes) r)
+        → OnOutput WriteNumber values output (put_mid s.written (s.written + label_bytes - s.written) output placed) s
+        (moved r.address r.top r.read (s.written + label_bytes) r)
     unfolding operate bytes_of
-    number_fits output' fits out sound is = record {
+    number_fits bytes placed fits own put sound is = record {
       does = λ m returns h.
+          let four : length bytes ≡ label_bytes = ap length own in
+          let there = h.written_there in
+          let out : put_mid s.written (s.written + label_bytes - s.written) output placed
+          ≡ written output s.written (bytes_of label_bytes (get_or values (s.top - 1) 0)) =
+          four_bytes_of output _ bytes s.written (get_or values (s.top - 1) 0)
+          (place output s.written bytes _ placed (omega arith) (omega arith) (omega arith) put ∙ as_bytes output s.written bytes) own in
           rw (is, out)
           (writes_so m _ values returns output (bytes_of label_bytes (get_or values (s.top - 1) 0)) s (s.top - 1)
           (one_taken values s.base s.top _ some) h sound.going (omega arith) (omega arith) (omega arith));
@@ -173,31 +188,30 @@ module _ (address : ℕ) (input : List ℕ) (s r : Machine) where
 
   -- .. it is refused, whatever the state
   tag_refused :
-      (g : Tag) (why : Stop) (number : ℕ)
+      (g : Tag) (why : Refusal)
       → tag_at input s.read ≡ g
-      → ((t : State) → on_tag g address t ≡ refuses number)
-      → Names why number
-      → r ≡ stopped_by why s
+      → ((t : State) → on_tag g address t ≡ refuses (number why))
+      → r ≡ refused_by why s
       → OnInput (ReadTag address) input s r
-  tag_refused g why number found refused named is = record {
+  tag_refused g why found refused is = record {
     does = λ values. record {
-      does = λ m returns output e h. refused_so m _ values returns output s r why number is (by_tag m _ g e found ∙ refused _) named h;
+      does = λ m returns output e h. refused_so m _ values returns output s r why is (by_tag m _ g e found ∙ refused _) h;
     };
   }
 
   -- the input has ended; its next byte is no tag; a leaf's; a node's
-  pub tag_ended : length input ≤ s.read → r ≡ stopped_by InputEnded s → OnInput (ReadTag address) input s r
+  pub tag_ended : length input ≤ s.read → r ≡ refused_by InputEnded s → OnInput (ReadTag address) input s r
   unfolding on_tag
-  tag_ended end is = tag_refused no_byte InputEnded input_ended (tag_is (past end)) (λ t. refl) names_ended is
+  tag_ended end is = tag_refused no_byte InputEnded (tag_is (past end)) (λ t. refl) is
 
   module _ (there : s.read < length input) where
     pub tag_other :
         get_or input s.read 0 ≢ leaf_tag
         → get_or input s.read 0 ≢ node_tag
-        → r ≡ stopped_by NotATag s
+        → r ≡ refused_by NotATag s
         → OnInput (ReadTag address) input s r
     unfolding on_tag
-    tag_other no_leaf no_node is = tag_refused other NotATag not_a_tag (tag_is (at_other there no_leaf no_node)) (λ t. refl) names_tag is
+    tag_other no_leaf no_node is = tag_refused other NotATag (tag_is (at_other there no_leaf no_node)) (λ t. refl) is
 
     -- .. it goes on, to an address
     tag_goes :
@@ -240,13 +254,13 @@ pub ruleset tags_in = (tag_ended, tag_other, tag_leaf, tag_node)
 
 module _ (input values : List ℕ) (s r : Machine) where
   -- no room, which comes first
-  pub number_surplus : value_words ≤ s.top → r ≡ stopped_by CannotPerform s → FromInput ReadNumber input values values s r
+  pub number_surplus : value_words ≤ s.top → r ≡ refused_by CannotPerform s → FromInput ReadNumber input values values s r
   unfolding operate if_room
   number_surplus surplus is = record {
     does = λ m returns output e h.
         let full : m.most_words ≤ words_standing (state_of values returns output s) =
         rw (h.words_limit, all_standing values returns output s h.chained h.based) surplus in
-        refused_so m _ values returns output s r CannotPerform cannot_perform is (rw (operate, if_room, le-ltb _ _ full)) names_cannot h;
+        refused_so m _ values returns output s r CannotPerform is (rw (operate, if_room, le-ltb _ _ full)) h;
   }
 
   module _ (more : s.top < value_words) where
@@ -255,29 +269,32 @@ module _ (input values : List ℕ) (s r : Machine) where
     roomy m returns output h = rw (h.words_limit, all_standing values returns output s h.chained h.based) more
 
     -- the four bytes are not there
-    pub number_ended : length input - s.read < label_bytes → r ≡ stopped_by InputEnded s → FromInput ReadNumber input values values s r
+    pub number_ended : length (take (length input - s.read) (drop s.read input)) < label_bytes → r ≡ refused_by InputEnded s → FromInput ReadNumber input values values s r
     unfolding operate if_room take_number
     number_ended end is = record {
       does = λ m returns output e h.
+          let all = length-take-le (length input - s.read) (drop s.read input) (omega (arith, length-drop s.read input)) in
           let cut : length m.input < s.read + label_bytes = rw e (omega arith) in
-          refused_so m _ values returns output s r InputEnded input_ended is
-          (rw (operate, if_room, lt-ltb _ _ (roomy m returns output h), take_number, lt-leb _ _ cut)) names_ended h;
+          refused_so m _ values returns output s r InputEnded is
+          (rw (operate, if_room, lt-ltb _ _ (roomy m returns output h), take_number, lt-leb _ _ cut)) h;
     }
 
     -- they are, and their number is set on top
     pub number_there :
-        (x : ℕ)
-        → label_bytes ≤ length input - s.read
-        → x ≡ number_of (get_or input s.read 0 ∷ get_or input (s.read + 1) 0 ∷ get_or input (s.read + 2) 0 ∷ get_or input (s.read + 3) 0 ∷ [])
+        (label : List ℕ) (x : ℕ)
+        → s.read ≤ length input
+        → IsFirstChunk (take (length input - s.read) (drop s.read input)) label label_bytes
+        → x ≡ from_le_bytes w32 label
         → Sound s
         → r ≡ next_to (s.top + 1) s
         → FromInput ReadNumber input values (set values s.top x) s (moved r.address r.top (s.read + label_bytes) r.written r)
     unfolding operate if_room take_number
-    number_there x whole is_x sound is = record {
+    number_there label x inside front is_x sound is = record {
       does = λ m returns output e h.
-          let there : s.read + label_bytes ≤ length m.input = rw e (omega arith) in
-          let number : x ≡ number_at label_bytes input s.read =
-          number-read label_bytes input s.read _ x (omega arith) (omega arith) is_x (rw add-zero) in
+          let rest : take (length input - s.read) (drop s.read input) ≡ drop s.read input = take_all _ _ (omega (arith, length-drop s.read input)) in
+          let whole : s.read + label_bytes ≤ length input = let enough = front.enough in let long = ap length rest in omega (arith, length-drop s.read input) in
+          let there : s.read + label_bytes ≤ length m.input = rw e whole in
+          let number : x ≡ number_at label_bytes input s.read = four_read input label s.read x whole (front.same ∙ ap (take label_bytes) rest) is_x in
           let count : s.top + 1 - s.base ≡ suc (s.top - s.base) = omega (arith, h.based) in
           let pushed : words_from (set values s.top x) s.base (s.top + 1 - s.base) ≡ x ∷ frame_of values s =
           ap (words_from (set values s.top x) s.base) count

@@ -5,6 +5,7 @@ use mathlib.Core.List.{List}
 use mathlib.Core.Path.{◌≡◌, sym, ap, ◌∙◌}
 use lib.ListN.{length, take}
 use Rattle.std.specs.Prelude.{Result as Answer, Ok, Err}
+use Rattle.std.specs.Result.{IsErrAnd}
 use Rattle.formats.specs.Results.{refusal}
 use Rattle.formats.specs.Blocks.{flat_in}
 use Rattle.formats.specs.Inner.Blocks.{most_bytes}
@@ -13,13 +14,14 @@ use Rattle.refusal.specs.Inner.Numbers.{number}
 use Rattle.refusal.specs.Inner.FilledBuffer.{FilledBuffer}
 use Rattle.refusal.specs.Inner.Verdicts.{verdict_result}
 use Rattle.refusal.specs.declared.Refused.{Refused}
+use Rattle.refusal.proofs.Raised.{raised}
 use Rattle.block_reader.proofs.Taken.{not_taken, taken_out, taken_inside}
 use Rattle.rules.specs.PassTwo.{check_records, check_file}
 
 module _ (s space : List ℕ) (size : length space ≡ most_bytes) (after : List ℕ) (taken : Answer ℕ Refused) (put : FilledBuffer (flat_in s) space after taken) where
-  pub blocks_refuse : (r : Refused) → taken ≡ Err r → refusal (number r.why) r.position ≡ check_file s
+  pub blocks_refuse : (r : Refused) (out : Answer (Unit {0}) Refused) → taken ≡ Err r → IsErrAnd out (λ q. q ≡ r) → verdict_result out ≡ check_file s
   unfolding check_file
-  blocks_refuse r is = sym (then_refused check_records (not_taken s space size after taken put r is))
+  blocks_refuse r out is up = rw (raised out up) (sym (then_refused check_records (not_taken s space size after taken put r is)))
 
   pub passes_say : (bytes : ℕ) (r : Answer (Unit {0}) Refused) → taken ≡ Ok bytes → verdict_result r ≡ check_records (take bytes after) → verdict_result r ≡ check_file s
   unfolding check_file

@@ -21,9 +21,7 @@ pub fn check_file(file: &[u8]) -> Result<(), Refused>
     ensures { verdict_result result ≡ check_file file.now }
 {
     let mut flat = [0u8; MOST_BYTES];
-    // not `?`: the must-fail edit block_left_out is of the arm that hands the refusal on
-    match block_reader::from_blocks(file, &mut flat) {
-        Err(refused) => Err(refused),
-        Ok(bytes) => check_records(&flat[..bytes]),
-    }
+    // `block_reader: from_blocks` says why each of its callers cuts the buffer.
+    let bytes = block_reader::from_blocks(file, &mut flat)?;
+    check_records(&flat[..bytes])
 }

@@ -3,9 +3,9 @@
 
 ghost use Rattle.std.specs.Prelude.{◌≡◌};
 ghost use Rattle.records.specs.Inner.Read.{meant, part_of};
-ghost use Rattle.part_locations.specs.Inner.Locations.{names_inside, depth_inside, Used, part_in, noted};
+ghost use Rattle.part_locations.specs.Inner.Locations.{used_in, part_in, noted};
 
-use frames::{ADDED, FOLLOWED, KEPT, LABELLED, LAST_ARGUMENT, PASSED, TESTED};
+use frames::Role;
 use records::{Part, Record};
 
 // The last word of a frame.
@@ -16,7 +16,7 @@ const LAST_WORD: usize = 15;
 // Cases are lent separately, the outermost first.
 #[derive(Clone, Copy, Debug, PartialEq, Eq)]
 pub struct Location {
-    pub role: u16,
+    pub role: Role,
     pub parent: usize,
     pub slot: usize,
     pub names: usize,
@@ -24,64 +24,42 @@ pub struct Location {
     pub depth: usize,
 }
 
-// How many numbers are named in a part, by what the part is. At its record `names` are named. Here
-// and below a sum stops at the largest 64-bit number; for a program it is small, and fits.
-#[tactic(auto, using(crate::proofs::Parts::namings))]
-fn names_inside(part: Part, names: usize) -> usize
-    ensures { result ≡ names_inside (part_of part) names }
-{
-    match part {
-        Part::UnderNumber => names.saturating_add(1),
-        _ => names,
-    }
-}
-
-// In how many node parts of Cases a part stands, by what the part is. Its record stands in `depth`
-// of them.
-#[tactic(auto, using(crate::proofs::Parts::namings))]
-fn depth_inside(part: Part, depth: usize) -> usize
-    ensures { result ≡ depth_inside (part_of part) depth }
-{
-    match part {
-        Part::UnderTrees => depth.saturating_add(1),
-        _ => depth,
-    }
-}
-
 // What a record does with the value of its part i: the role, the word of its number, and how many
 // numbers are kept when the part is entered. The record has `count` parts and stands at `location`.
-fn used(node: Record, i: usize, count: usize, location: Location) -> (u16, usize, usize)
-    ensures { Used (meant node) i count location result.0 result.1 result.2 }
+#[tactic(auto, using(crate::proofs::Parts::uses))]
+fn used(node: Record, i: usize, count: usize, location: Location) -> (Role, usize, usize)
+    ensures { result ≡ used_in (meant node) i count location }
 {
     let keeps = location.keeps;
     match (node, i) {
-        (Record::Add, 0) => (KEPT, LAST_WORD.saturating_sub(keeps), keeps),
+        (Record::Add, 0) => (Role::Kept, LAST_WORD.saturating_sub(keeps), keeps),
         (Record::Add, _) => (
-            ADDED,
+            Role::Added,
             LAST_WORD.saturating_sub(keeps),
             keeps.saturating_add(1),
         ),
-        (Record::IfZero, 0) => (TESTED, 0, keeps),
-        (Record::IfZero, _) => (PASSED, 0, keeps),
-        (Record::Let, 0) => (KEPT, location.names, keeps),
-        (Record::Let, _) => (PASSED, location.names, keeps),
-        (Record::Leaf, _) => (LABELLED, 0, keeps),
-        (Record::Node, 0) => (FOLLOWED, 0, keeps),
-        (Record::Node, _) => (PASSED, 0, keeps),
+        (Record::IfZero, 0) => (Role::Tested, 0, keeps),
+        (Record::IfZero, _) => (Role::Passed, 0, keeps),
+        (Record::Let, 0) => (Role::Kept, location.names, keeps),
+        (Record::Let, _) => (Role::Passed, location.names, keeps),
+        (Record::Leaf, _) => (Role::Labelled, 0, keeps),
+        (Record::Node, 0) => (Role::Followed, 0, keeps),
+        (Record::Node, _) => (Role::Passed, 0, keeps),
         (Record::Call(_), _) => {
             let kept = keeps.saturating_add(i);
             let slot = LAST_WORD.saturating_sub(kept);
             if count.saturating_sub(i) == 1 {
-                return (LAST_ARGUMENT, slot, kept);
+                return (Role::LastArgument, slot, kept);
             }
-            (KEPT, slot, kept)
+            (Role::Kept, slot, kept)
         }
-        _ => (PASSED, 0, keeps),
+        _ => (Role::Passed, 0, keeps),
     }
 }
 
 // Where part i of the record r stands, which has `count` parts. The part says what is named in it,
-// the record's kind says its role and its word.
+// the record's kind says its role and its word. (Six parameters: `part_in` is a function of these
+// six, and no two of them go together anywhere else.)
 #[tactic(auto, using(crate::proofs::Parts::insides))]
 pub fn inside(
     part: Part,
@@ -94,18 +72,29 @@ pub fn inside(
     ensures { result ≡ part_in (part_of part) (meant node) r i count location }
 {
     let (role, slot, keeps) = used(node, i, count, location);
-    Location {
+    let inner = Location {
         role,
         parent: r,
         slot,
-        names: names_inside(part, location.names),
         keeps,
-        depth: depth_inside(part, location.depth),
+        ..location
+    };
+    match part {
+        Part::Number | Part::Tree | Part::Whole => inner,
+        Part::UnderNumber => Location {
+            names: location.names.saturating_add(1),
+            ..inner
+        },
+        Part::UnderTrees => Location {
+            depth: location.depth.saturating_add(1),
+            ..inner
+        },
     }
 }
 
 // Before a part that names two trees more is entered, the Case's record r is put on top of the
-// stack.
+// stack. (The caller says how high that is, since one stack serves all parts of a program. A cast
+// to 16 bits may lose none, so the record is cut before it.)
 #[tactic(auto, using(crate::proofs::Parts::notes))]
 pub fn note_case(cases: &mut [u16], part: Part, r: usize, depth: usize)
     ensures { cases.new ≡ noted (part_of part) r depth cases.old }

@@ -74,7 +74,6 @@ tree_expected true = refl
 tree_expected false = refl
 
 -- the sort's number decides which type the function's value has
--- the sort's number decides which type the function's value has
 sort_fits : (sort : Sort) (n : ℕ) (tree : Bool) → sort_number sort ≡ n → beq tree (eqb n 1) ≡ has_type sort (expected tree)
 unfolding sort_number has_type is_int is_output_tree
 sort_fits number_valued n true e = rw (← e)
@@ -147,8 +146,6 @@ typed_other s c (Call x) _ _ _ _ _ no_call = absurd (no_call x refl)
 pub ruleset typings = (typed_numbers, typed_leaf, typed_node, typed_call, typed_other)
 
 -- ---- `is_bare_number`
-
--- ---- `is_roomy`
 
 module _ (s : List ℕ) (b : ℕ) (t : Bool) (is : t ≡ eqb (sort_in s b) 1) where
   bare_of : (r : Bool) → ((sort : Sort) (p : ℕ) → sort_number sort ≡ sort_in s b → arity_in s b ≡ p → r ≡ elim sort [ tree_valued ↦ false | number_valued ↦ elim p [ zero ↦ true | suc k ↦ false ] ])

@@ -16,6 +16,8 @@ use Rattle.formats.proofs.Rows.{function_read, flattens}
 use Rattle.refusal.specs.Inner.Numbers.{number}
 use Rattle.refusal.specs.Inner.Verdicts.{verdict_result}
 use Rattle.refusal.specs.declared.Refused.{Refused}
+use Rattle.refusal.proofs.Raised.{raised}
+use Rattle.std.specs.Result.{IsErrAnd}
 use Rattle.rules.specs.Types.{result_type}
 use Rattle.rules.specs.Scopes.{scope, start_of, entered, entered_all}
 use Rattle.rules.specs.PassOne.{pass_over, pass_one}
@@ -56,17 +58,18 @@ pub record Walking (s : List ℕ) (functions end k j : ℕ) : Type 0 where
   pub inside : Inside k end
   pub rest : (program : Program) → read_program s ≡ done program → Left s functions end pass_one row_one program k j
 
-pub walk_none : (s : List ℕ) (functions nodes end k : ℕ) → Bytes s → verdict (read_program s) ≡ done tt → functions ≡ (header_in s).functions → nodes ≡ (header_in s).nodes
-    → k ≡ 1 + functions → end ≡ k + nodes → Walking s functions end k 0
+pub walk_none : (s : List ℕ) (functions end k : ℕ) → Bytes s → verdict (read_program s) ≡ done tt → functions ≡ (header_in s).functions
+    → k ≡ 1 + (header_in s).functions → end ≡ 1 + (header_in s).functions + (header_in s).nodes → Walking s functions end k 0
 unfolding pass_one
-walk_none s functions nodes end k bytes read ef en ek ee =
+walk_none s functions end k bytes read ef ek ee =
     let v = passed_is (read_program s) read in
     let h = program_held s v.value bytes v.is in
     let few = (flattens s v.value bytes v.is).lawful.few_functions in
+    let first : k ≡ 1 + functions = omega arith in
     record {
       some_program = v;
       inside = record { before_end = omega arith; few = omega (arith, h.functions, few, h.few_nodes) };
-      rest = rw ek (all_left s functions end pass_one row_one nodes bytes ef en (rw ek at ee) (λ program. refl));
+      rest = rw first (all_left s functions end pass_one row_one (header_in s).nodes bytes ef refl (omega arith) (λ program. refl));
     }
 
 module _ (s : List ℕ) (functions end k j : ℕ) where
@@ -121,12 +124,12 @@ module _ (s : List ℕ) (functions end k j : ℕ) where
           subst (λ m. Left s functions end pass_one row_one program m (j + 1)) v.second (t.at_hand.later (t.split ∙ then_done _ v.first));
     }
 
-    pub walk_refused : (r : Refused) → walked ≡ Err r → PassSays s (Err r)
-    walk_refused r case = record {
+    pub walk_refused : (r : Refused) (out : Answer (Unit {0}) Refused) → walked ≡ Err r → IsErrAnd out (λ q. q ≡ r) → PassSays s out
+    walk_refused r out case up = rw (raised out up) (record {
       is = λ program e.
           let t = walk program e in
           sym (t.split ∙ then_refused _ (value_refused (λ u. k + size t.at_hand.here.body) t.over (number r.why) r.position (sym t.is_reported ∙ ap reported case)));
-    }
+    })
 
 pub ruleset walking = (walk_none, walk_asked, walk_more, walk_refused, walk-all)
 

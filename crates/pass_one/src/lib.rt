@@ -10,16 +10,17 @@ ghost use Rattle.refusal.specs.Inner.Verdicts.{verdict_result};
 ghost use Rattle.rules.specs.Scopes.{part_scope};
 ghost use Rattle.rules.specs.PassOne.{name_bound};
 ghost use Rattle.rules.specs.Inner.Checks.{check_one};
-ghost use Rattle.pass_one.specs.Inner.Walk.{scope_of, RoomFor, Fits, FitsParts, Typed, Bare, WordTested, Roomy, Tested, Entered, EnteredParts, Starts, PassSays};
+ghost use Rattle.pass_one.specs.Inner.Walk.{scope_of, RoomFor, Fits, Typed, Bare, WordTested, Roomy, Tested, Entered, Starts, PassSays};
 
-use records::{Described, Part, Parts, Record};
+use records::{Described, Part, Record};
 use refusal::{Refusal, Refused};
 
 // The most words above the frame's base.
 const MOST_WORDS: usize = 16;
 
 // What is known on entering a record: number names and tree names bound, words above the frame's
-// base, and whether a tree is expected.
+// base, and whether a tree is expected. (The Scope of `code_scope` is another: it has the words
+// that the names stand on, and no tree names.)
 #[derive(Clone, Copy)]
 struct Scope {
     numbers: usize,
@@ -125,6 +126,7 @@ fn is_roomy(flat: &[u8], node: Record, scope: Scope) -> bool
 }
 
 // A record's own tests: name bound, then type, then words.
+#[tactic(auto, using(crate::proofs::Entries::conditions))]
 fn tests(flat: &[u8], node: Record, scope: Scope, k: usize) -> Result<(), Refused>
     ensures { Tested flat.now scope k node result }
 {
@@ -140,55 +142,51 @@ fn tests(flat: &[u8], node: Record, scope: Scope, k: usize) -> Result<(), Refuse
     Err(Refusal::TooManyWords.at(k))
 }
 
-// Pass one over the expression at record k, entered with this scope: its own tests, then its parts
-// in order. The measure: twice the records left up to the end, and one more for the parts, falls at
-// each call.
-#[cycle(entering)]
-fn enter(flat: &[u8], k: usize, end: usize, scope: Scope) -> Result<usize, Refused>
-    requires { Fits k end (scope_of scope) }
-    ensures { Entered flat.now k end scope result }
-{
-    if end <= k {
-        return Err(Refusal::PrefixForm.at(k));
-    }
-    let Described { node, parts, .. } = records::record_at(flat, k)?;
-    tests(flat, node, scope, k)?;
-    let count = nodes::part_count(flat, parts);
-    enter_parts(flat, parts, 0, count, k + 1, end, scope)
+// What stays the same while a program is walked over: its flat records, and the record after the
+// last node.
+#[derive(Clone, Copy)]
+struct Walk<'a> {
+    flat: &'a [u8],
+    end: usize,
 }
 
-// Pass one over the parts of a record from part i on, the next of them at record k.
-#[cycle(entering)]
-fn enter_parts(
-    flat: &[u8],
-    parts: Parts,
-    i: usize,
-    count: usize,
-    k: usize,
-    end: usize,
-    scope: Scope,
-) -> Result<usize, Refused>
-    requires { FitsParts i k end (scope_of scope) }
-    ensures { EnteredParts flat.now parts i count k end scope result }
-{
-    if count <= i {
-        return Ok(k);
+impl Walk<'_> {
+    // Pass one over the expression at record k, entered with this scope: its own tests, then its
+    // parts in order. The measure, the records left up to the end, falls at each call.
+    #[tactic(auto, using(crate::proofs::Expressions::entering))]
+    fn enter(&self, k: usize, scope: Scope) -> Result<usize, Refused>
+        requires { Fits k self.now.end (scope_of scope) }
+        ensures { Entered self.now.flat.now k self.now.end scope result }
+    {
+        if self.end <= k {
+            return Err(Refusal::PrefixForm.at(k));
+        }
+        let Described { node, parts, .. } = records::record_at(self.flat, k)?;
+        tests(self.flat, node, scope, k)?;
+        let count = nodes::part_count(self.flat, parts);
+        let mut next = k + 1;
+        for i in 0..count {
+            let inner = scope.inside(parts::nth_part(parts, i), i);
+            next = self.enter(next, inner)?;
+        }
+        Ok(next)
     }
-    let inner = scope.inside(parts::nth_part(parts, i), i);
-    let next = enter(flat, k, end, inner)?;
-    enter_parts(flat, parts, i + 1, count, next, end, scope)
 }
 
 // The row "pass one".
+#[tactic(auto, using(crate::proofs::Functions::walking))]
 fn pass(flat: &[u8]) -> Result<(), Refused>
     requires { verdict (read_program flat.now) ≡ done tt }
     ensures { PassSays flat.now result }
 {
     let functions = u16::from(signatures::functions_in(flat));
-    let mut k = 1 + usize::from(functions);
-    let end = k + usize::from(signatures::nodes_in(flat));
+    let walk = Walk {
+        flat,
+        end: signatures::nodes_end(flat),
+    };
+    let mut k = signatures::first_node(flat);
     for j in 0..functions {
-        k = enter(flat, k, end, Scope::start(flat, j))?;
+        k = walk.enter(k, Scope::start(flat, j))?;
     }
     Ok(())
 }

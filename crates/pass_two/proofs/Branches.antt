@@ -15,6 +15,8 @@ use Rattle.formats.specs.Programs.{Expr, case_of, if_zero, size, parts_at}
 use Rattle.formats.proofs.Results.{then_done, then_refused}
 use Rattle.refusal.specs.declared.Refusal.TheVariants.{OutOfOrder, TooManyPending}
 use Rattle.refusal.specs.declared.Refused.{Refused}
+use Rattle.refusal.proofs.Raised.{raised}
+use Rattle.std.specs.Result.{IsErrAnd}
 use Rattle.rules.specs.Limits.{most_pending}
 use Rattle.rules.specs.PassOne.{holds_at}
 use Rattle.rules.specs.PassTwo.{same_names, equal_branches, walk}
@@ -49,9 +51,9 @@ module _ (s : List ℕ) (k last n : ℕ) (p : Pending) (test' : Answer Checked R
   unfolding parts_at
   if_reported {t} h = let o : Ordered s (suc k) last n p test' = rw add-one at ot in o.reports t (first_here (parts_here h))
 
-  pub if_test : (x : Refused) → test' ≡ Err x → OrderedIf s k last n p (Err x)
+  pub if_test : (x : Refused) (out : Answer Checked Refused) → test' ≡ Err x → IsErrAnd out (λ q. q ≡ x) → OrderedIf s k last n p out
   unfolding walk
-  if_test x refused = record { went_on = stopped (suc k) last x; reports = λ t x y h. stays _ _ (if_reported h) refused }
+  if_test x out refused up = rw (raised out up) (record { went_on = stopped (suc k) last x; reports = λ t x y h. stays _ _ (if_reported h) refused })
 
   module _ (test : Checked) (passed : test' ≡ Ok test) (zero' : Answer Checked Refused) (oz : Ordered s test.next last n test.pending zero') where
     zero_reported : {t x y : Expr} → Here s last k (if_zero t x y) → Reports zero' (suc k + size t + size x) (walk n (suc k + size t) (list_of test.pending) x)
@@ -60,12 +62,12 @@ module _ (s : List ℕ) (k last n : ℕ) (p : Pending) (test' : Answer Checked R
         let o : Ordered s (suc k + size t) last n test.pending zero' = rw (came (if_reported h) passed).position at oz in
         o.reports x (first_here (rest_here (parts_here h)))
 
-    pub if-zero : (x : Refused) → zero' ≡ Err x → OrderedIf s k last n p (Err x)
+    pub if-zero : (x : Refused) (out : Answer Checked Refused) → zero' ≡ Err x → IsErrAnd out (λ q. q ≡ x) → OrderedIf s k last n p out
     unfolding walk equal_branches
-    if-zero x refused = record {
+    if-zero x out refused up = rw (raised out up) (record {
       went_on = stopped (suc k) last x;
       reports = λ t x y h. follows _ (if_reported h) passed (stays _ _ (zero_reported h) refused);
-    }
+    })
 
     module _ (zero : Checked) (zero_passed : zero' ≡ Ok zero) (other' : Answer Checked Refused) (oo : Ordered s zero.next last n test.pending other') where
       other_reported : {t x y : Expr} → Here s last k (if_zero t x y)
@@ -76,12 +78,12 @@ module _ (s : List ℕ) (k last n : ℕ) (p : Pending) (test' : Answer Checked R
           let here = rest_here (rest_here (parts_here h)) in
           rw (row_last here.row) at (o.reports y (first_here here))
 
-      pub if_other : (x : Refused) → other' ≡ Err x → OrderedIf s k last n p (Err x)
+      pub if_other : (x : Refused) (out : Answer Checked Refused) → other' ≡ Err x → IsErrAnd out (λ q. q ≡ x) → OrderedIf s k last n p out
       unfolding walk equal_branches
-      if_other x refused = record {
+      if_other x out refused up = rw (raised out up) (record {
         went_on = stopped (suc k) last x;
         reports = λ t x y h. follows _ (if_reported h) passed (follows _ (zero_reported h) zero_passed (stays _ _ (other_reported h) refused));
-      }
+      })
 
       pub if_joined : (other : Checked) (r : Answer Checked Refused) → other' ≡ Ok other → Joined zero.pending other k r → OrderedIf s k last n p r
       unfolding walk
@@ -104,12 +106,12 @@ pub ruleset ifs = (if_test, if-zero, if_other, if_joined)
 module _ (s : List ℕ) (a k last n : ℕ) (p : Pending) (taken : Option Pending) (took : Took p a taken)
     (tried : Answer Pending Refused) (made : Refused) (tries : tried ≡ ok_or taken made)
   where
-    pub case_other : (x : Refused) → made ≡ record { why = OutOfOrder; position = k } → tried ≡ Err x → OrderedCase s a k last n p (Err x)
+    pub case_other : (x : Refused) (out : Answer Checked Refused) → made ≡ record { why = OutOfOrder; position = k } → tried ≡ Err x → IsErrAnd out (λ q. q ≡ x) → OrderedCase s a k last n p out
     unfolding walk
-    case_other x at_k refused =
-        let absent = is_absent taken made x (sym tries ∙ refused) in
+    case_other x out at_k refused up =
+        rw (raised out up) (let absent = is_absent taken made x (sym tries ∙ refused) in
         let is : x ≡ record { why = OutOfOrder; position = k } = its_refusal taken made x (sym tries ∙ refused) ∙ at_k in
-        record { went_on = stopped (suc k) last x; reports = λ v w h. rw is (refuses (then_refused _ (not_taken p a k taken took absent))) }
+        record { went_on = stopped (suc k) last x; reports = λ v w h. rw is (refuses (then_refused _ (not_taken p a k taken took absent))) })
 
     module _ (rest : Pending) (there : tried ≡ Ok rest) (full : Bool) (reported : full ≡ leb most_pending (length (list_of p))) where
       head : taken ≡ Some rest
@@ -141,9 +143,9 @@ module _ (s : List ℕ) (a k last n : ℕ) (p : Pending) (taken : Option Pending
         unfolding parts_at
         leaf_reported {x} h = let o : Ordered s (suc k) last n rest leaf' = rw add-one at ol in o.reports x (first_here (parts_here h))
 
-        pub case_leaf : (x : Refused) → leaf' ≡ Err x → OrderedCase s a k last n p (Err x)
+        pub case_leaf : (x : Refused) (out : Answer Checked Refused) → leaf' ≡ Err x → IsErrAnd out (λ q. q ≡ x) → OrderedCase s a k last n p out
         unfolding equal_branches
-        case_leaf x refused = record { went_on = stopped (suc k) last x; reports = λ x y h. begun x y (stays _ _ (leaf_reported h) refused) }
+        case_leaf x out refused up = rw (raised out up) (record { went_on = stopped (suc k) last x; reports = λ x y h. begun x y (stays _ _ (leaf_reported h) refused) })
 
         module _ (leaf : Checked) (leaf_passed : leaf' ≡ Ok leaf) (inner : Pending) (put : list_of inner ≡ put_two n (n + 1) (list_of rest))
             (node' : Answer Checked Refused) (on : Ordered s leaf.next last (n + 2) inner node')
@@ -157,12 +159,12 @@ module _ (s : List ℕ) (a k last n : ℕ) (p : Pending) (taken : Option Pending
                 let trees : list_of inner ≡ n ∷ (suc n ∷ list_of rest) = rw add-one at (put ∙ two_fit p a k taken took rest head n (n + 1) room) in
                 rw (row_last here.row, trees) at (o.reports y (first_here here))
 
-            pub case_node : (x : Refused) → node' ≡ Err x → OrderedCase s a k last n p (Err x)
+            pub case_node : (x : Refused) (out : Answer Checked Refused) → node' ≡ Err x → IsErrAnd out (λ q. q ≡ x) → OrderedCase s a k last n p out
             unfolding equal_branches
-            case_node x refused = record {
+            case_node x out refused up = rw (raised out up) (record {
               went_on = stopped (suc k) last x;
               reports = λ x y h. begun x y (follows _ (leaf_reported h) leaf_passed (stays _ _ (node_reported h) refused));
-            }
+            })
 
             pub case_joined : (node : Checked) (r : Answer Checked Refused) → node' ≡ Ok node → Joined leaf.pending node k r → OrderedCase s a k last n p r
             case_joined node r node_passed j = record {

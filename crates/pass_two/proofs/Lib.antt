@@ -1,5 +1,5 @@
 -- Laws that the proofs of pass two's functions cite.
 pub mod Answers
 pub mod Branches
-pub mod Walk
+pub mod Expressions
 pub mod Rows

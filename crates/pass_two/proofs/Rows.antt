@@ -7,7 +7,6 @@ use native.Mathlib.Omega.{arith}
 use Rattle.std.specs.Prelude.{Result as Answer, Ok, Err}
 use Rattle.formats.specs.Numbers.{Bytes}
 use Rattle.formats.specs.Results.{Result, done, refusal, and_then, verdict}
-use Rattle.formats.specs.Records.{record_at}
 use Rattle.formats.specs.Programs.{size, Function, Program, signatures}
 use Rattle.formats.specs.Rows.{read_program}
 use Rattle.formats.specs.Inner.Fields.{header_in}
@@ -16,6 +15,8 @@ use Rattle.formats.proofs.Results.{by_result, then_done, then_refused, Followed,
 use Rattle.refusal.specs.Inner.Numbers.{number}
 use Rattle.refusal.specs.Inner.Verdicts.{verdict_result}
 use Rattle.refusal.specs.declared.Refused.{Refused}
+use Rattle.refusal.proofs.Raised.{raised}
+use Rattle.std.specs.Result.{IsErrAnd}
 use Rattle.rules.specs.PassOne.{pass_one}
 use Rattle.rules.specs.Inner.Checks.{check_one}
 use Rattle.rules.specs.PassTwo.{walk, none_left, walk_all, pass_two, both_passes, check_records}
@@ -39,16 +40,17 @@ module _ (s : List ℕ) (functions last : ℕ) where
     pub inside : Inside k last
     pub rest : (program : Program) → read_program s ≡ done program → Left s functions last pass_two row_two program k j
 
-  pub walk_first : (nodes k : ℕ) → Bytes s → verdict (read_program s) ≡ done tt → functions ≡ (header_in s).functions → nodes ≡ (header_in s).nodes
-      → k ≡ 1 + functions → last ≡ k + nodes → Walking k 0
-  unfolding header_in record_at pass_two
-  walk_first nodes k bs read ef en ek el =
+  pub walk_first : (k : ℕ) → Bytes s → verdict (read_program s) ≡ done tt → functions ≡ (header_in s).functions → k ≡ 1 + (header_in s).functions
+      → last ≡ 1 + (header_in s).functions + (header_in s).nodes → Walking k 0
+  unfolding pass_two
+  walk_first k bs read ef ek el =
       let v = passed_is (read_program s) read in
       let h = program_held s v.value bs v.is in
       let few = (flattens s v.value bs v.is).lawful.few_functions in
+      let first : k ≡ 1 + functions = omega arith in
       record {
         inside = record { before_end = omega arith; few = omega (arith, h.functions, few, h.few_nodes) };
-        rest = rw ek (all_left s functions last pass_two row_two nodes bs ef en (rw ek at el) (λ program. refl));
+        rest = rw first (all_left s functions last pass_two row_two (header_in s).nodes bs ef refl (omega arith) (λ program. refl));
       }
 
   module _ (k j : ℕ) (more : j < functions) (w : Walking k j) (r : Answer Checked Refused) (o : OrderedFunction s k last r) where
@@ -68,10 +70,10 @@ module _ (s : List ℕ) (functions last : ℕ) where
           split = t.left ∙ tested (walk 1 k (0 ∷ []) t.here.body) (none_left k) _;
         }
 
-    pub walk_stops : (x : Refused) → r ≡ Err x → PassSays s (Err x)
-    walk_stops x refused = record {
+    pub walk_stops : (x : Refused) (out : Answer (Unit {0}) Refused) → r ≡ Err x → IsErrAnd out (λ q. q ≡ x) → PassSays s out
+    walk_stops x out refused up = rw (raised out up) (record {
       is = λ program e. let t = walked program e in sym (t.split ∙ then_refused _ (stops (o.reports t.at_hand.here.body t.here) refused));
-    }
+    })
 
     pub walk_more : (c : Checked) → r ≡ Ok c → Walking c.next (j + 1)
     walk_more c passed =

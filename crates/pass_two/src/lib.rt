@@ -30,134 +30,129 @@ fn joined(one: Pending, other: Checked, k: usize) -> Result<Checked, Refused>
     Err(Refusal::OutOfOrder.at(k))
 }
 
-// Pass two over the expression at record k, where so many tree names are bound. The measure: three
-// times the records left up to the end, with one more for an expression and two more for a list,
-// falls at each call.
-#[cycle(ordering)]
-fn order_at(
-    flat: &[u8],
-    k: usize,
+// What stays the same while a program is walked over: its flat records, and the record after the
+// last node. (`pass_one` has the like: the methods of a struct stand in its crate.)
+#[derive(Clone, Copy)]
+struct Walk<'a> {
+    flat: &'a [u8],
     end: usize,
-    trees: u16,
-    pending: Pending,
-) -> Result<Checked, Refused>
-    requires { Small k end trees }
-    ensures { Ordered flat.now k end trees pending result }
-{
-    if end <= k {
-        return Err(Refusal::PrefixForm.at(k));
-    }
-    let Described { node, parts, .. } = records::record_at(flat, k)?;
-    let count = nodes::part_count(flat, parts);
-    match node {
-        Record::IfZero => order_if(flat, k, end, trees, pending),
-        Record::Case(t) => order_case(flat, t.a, k, end, trees, pending),
-        Record::Call(c) => order_call(flat, c.a, count, k, end, trees, pending),
-        _ => order_list(flat, 0, count, k + 1, end, trees, pending),
-    }
 }
 
-// Pass two over the Call at record k, which takes the head after its arguments.
-#[cycle(ordering)]
-fn order_call(
-    flat: &[u8],
-    a: u8,
-    count: usize,
-    k: usize,
-    end: usize,
-    trees: u16,
-    pending: Pending,
-) -> Result<Checked, Refused>
-    requires { Small (k + 1) end trees }
-    ensures { OrderedCall flat.now a count k end trees pending result }
-{
-    let after = order_list(flat, 0, count, k + 1, end, trees, pending)?;
-    let rest = after.pending.take_head(a).ok_or(Refusal::OutOfOrder.at(k))?;
-    Ok(Checked {
-        pending: rest,
-        ..after
-    })
-}
-
-// Pass two over a list of arguments, or of parts, from number i on, the next of them at record k:
-// one after the other.
-#[cycle(ordering)]
-fn order_list(
-    flat: &[u8],
-    i: usize,
-    count: usize,
-    k: usize,
-    end: usize,
-    trees: u16,
-    pending: Pending,
-) -> Result<Checked, Refused>
-    requires { Small k end trees }
-    ensures { OrderedList flat.now i count k end trees pending result }
-{
-    if count <= i {
-        return Ok(Checked { pending, next: k });
+impl Walk<'_> {
+    // Pass two over the expression at record k, where so many tree names are bound. The measure:
+    // three times the records left up to the end, with one more for an expression and two more for
+    // a list, falls at each call. The number of names and the trees pending are two parameters: a
+    // struct of both would be taken apart and put together again at each call. `Small` stands in
+    // each clause below, since the record and the number of names differ at each call; a ghost
+    // field of `Walk` could say one of its three parts alone, that `end` is small.
+    #[cycle(ordering)]
+    fn order_at(&self, k: usize, trees: u16, pending: Pending) -> Result<Checked, Refused>
+        requires { Small k self.now.end trees }
+        ensures { Ordered self.now.flat.now k self.now.end trees pending result }
+    {
+        if self.end <= k {
+            return Err(Refusal::PrefixForm.at(k));
+        }
+        let Described { node, parts, .. } = records::record_at(self.flat, k)?;
+        let count = nodes::part_count(self.flat, parts);
+        match node {
+            Record::IfZero => self.order_if(k, trees, pending),
+            Record::Case(t) => self.order_case(t.a, k, trees, pending),
+            Record::Call(c) => self.order_call(c.a, count, k, trees, pending),
+            _ => self.order_list(count, k + 1, trees, pending),
+        }
     }
-    let first = order_at(flat, k, end, trees, pending)?;
-    order_list(flat, i + 1, count, first.next, end, trees, first.pending)
-}
 
-// Pass two over the Case at record k, which takes the head. Its leaf part begins with the other
-// trees; its node part with its two names in front of them. It is not put into its caller, whose
-// frame each of many nested Calls needs.
-#[cycle(ordering)]
-#[inline(never)]
-fn order_case(
-    flat: &[u8],
-    a: u8,
-    k: usize,
-    end: usize,
-    trees: u16,
-    pending: Pending,
-) -> Result<Checked, Refused>
-    requires { Small (k + 1) end trees }
-    ensures { OrderedCase flat.now a k end trees pending result }
-{
-    let rest = pending.take_head(a).ok_or(Refusal::OutOfOrder.at(k))?;
-    if pending.is_full() {
-        return Err(Refusal::TooManyPending.at(k));
+    // Pass two over the Call at record k, which takes the head after its arguments.
+    #[cycle(ordering)]
+    fn order_call(
+        &self,
+        a: u8,
+        count: usize,
+        k: usize,
+        trees: u16,
+        pending: Pending,
+    ) -> Result<Checked, Refused>
+        requires { Small (k + 1) self.now.end trees }
+        ensures { OrderedCall self.now.flat.now a count k self.now.end trees
+            pending result }
+    {
+        let after = self.order_list(count, k + 1, trees, pending)?;
+        let rest = after.pending.take_head(a).ok_or(Refusal::OutOfOrder.at(k))?;
+        Ok(Checked {
+            pending: rest,
+            ..after
+        })
     }
-    let leaf = order_at(flat, k + 1, end, trees, rest)?;
-    let inner = rest.put_two(trees, trees + 1);
-    let node = order_at(flat, leaf.next, end, trees + 2, inner)?;
-    joined(leaf.pending, node, k)
-}
 
-// Pass two over the IfZero at record k. Both its parts begin with the trees that its test left. It
-// is not put into its caller, as above.
-#[cycle(ordering)]
-#[inline(never)]
-fn order_if(
-    flat: &[u8],
-    k: usize,
-    end: usize,
-    trees: u16,
-    pending: Pending,
-) -> Result<Checked, Refused>
-    requires { Small (k + 1) end trees }
-    ensures { OrderedIf flat.now k end trees pending result }
-{
-    let test = order_at(flat, k + 1, end, trees, pending)?;
-    let zero = order_at(flat, test.next, end, trees, test.pending)?;
-    let other = order_at(flat, zero.next, end, trees, test.pending)?;
-    joined(zero.pending, other, k)
-}
-
-// Pass two over a function, its body at record k. At first its parameter alone is pending, at the
-// end no tree.
-fn order_function(flat: &[u8], k: usize, end: usize) -> Result<Checked, Refused>
-    requires { Small k end 1 }
-    ensures { OrderedFunction flat.now k end result }
-{
-    let body = order_at(flat, k, end, 1, Pending::parameter_alone())?;
-    if body.pending.len != 0 {
-        return Err(Refusal::OutOfOrder.at(k));
+    // Pass two over so many arguments, or parts, the first of them at record k: one after the
+    // other.
+    #[cycle(ordering)]
+    #[tactic(auto, using(crate::proofs::Expressions::lists))]
+    fn order_list(
+        &self,
+        count: usize,
+        k: usize,
+        trees: u16,
+        pending: Pending,
+    ) -> Result<Checked, Refused>
+        requires { Small k self.now.end trees }
+        ensures { OrderedList self.now.flat.now count k self.now.end trees
+            pending result }
+    {
+        let mut after = Checked { pending, next: k };
+        for _i in 0..count {
+            after = self.order_at(after.next, trees, after.pending)?;
+        }
+        Ok(after)
     }
-    Ok(body)
+
+    // Pass two over the Case at record k, which takes the head. Its leaf part begins with the other
+    // trees; its node part with its two names in front of them. It is not put into its caller,
+    // whose frame each of many nested Calls needs.
+    #[cycle(ordering)]
+    #[inline(never)]
+    fn order_case(&self, a: u8, k: usize, trees: u16, pending: Pending) -> Result<Checked, Refused>
+        requires { Small (k + 1) self.now.end trees }
+        ensures { OrderedCase self.now.flat.now a k self.now.end trees
+            pending result }
+    {
+        let rest = pending.take_head(a).ok_or(Refusal::OutOfOrder.at(k))?;
+        if pending.is_full() {
+            return Err(Refusal::TooManyPending.at(k));
+        }
+        let leaf = self.order_at(k + 1, trees, rest)?;
+        let inner = rest.put_two(trees, trees + 1);
+        let node = self.order_at(leaf.next, trees + 2, inner)?;
+        joined(leaf.pending, node, k)
+    }
+
+    // Pass two over the IfZero at record k. Both its parts begin with the trees that its test left.
+    // It is not put into its caller, as above.
+    #[cycle(ordering)]
+    #[inline(never)]
+    fn order_if(&self, k: usize, trees: u16, pending: Pending) -> Result<Checked, Refused>
+        requires { Small (k + 1) self.now.end trees }
+        ensures { OrderedIf self.now.flat.now k self.now.end trees pending result }
+    {
+        let test = self.order_at(k + 1, trees, pending)?;
+        let zero = self.order_at(test.next, trees, test.pending)?;
+        let other = self.order_at(zero.next, trees, test.pending)?;
+        joined(zero.pending, other, k)
+    }
+
+    // Pass two over a function, its body at record k. At first its parameter alone is pending, at
+    // the end no tree.
+    fn order_function(&self, k: usize) -> Result<Checked, Refused>
+        requires { Small k self.now.end 1 }
+        ensures { OrderedFunction self.now.flat.now k self.now.end result }
+    {
+        let body = self.order_at(k, 1, Pending::parameter_alone())?;
+        if body.pending.len != 0 {
+            return Err(Refusal::OutOfOrder.at(k));
+        }
+        Ok(body)
+    }
 }
 
 // The row "pass two": one function after the other.
@@ -165,12 +160,14 @@ fn pass(flat: &[u8]) -> Result<(), Refused>
     requires { verdict (read_program flat.now) ≡ done tt }
     ensures { PassSays flat.now result }
 {
-    let functions = usize::from(signatures::functions_in(flat));
-    let mut k = 1 + functions;
-    let end = k + usize::from(signatures::nodes_in(flat));
-    // j is named for the invariant alone
-    for j in 0..functions {
-        k = order_function(flat, k, end)?.next;
+    let functions = signatures::functions_in(flat);
+    let walk = Walk {
+        flat,
+        end: signatures::nodes_end(flat),
+    };
+    let mut k = signatures::first_node(flat);
+    for _j in 0..functions {
+        k = walk.order_function(k)?.next;
     }
     Ok(())
 }

@@ -4,6 +4,7 @@ use mathlib.Core.Bool.{Bool, true, false, ◌&&◌, and-false}
 use mathlib.Core.List.{List, [], ◌∷◌, ◌++◌}
 use mathlib.Core.Logic.{◌≢◌}
 use mathlib.Core.Path.{◌≡◌, refl, sym, ap, ap₂, ◌∙◌}
+use native.Mathlib.Decide.{dec_le}
 use native.Mathlib.Omega.{arith}
 use native.Mathlib.Numerals.{towards_suc}
 use borrow.Author.Tests.{eq-eqb, ne_eqb, le-leb, lt-leb}
@@ -19,6 +20,9 @@ use Rattle.rules.specs.Limits.{most_pending}
 use Rattle.rules.specs.PassTwo.{take_head, same_names}
 use Rattle.rules.proofs.PassTwo.{same-names, names_same}
 use Rattle.std.specs.Bool.{Decides, one_answer}
+use Rattle.std.proofs.lemmas.Bool.Decides.{Decides-eqb}
+use Rattle.std.proofs.lemmas.Slice.Eq.{slice_eq-Decides}
+use lib.Pointwise.{pointwise}
 use Rattle.std.specs.Prelude.{Option, Some, None}
 use Rattle.std.proofs.Math.Seq.{take-suc}
 use Rattle.pending.specs.declared.Pending.{Pending}
@@ -56,33 +60,39 @@ module _ (p : Pending) (a l : ℕ) (counted : l ≡ length_of p) where
   unfolding head_taken
   not_head other = sym (rw (other, head_taken))
 
-  pub took_none : l ≡ 0 → Took p a None
+  pub took_none : (1 ≤ l → ⊥) → Took p a None
   unfolding from_last take_head
-  took_none none =
+  took_none nothing =
+      let none : l ≡ 0 = elim (dec_le 1 l) [ yes some ↦ absurd (nothing some) | no few ↦ omega arith ] in
       let empty : list_of p ≡ [] = counted_list p l counted ∙ ap (from_last p.names) none in
       record { whole = not_head (ap (is_head a) empty); reports = λ k. ap (take_head a k) empty }
 
-  module _ (name : ℕ) (is_name : name ≡ a) (some : l ≢ 0) where
-    head_test : is_head a (list_of p) ≡ eqb (get_or p.names (l - 1) 0) a
-    head_test = ap (is_head a) (by_head p l counted some)
+  module _ (name top : ℕ) (is_name : name ≡ a) (some : 1 ≤ l) (is_top : top ≡ l - 1) where
+    -- the list by its head
+    head_on_top : list_of p ≡ get_or p.names top 0 ∷ from_last p.names top
+    head_on_top = rw is_top (by_head p l counted (λ none. absurd (omega arith)))
+
+    head_test : is_head a (list_of p) ≡ eqb (get_or p.names top 0) a
+    head_test = ap (is_head a) head_on_top
 
     -- taking is a test of the head
-    tested : (k : ℕ) → take_head a k (list_of p) ≡ value_if (eqb (get_or p.names (l - 1) 0) a) out_of_order k (from_last p.names (l - 1))
+    tested : (k : ℕ) → take_head a k (list_of p) ≡ value_if (eqb (get_or p.names top 0) a) out_of_order k (from_last p.names top)
     unfolding take_head
-    tested k = ap (take_head a k) (by_head p l counted some)
+    tested k = ap (take_head a k) head_on_top
 
-    pub took_other : get_or p.names (l - 1) 0 ≢ name → Took p a None
+    pub took_other : get_or p.names top 0 ≢ name → Took p a None
     took_other named =
-        let other : get_or p.names (l - 1) 0 ≢ a = rw is_name at named in
+        let other : get_or p.names top 0 ≢ a = rw is_name at named in
         record { whole = not_head (head_test ∙ ne_eqb _ _ other); reports = λ k. tested k ∙ rw (ne_eqb _ _ other) }
 
-    pub took_head : get_or p.names (l - 1) 0 ≡ name → Took p a (Some (record { names = p.names; len = l - 1 }))
+    pub took_head : get_or p.names top 0 ≡ name → Took p a (Some (record { names = p.names; len = top }))
     unfolding head_taken
     took_head named =
         let test : is_head a (list_of p) ≡ true = head_test ∙ eq-eqb _ _ (named ∙ is_name) in
+        let less : length_of p - 1 ≡ top = omega arith in
         record {
-          whole = sym (rw (test, head_taken, counted));
-          reports = λ k. tested k ∙ rw (eq-eqb _ _ (named ∙ is_name), short_list p.names (l - 1) (omega arith));
+          whole = sym (rw (test, head_taken, less));
+          reports = λ k. tested k ∙ rw (eq-eqb _ _ (named ∙ is_name), short_list p.names top (omega arith));
         }
 
 pub ruleset heads = (took_none, took_other, took_head)
@@ -156,11 +166,13 @@ module _ (one other : Pending) (l m : ℕ) (counted : l ≡ length_of one) (coun
   pub same_lengths : l ≢ m → false ≡ same_names (list_of one) (list_of other)
   same_lengths h = sym (not_same (list_of one) (list_of other) (λ e. h (omega (arith, length_list one, length_list other))))
 
-  pub same_told : l ≡ m → length one.names ≡ most_pending → length other.names ≡ most_pending → (r : Bool) → Decides r (take l one.names ≡ take l other.names)
+  pub same_told : l ≡ m → length one.names ≡ most_pending → length other.names ≡ most_pending → (r : Bool) → r ≡ pointwise eqb (take l one.names) (take l other.names)
       → r ≡ same_names (list_of one) (list_of other)
   same_told e long long' r told =
-      names_told one.names other.names l r (omega arith) (omega arith) told
+      names_told one.names other.names l r (omega arith) (omega arith) (slice_eq-Decides Decides-eqb _ _ r told)
       ∙ sym (ap₂ same_names (counted_list one l counted) (counted_list other l (e ∙ counted')))
+
+pub ruleset compared = (same_lengths, same_told)
 
 -- ---- for callers: what taking the head gives; and two names fit after it, if the list was not
 -- full

@@ -12,7 +12,7 @@ use refusal::Refusal;
 // first five slots. What the run wrote is at the start of `output`, and the rest is untouched. With
 // fewer than 16,384 words in `values` or 2,048 in `returns`: 13, and both are untouched; after a
 // run they are unspecified. With fewer than five slots in `answer`: 13, and all buffers are
-// untouched.
+// untouched. (Why each call tests the slots by itself: see `answers: report`.)
 pub fn perform(
     code: &[u8],
     input: &[u8],

@@ -31,10 +31,7 @@ pub fn prepare(
         (prepared (length code.old) values returns file.now)
         code.old code.new result }
 {
-    if values < VALUE_WORDS {
-        return too_few_words(file);
-    }
-    if returns < RETURN_WORDS {
+    if values < VALUE_WORDS || returns < RETURN_WORDS {
         return too_few_words(file);
     }
     translate::translate_file(file, code)

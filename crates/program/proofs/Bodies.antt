@@ -58,13 +58,13 @@ module _ (s : List ℕ) (functions : ℕ) where
     pub near : first ≤ 1 + functions + 65535 * j
     pub rest : (gs : List Signature) (ks : List Kind) → function_row (header_in s) s ≡ done gs → node_row (header_in s) s ≡ done ks → Left gs ks first j
 
-  pub bodies_none : functions ≡ (header_in s).functions → Bodied (1 + functions) 0
+  pub bodies_none : (first : ℕ) → functions ≡ (header_in s).functions → first ≡ 1 + (header_in s).functions → Bodied first 0
   unfolding header_in record_at node_row node_in prefix_row
-  bodies_none ef = record {
+  bodies_none first ef is = record {
     near = omega arith;
     rest = λ gs ks eg ek.
         let g = summed_inv (header_in s) s gs eg in
-        let position : suc (header_in s).functions ≡ 1 + functions = omega arith in
+        let position : suc (header_in s).functions ≡ first = omega arith in
         record {
           signed = gs;
           kinds = ks;
@@ -115,8 +115,8 @@ module _ (s : List ℕ) (functions : ℕ) where
           let long : first + count - first ≡ count = omega arith in
           reported.is (arity_of gs) here (arity_read s gs eg) (rw long e)
 
-      pub bodies_more : count < 65536 → not one ≡ false → Bodied (first + count) (j + 1)
-      bodies_more small u = record {
+      pub bodies_more : (read : ℕ) → count ≡ read → read < 65536 → not one ≡ false → Bodied (first + count) (j + 1)
+      bodies_more read same small u = record {
         near = omega (arith, b.near);
         rest = λ gs ks eg ek.
             let t = turn gs ks first j count more is (b.rest gs ks eg ek) in

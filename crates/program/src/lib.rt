@@ -18,10 +18,10 @@ fn one_expression(flat: &[u8], first: usize, end: usize) -> bool
 {
     let mut standing: usize = 0;
     for k in (first..end).rev() {
-        match standing.checked_sub(nodes::parts_at(flat, k)) {
-            Some(left) => standing = left + 1,
-            None => return false,
-        }
+        let Some(left) = standing.checked_sub(nodes::parts_at(flat, k)) else {
+            return false;
+        };
+        standing = left + 1;
     }
     standing == 1
 }
@@ -30,10 +30,10 @@ fn one_expression(flat: &[u8], first: usize, end: usize) -> bool
 fn prefix_row(flat: &[u8]) -> Result<(), Refused>
     ensures { PrefixSays flat.now (verdict_result result) }
 {
-    let functions = signatures::functions_in(flat) as u16;
-    let mut first = 1 + (functions as usize);
+    let functions = u16::from(signatures::functions_in(flat));
+    let mut first = signatures::first_node(flat);
     for j in 0..functions {
-        let end = first + (signatures::count(flat, j) as usize);
+        let end = first + usize::from(signatures::count(flat, j));
         if !one_expression(flat, first, end) {
             return Err(Refusal::PrefixForm.at(first));
         }

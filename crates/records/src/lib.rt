@@ -62,7 +62,8 @@ pub enum Part {
     UnderTrees,
 }
 
-// A record's parts in order: none to three, or the number arguments of a function.
+// A record's parts in order: none to three, or the number arguments of a function. (Definitions and
+// proofs go by cases on these values; an array or a slice would need its length besides.)
 #[derive(Clone, Copy, Debug, PartialEq, Eq)]
 pub enum Parts {
     None,
@@ -91,7 +92,7 @@ pub enum Item {
     Call(u16),
 }
 
-// Items in a row.
+// Items in a row. (Cases, as `Parts` are, for the same reason.)
 #[derive(Clone, Copy, Debug, Default, PartialEq, Eq)]
 pub enum Items {
     #[default]
@@ -128,7 +129,7 @@ fn zero(a: u8, b: u16, i: u32) -> bool
 fn callable(b: u16, i: u32, functions: u8) -> bool
     ensures { result ≡ (ltb b functions && eqb i 0) }
 {
-    b < (functions as u16) && i == 0
+    b < u16::from(functions) && i == 0
 }
 
 // An item after all parts.
@@ -189,6 +190,9 @@ fn row(
 
 // The one match over the kind number. Each arm has the kind's operands, its parts with what is
 // expected and named in each, its template, and whether the fields that it does not use are right.
+// (It is long because it is the specification's table of kinds, one arm for each row. Its six
+// parameters are the fields of a record as they are read, for one caller: a struct of them would be
+// made there, and taken apart here.)
 fn record_of(
     kind: u8,
     a: u8,

@@ -1,3 +1,4 @@
--- Laws of the numbers of refusals, and of lent buffers that are filled.
+-- Laws of the numbers of refusals, of refusals that go up, and of lent buffers that are filled.
 pub mod Number
+pub mod Raised
 pub mod FilledBuffer

@@ -1,25 +1,29 @@
 -- Bytes counted and written: a law for each way out of the functions.
-use Prim.Native.Nat.{ℕ, ◌+◌, ◌≤◌, ◌<◌}
+use Prim.Native.Nat.{ℕ, ◌+◌, ◌/◌, ◌%◌, ◌≤◌, ◌<◌}
 use mathlib.Core.Bool.{Bool, true, false}
 use mathlib.Core.List.{List, [], ◌∷◌}
 use mathlib.Core.Logic.{◌≢◌}
-use mathlib.Core.Path.{◌≡◌, refl, sym, ap, ◌∙◌}
+use mathlib.Core.Path.{◌≡◌, refl, sym, ap, ap₂, ◌∙◌}
 use native.Mathlib.Decide.{dec_le}
 use native.Mathlib.Nat.{add-zero}
 use native.Mathlib.Omega.{arith}
 use borrow.Author.Tests.{lt-ltb, le-ltb}
 use lib.Dec.{ltb}
-use lib.ListN.{length, set}
+use lib.ListN.{length, set, get_or}
 use lib.Seq.{set_out}
+use Rattle.std.specs.Int.{w32, to_le_bytes}
 use Rattle.formats.specs.Numbers.{bytes_of}
 use Rattle.formats.specs.Tokens.{leaf, leaf_tag, node_tag, tokens}
-use Rattle.formats.specs.Inner.Trees.{leaf_bytes}
 use Rattle.formats.specs.Written.{written}
-use Rattle.formats.proofs.Numbers.{length_bytes_of}
-use Rattle.formats.proofs.Written.{written_one, written_append, written_none, written_short}
-use Rattle.stepwise.specs.Inner.Rows.{tags_node, labelled}
+use Rattle.formats.proofs.Written.{written_one, written_none, written_short}
 use Rattle.stepwise.specs.Inner.Steps.{action_at, role_at, emitted_first, emitted_last}
 use Rattle.stepwise.proofs.Steps.{said_node, said_nothing, said_leaf, said_none}
+use Rattle.frames.specs.declared.Action.{Action}
+use Rattle.frames.specs.declared.Action.TheVariants.{TagsNode}
+use Rattle.frames.specs.declared.Role.{Role}
+use Rattle.frames.specs.declared.Role.TheVariants.{Labelled}
+use Rattle.frames.specs.Inner.Named.{action_of_number, role_of_number}
+use Rattle.frames.proofs.Named.{action_says, role_says}
 use Rattle.result_bytes.specs.Inner.Bytes.{count_limit, counted, Says}
 
 -- ---- `count`
@@ -55,48 +59,46 @@ put_written l at x =
 
 -- ---- `write_leaf`
 
-module _ (output : List ℕ) (at label : ℕ) where
-  pub leaf_fits : (tagged output' : List ℕ) → at + leaf_bytes ≤ length output → tagged ≡ set output at leaf_tag
-      → output' ≡ written tagged (at + 1) (bytes_of 4 label)
-      → output' ≡ written output at (tokens (leaf label))
-  unfolding tokens
-  leaf_fits tagged output' room tag e =
-      let fits : at + length (leaf_tag ∷ bytes_of 4 label) ≤ length output = omega (arith, length_bytes_of 4 label) in
-      e
-      ∙ ap (λ (l : List ℕ). written l (at + 1) (bytes_of 4 label)) (tag ∙ put_written output at leaf_tag)
-      ∙ written_append output at (leaf_tag ∷ []) (bytes_of 4 label) fits
+-- the tag and the label's bytes, as the library has them
+pub leaf_written : (output output' bs : List ℕ) (at label : ℕ) → bs ≡ to_le_bytes w32 label
+    → output' ≡ written output at (leaf_tag ∷ get_or bs 0 0 ∷ get_or bs 1 0 ∷ get_or bs 2 0 ∷ get_or bs 3 0 ∷ [])
+    → output' ≡ written output at (tokens (leaf label))
+unfolding tokens bytes_of
+leaf_written output output' bs at label is e =
+    e
+    ∙ ap (λ (l : List ℕ). written output at (leaf_tag ∷ get_or l 0 0 ∷ get_or l 1 0 ∷ get_or l 2 0 ∷ get_or l 3 0 ∷ [])) is
+    ∙ ap₂ (λ (x y : ℕ). written output at (leaf_tag ∷ label % 256 ∷ label / 256 % 256 ∷ x ∷ y ∷ [])) (omega arith) (omega arith)
 
-  -- it does not fit
-  pub leaf_short : length output < at + leaf_bytes → output ≡ written output at (tokens (leaf label))
-  unfolding tokens
-  leaf_short h = sym (written_short output at (tokens (leaf label)) (omega (arith, length_bytes_of 4 label)))
-
-pub ruleset leaves = (leaf_fits, leaf_short)
+pub ruleset leaves = (leaf_written)
 
 -- ---- `emit_first`, `emit_last`
 
 module _ (T output : List ℕ) (r at : ℕ) where
-  pub first_nothing : (k : ℕ) → k ≡ action_at T r → k ≢ tags_node → Says (emitted_first T r) output output at at
-  first_nothing k e h =
-      let none : emitted_first T r ≡ [] = said_nothing T r (rw (← e) h) in
-      record { wrote = rw none (sym (written_none output at)); count = rw none (sym (counted_none at)) }
+  module _ (a : Action) (action : a ≡ action_of_number (action_at T r)) where
+    pub first_nothing : a ≢ TagsNode → Says (emitted_first T r) output output at at
+    unfolding action_of_number
+    first_nothing h =
+        let none : emitted_first T r ≡ [] = said_nothing T r (λ e. h (action ∙ ap action_of_number e)) in
+        record { wrote = rw none (sym (written_none output at)); count = rw none (sym (counted_none at)) }
 
-  pub first-node : (k n : ℕ) (output' : List ℕ) → k ≡ action_at T r → k ≡ tags_node → output' ≡ set output at node_tag → n ≡ counted at 1
-      → Says (emitted_first T r) output output' at n
-  first-node k n output' e h w c =
-      let one : emitted_first T r ≡ node_tag ∷ [] = said_node T r (sym e ∙ h) in
-      record { wrote = rw one (w ∙ put_written output at node_tag); count = rw one c }
+    pub first-node : (n : ℕ) (output' : List ℕ) → a ≡ TagsNode → output' ≡ set output at node_tag → n ≡ counted at 1
+        → Says (emitted_first T r) output output' at n
+    first-node n output' is w c =
+        let one : emitted_first T r ≡ node_tag ∷ [] = said_node T r (action_says (action_at T r) a TagsNode action is) in
+        record { wrote = rw one (w ∙ put_written output at node_tag); count = rw one c }
 
-  pub last_nothing : (x k : ℕ) → k ≡ role_at T r → k ≢ labelled → Says (emitted_last T r x) output output at at
-  last_nothing x k e h =
-      let none : emitted_last T r x ≡ [] = said_none T r x (rw (← e) h) in
-      record { wrote = rw none (sym (written_none output at)); count = rw none (sym (counted_none at)) }
+  module _ (x : ℕ) (k : Role) (role : k ≡ role_of_number (role_at T r)) where
+    pub last_nothing : k ≢ Labelled → Says (emitted_last T r x) output output at at
+    unfolding role_of_number
+    last_nothing h =
+        let none : emitted_last T r x ≡ [] = said_none T r x (λ e. h (role ∙ ap role_of_number e)) in
+        record { wrote = rw none (sym (written_none output at)); count = rw none (sym (counted_none at)) }
 
-  pub last_leaf : (x k n : ℕ) (output' : List ℕ) → k ≡ role_at T r → k ≡ labelled → output' ≡ written output at (tokens (leaf x)) → n ≡ counted at 5
-      → Says (emitted_last T r x) output output' at n
-  unfolding tokens bytes_of
-  last_leaf x k n output' e h w c =
-      let one : emitted_last T r x ≡ tokens (leaf x) = said_leaf T r x (sym e ∙ h) in
-      record { wrote = rw one w; count = rw one c }
+    pub last_leaf : (n : ℕ) (output' : List ℕ) → k ≡ Labelled → output' ≡ written output at (tokens (leaf x)) → n ≡ counted at 5
+        → Says (emitted_last T r x) output output' at n
+    unfolding tokens bytes_of
+    last_leaf n output' is w c =
+        let one : emitted_last T r x ≡ tokens (leaf x) = said_leaf T r x (role_says (role_at T r) k Labelled role is) in
+        record { wrote = rw one w; count = rw one c }
 
 pub ruleset saying = (first_nothing, first-node, last_nothing, last_leaf)

@@ -12,7 +12,8 @@ use machine_state::Answer;
 // How many slots an answer takes.
 const RUN_SLOTS: usize = 5;
 
-// Whether the answer array has all slots.
+// Whether the answer array has all slots. (A function of its own, as `answers: has_room`: the edits
+// six_slots_asked and five_slots_refused hold its constant.)
 pub fn has_room(answer: &[u64]) -> bool
     ensures { result ≡ leb run_slots (length answer.now) }
 {
@@ -32,13 +33,13 @@ pub fn sign_extended(word: u32) -> u64
 pub fn report_run(ran: Answer, answer: &mut [u64]) -> u32
     ensures { AnswersRun (run_answer ran) answer.old answer.new result }
 {
-    let (number, position) = answers::number_and_position(ran.verdict);
+    let (number, position) = answers::number_and_position(ran.outcome);
     let row = [
         position as u64,
         ran.units,
         ran.read as u64,
         ran.written as u64,
-        sign_extended(ran.number),
+        sign_extended(ran.outcome.unwrap_or(0)),
     ];
     answers::store_row(answer, &row, number)
 }

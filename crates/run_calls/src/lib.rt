@@ -11,7 +11,7 @@ use refusal::Refusal;
 // both passes, and every 13, comes before code is written; then the code goes to the start of
 // `code` and stays. Refused with 1 to 13, a call leaves every buffer but `answer` untouched. After
 // a run `values` and `returns` are unspecified. With fewer than five slots in `answer`: 13, and all
-// buffers are untouched.
+// buffers are untouched. (Why each call tests the slots by itself: see `answers: report`.)
 pub fn run(
     file: &[u8],
     input: &[u8],

@@ -9,7 +9,9 @@ ghost use Rattle.formats.specs.Inner.Fields.{header_in, sort_in, arity_in, count
 // A record has so many bytes.
 pub const RECORD_BYTES: usize = 8;
 
-// The number of the sort of a function that gives a tree; 0 is that of one that gives a number.
+// The number of the sort of a function that gives a tree; 0 is that of one that gives a number. (A
+// number and no enum: until the row "functions" has passed the byte may be any, and that row tests
+// it in `functions: function_fits`.)
 pub const TREE_VALUED: u8 = 1;
 
 // How many functions the header says there are.
@@ -28,11 +30,27 @@ pub fn nodes_in(flat: &[u8]) -> u16
     words::read16(flat, 2)
 }
 
+// The record of the first node: after the header and the records of the functions.
+#[tactic(auto, using(crate::proofs::Laws::header_read))]
+pub fn first_node(flat: &[u8]) -> usize
+    ensures { result ≡ 1 + (header_in flat.now).functions }
+{
+    1 + usize::from(functions_in(flat))
+}
+
+// The record after the last node.
+#[tactic(auto, using(crate::proofs::Laws::header_read))]
+pub fn nodes_end(flat: &[u8]) -> usize
+    ensures { result ≡ 1 + (header_in flat.now).functions + (header_in flat.now).nodes }
+{
+    first_node(flat) + usize::from(nodes_in(flat))
+}
+
 // Where a byte of function b's record stands: after the header and the functions before it.
 pub fn byte_of(b: u16, byte: u8) -> usize
     ensures { result ≡ record_bytes * (1 + b) + byte }
 {
-    RECORD_BYTES * (1 + (b as usize)) + (byte as usize)
+    RECORD_BYTES * (1 + usize::from(b)) + usize::from(byte)
 }
 
 // The number of function b's sort.
@@ -45,7 +63,7 @@ pub fn sort_number(flat: &[u8], b: u16) -> u8
 
 // Whether function b gives a tree.
 pub fn gives_tree(flat: &[u8], b: u16) -> bool
-    ensures { result ≡ (sort_in flat.now b == TREE_VALUED) }
+    ensures { result ≡ (sort_in flat.now b == 1) }
 {
     sort_number(flat, b) == TREE_VALUED
 }

@@ -22,6 +22,7 @@ use Rattle.formats.specs.Blocks.{flat_in, program_in}
 use Rattle.formats.specs.Inner.Blocks.{most_bytes}
 use Rattle.formats.proofs.Results.{then_done, then_refused, then_inv, check_inv, passed_is, refused_is}
 use Rattle.formats.proofs.Endings.{read_by, stopped-by}
+use Rattle.formats.proofs.Files.{flat_in_bytes}
 use Rattle.formats.proofs.ProgramFiles.{program_files}
 use Rattle.rules.specs.PassOne.{pass_one}
 use Rattle.walks.proofs.Walks.{program_held}
@@ -43,10 +44,10 @@ use Rattle.meaning.specs.Meaning.{PassesOne}
 use Rattle.meaning.specs.WorkWords.{before_source, WorkWords}
 use Rattle.meaning.proofs.SourceChecks.{file_stops, pass_one_stops, space_stops, tree_left}
 use Rattle.stepwise.specs.Inner.Rows.{row_words, tabled}
-use Rattle.stepwise.specs.Inner.Outcomes.{Reported, reported, reported_of}
+use Rattle.stepwise.specs.Inner.Outcomes.{Reported, reported_of}
 use Rattle.stepwise.proofs.Whole.{comes}
 use Rattle.source.specs.declared.SourceAnswer.{SourceAnswer}
-use Rattle.source.specs.Inner.SourceAnswers.{RefusedAs, reported_result, report_steps, Always, Evaluates, Sourced, OfFile}
+use Rattle.source.specs.Inner.SourceAnswers.{RefusedAs, reported_result, report_steps, Always, Evaluates, answer_of, Sourced}
 
 -- ---- the evaluation's outcome and that of the steps are reported alike
 
@@ -59,7 +60,7 @@ report_same (stops why r) (suc fuel) begun output = refl
 report_same (begins o) zero begun output = refl
 report_same (begins o) (suc fuel) begun output = report_same o fuel (suc begun) output
 
--- ---- `run_records`
+-- ---- the flat records
 
 -- a table and a first record replaced by equal ones
 as_always : (T U input : List ℕ) (first start : ℕ) (o : Outcome Reported) → T ≡ U → start ≡ first → Always U input start o → Always T input first o
@@ -88,19 +89,22 @@ module _ (file input output values returns : List ℕ) (fuel : ℕ) where
   abbrev due : SourceRan
   due = source_run file input output fuel (length values) (length returns)
 
-  refused-before : (number position : ℕ) (r : SourceAnswer) → check_source file input (length values) (length returns) ≡ refusal number position
-      → RefusedAs number position 0 r
-      → Sourced due input output values values returns returns r
+  refused-before : (why : Refused) → check_source file input (length values) (length returns) ≡ refusal (number_of why.why) why.position
+      → Sourced due input output values values returns returns (answer_of (Err why))
   unfolding source_run unless_refused
-  refused-before number position r e reported =
-      let gives_it : due ≡ refused_after 0 number position output = rw (source_run, e) in
-      rw gives_it (record { answer = reported.answer; measures = reported.measures; output = refl; words = untouched (refusal number position) values returns })
+  refused-before why e =
+      let gives_it : due ≡ refused_after 0 (number_of why.why) why.position output = rw (source_run, e) in
+      rw gives_it (record { answer = refl; measures = refl; output = refl; words = untouched (refusal (number_of why.why) why.position) values returns })
 
   -- a call whose checks pass
   ran : (c : SourceInput) → check_source file input (length values) (length returns) ≡ done c
       → due ≡ report_from 0 (with_fuel fuel (evaluation c.program most_calls c.tree)) output
   unfolding source_run
   ran c e = rw (source_run, e)
+
+-- The call on every file that has these flat records.
+pub record OfFile (flat input output output' values values' returns returns' : List ℕ) (fuel : ℕ) (r : SourceAnswer) : Type 0 where
+  pub is : (file : List ℕ) → flat_in file ≡ done flat → Sourced (due file input output values returns fuel) input output' values values' returns returns' r
 
 -- The program of the flat records passes, its rows are in the table, and there are enough work
 -- words: the steps come to the program's outcome on each tree.
@@ -144,15 +148,12 @@ module _ (s table after input output values returns : List ℕ) (fuel : ℕ) (si
       of_rows (refusal n q) is e = by_rows (is ∙ cc)
       of_rows (done program) is e = of_pass program is (pass_one program) refl e
 
-  pub records_refused : (why : Refused) (r : SourceAnswer) → v ≡ Err why
-      → RefusedAs (number_of why.why) why.position 0 r
-      → OfFile s input output output values values returns returns fuel r
-  records_refused why r is reported =
+  pub records_refused : (why : Refused) → v ≡ Err why → OfFile s input output output values values returns returns fuel (answer_of (Err why))
+  records_refused why is =
       record {
         is = λ file e.
-            refused-before file input output values returns fuel (number_of why.why) why.position r
-            (by file e (refuses (number_of why.why) why.position (refused_is (decoded s table) (number_of why.why) why.position (sym d.said_so ∙ ap verdict_result is))))
-            reported;
+            refused-before file input output values returns fuel why
+            (by file e (refuses (number_of why.why) why.position (refused_is (decoded s table) (number_of why.why) why.position (sym d.said_so ∙ ap verdict_result is))));
       }
     where
       by : (file : List ℕ) → flat_in file ≡ done s → Refuses (number_of why.why) why.position → check_source file input (length values) (length returns) ≡ refusal (number_of why.why) why.position
@@ -183,37 +184,32 @@ module _ (s table after input output values returns : List ℕ) (fuel : ℕ) (si
         }
 
     -- too few work words
-    pub records_few : (why : Refused) (r : SourceAnswer) → (length values < value_words) ⊎ (length returns < return_words)
+    pub records_few : (why : Refused) → (length values < value_words) ⊎ (length returns < return_words)
         → why ≡ record { why = SpaceTooShort; position = 0 }
-        → RefusedAs (number_of why.why) why.position 0 r
-        → OfFile s input output output values values returns returns fuel r
-    records_few why r few is refuses =
-        let reported : RefusedAs space_too_short 0 0 r = rw is at refuses in
-        record {
+        → OfFile s input output output values values returns returns fuel (answer_of (Err why))
+    records_few why few is =
+        rw is
+        (record {
           is = λ file e.
-              refused-before file input output values returns fuel space_too_short 0 r
-              (space_stops file input (length values) (length returns) prepared.program (in_file file e ∙ prepared.reads) prepared.passes few)
-              reported;
-        }
+              refused-before file input output values returns fuel (record { why = SpaceTooShort; position = 0 })
+              (space_stops file input (length values) (length returns) prepared.program (in_file file e ∙ prepared.reads) prepared.passes few);
+        })
 
     module _ (vs : value_words ≤ length values) (ps : return_words ≤ length returns) (t : Answer Measures Refused) (read : tree_answered t ≡ first_measures input) where
       only_tree : (file : List ℕ) → flat_in file ≡ done s
           → check_source file input (length values) (length returns) ≡ and_then (first_tree input) (λ t. done (record { program = prepared.program; tree = t }))
       only_tree file e = tree_left file input (length values) (length returns) prepared.program (in_file file e ∙ prepared.reads) prepared.passes vs ps
 
-      pub records_no_tree : (why : Refused) (r : SourceAnswer) → t ≡ Err why
-          → RefusedAs (number_of why.why) why.position 0 r
-          → OfFile s input output output values values returns returns fuel r
-      records_no_tree why r is reported =
+      pub records_no_tree : (why : Refused) → t ≡ Err why → OfFile s input output output values values returns returns fuel (answer_of (Err why))
+      records_no_tree why is =
           record {
             is = λ file e.
-                refused-before file input output values returns fuel (number_of why.why) why.position r
-                (only_tree file e ∙ then_refused _ (stopped-by input (number_of why.why) why.position (sym read ∙ ap tree_answered is)))
-                reported;
+                refused-before file input output values returns fuel why
+                (only_tree file e ∙ then_refused _ (stopped-by input (number_of why.why) why.position (sym read ∙ ap tree_answered is)));
           }
 
     -- all is ready for the evaluation
-    pub records_ready : (first : ℕ) → Bytes s → Bytes input → value_words ≤ length values → return_words ≤ length returns → first ≡ (header_in s).functions + 1
+    pub records_ready : (first : ℕ) → Bytes s → Bytes input → value_words ≤ length values → return_words ≤ length returns → first ≡ 1 + (header_in s).functions
         → Ready s after input values returns first
     unfolding header_in record_at
     records_ready first bytes input_bytes vs ps position =
@@ -262,20 +258,23 @@ records_run s after input output values returns first fuel m t output' values' r
 
 pub ruleset records_ways = (records_refused, records_no_tree)
 
--- ---- `run`
+-- the first node's record, as a word
+pub first_fits : (s : List ℕ) (first : ℕ) → Bytes s → first ≡ 1 + (header_in s).functions → first < 65536
+unfolding header_in record_at
+first_fits s first bytes position = omega (arith, bytes 1)
+
+-- ---- the file
 
 module _ (file space : List ℕ) (size : length space ≡ most_bytes) (after : List ℕ) (taken : Answer ℕ Refused) (put : FilledBuffer (flat_in file) space after taken)
     (input output values returns : List ℕ) (fuel : ℕ)
   where
-    pub file_refused : (why : Refused) (r : SourceAnswer) → taken ≡ Err why
-        → RefusedAs (number_of why.why) why.position 0 r
-        → Sourced (due file input output values returns fuel) input output values values returns returns r
+    pub file_refused : (why : Refused) → taken ≡ Err why
+        → Sourced (due file input output values returns fuel) input output values values returns returns (answer_of (Err why))
     unfolding program_in
-    file_refused why r is reported =
-        refused-before file input output values returns fuel (number_of why.why) why.position r
+    file_refused why is =
+        refused-before file input output values returns fuel why
         (file_stops file input (length values) (length returns) (number_of why.why) why.position
         (then_refused read_program (not_taken file space size after taken put why is)))
-        reported
 
     pub file_run : (bytes : ℕ) (output' values' returns' : List ℕ) (r : SourceAnswer) → taken ≡ Ok bytes
         → OfFile (take bytes after) input output output' values values' returns returns' fuel r
@@ -284,4 +283,25 @@ module _ (file space : List ℕ) (size : length space ≡ most_bytes) (after : L
         let f = taken_out file space size after taken put bytes is in
         o.is file (f.is ∙ ap done (sym f.there))
 
+    pub file_bytes : (bytes : ℕ) → taken ≡ Ok bytes → Bytes file → Bytes (take bytes after)
+    file_bytes bytes is all =
+        let f = taken_out file space size after taken put bytes is in
+        flat_in_bytes file (take bytes after) all (f.is ∙ ap done (sym f.there))
+
 pub ruleset file_ways = (file_refused, taken_inside, file_run)
+
+-- ---- `run`
+
+module _ (due : SourceRan) (input output values values' returns returns' : List ℕ) (r : Answer SourceAnswer Refused)
+    (s : Sourced due input output values values' returns returns' (answer_of r))
+  where
+    pub call_answers : (a : SourceAnswer) → r ≡ Ok a → Sourced due input output values values' returns returns' a
+    call_answers a is = rw is at s
+
+    pub call_refused : (why : Refused) (a : SourceAnswer) → r ≡ Err why → RefusedAs (number_of why.why) why.position 0 a
+        → Sourced due input output values values' returns returns' a
+    call_refused why a is e =
+        let t : Sourced due input output values values' returns returns' (answer_of (Err why)) = rw is at s in
+        record { answer = e.answer ∙ t.answer; measures = e.measures ∙ t.measures; output = t.output; words = t.words }
+
+pub ruleset call_ways = (call_answers, call_refused)

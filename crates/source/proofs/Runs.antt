@@ -2,7 +2,7 @@
 use Prim.Native.Nat.{ℕ, zero, suc, ◌+◌, ◌≤◌, ◌<◌}
 use mathlib.Core.List.{List, [], ◌∷◌}
 use mathlib.Core.Bool.{false}
-use mathlib.Core.Path.{◌≡◌, refl, sym, ap, ◌∙◌}
+use mathlib.Core.Path.{◌≡◌, refl, sym, ap, ap₂, subst, ◌∙◌}
 use native.Mathlib.Decide.{dec_le}
 use native.Mathlib.Nat.{zero-add}
 use native.Mathlib.Omega.{arith}
@@ -15,7 +15,6 @@ use Rattle.formats.proofs.Results.{done_not, refusal_injective}
 use Rattle.formats.proofs.Written.{written_none}
 use Rattle.refusal.specs.Inner.Numbers.{number as number_of}
 use Rattle.std.specs.Prelude.{Ok, Err}
-use Rattle.refusal.specs.Inner.Verdicts.{verdict_result}
 use Rattle.refusal.specs.declared.Refusal.TheVariants.{OutputFull}
 use Rattle.refusal.specs.declared.Refused.{Refused}
 use Rattle.meaning.specs.Running.{value_words, return_words}
@@ -27,12 +26,13 @@ use Rattle.meaning.specs.WorkWords.{before_source}
 use Rattle.meaning.proofs.Outcomes.{given, comes_value, gives_not}
 use Rattle.stepwise.specs.Inner.Outcomes.{Reported, reported}
 use Rattle.source.specs.declared.SourceAnswer.{SourceAnswer}
+use Rattle.source_walk.specs.declared.Value.{Value}
 use Rattle.source_walk.specs.declared.Walked.{Walked}
 use Rattle.source_walk.specs.Inner.Loop.{Walks}
 use Rattle.result_bytes.specs.Inner.Bytes.{count_limit}
 use Rattle.walk_outcome.specs.Inner.Outcomes.{Counts, Reports, reports_value, reports_stop}
 use Rattle.walk_outcome.proofs.Walks.{walk_reports}
-use Rattle.source.specs.Inner.SourceAnswers.{RefusedAs, Gave, reported_result, report_steps, Room, Always, Evaluates}
+use Rattle.source.specs.Inner.SourceAnswers.{RefusedAs, Gave, reported_result, report_steps, Always, Evaluates}
 
 -- ---- the refusals of an evaluation
 
@@ -99,7 +99,7 @@ module _ (T input : List ℕ) (found : Found) (first fuel : ℕ) (output values 
     the_first o always v p =
         walk_reports T input first fuel nothing nothing' values values₁ returns returns₁ c counted o (always.comes values returns v p)
 
-    pub evaluate_stops : (why : Refused) (r : SourceAnswer) → c.verdict ≡ Err why
+    pub evaluate_stops : (why : Refused) (r : SourceAnswer) → c.outcome ≡ Err why
         → RefusedAs (number_of why.why) why.position c.begun r
         → Evaluates T input (measured found) first fuel output output values values₁ returns returns₁ r
     unfolding unless_refused
@@ -111,71 +111,79 @@ module _ (T input : List ℕ) (found : Found) (first fuel : ℕ) (output values 
         }
       where
         by : (o : Outcome Reported) → Reports (with_fuel fuel o) nothing nothing' c → Gave (report_steps 0 (with_fuel fuel o) output) (measured found) output r
-        by o (reports_value out is passes counts wrote) = cc
-        by o (reports_stop reason at is stop) =
+        by o (reports_value v out ends is counts wrote) = cc
+        by o (reports_stop reason at stop ends is number place) =
+            let same : why ≡ stop = cc in
             rw (reported_stop output c.begun reason at (with_fuel fuel o) is)
             (record {
-              answer = e.answer ∙ ap (λ x. record { outcome = x; begun = c.begun; bytes_written = 0; number = 0 }) (sym (ap verdict_result refuses) ∙ stop);
+              answer = e.answer
+                  ∙ ap₂ (λ n p. record { outcome = refusal n p; begun = c.begun; bytes_written = 0; number = 0 })
+                  (ap (λ (x : Refused). number_of x.why) same ∙ number)
+                  (ap (λ (x : Refused). x.position) same ∙ place);
               output = refl;
               measures = e.measures;
               late = λ number place. late_stop (refusal_of reason) (position_of reason at) number place (stop_late reason);
             })
 
-    module _ (u : Unit {0}) (ended : c.verdict ≡ Ok u) where
+    module _ (v : Value) (ended : c.outcome ≡ Ok v) where
       -- The result: its bytes, as many as were counted.
       record Result (o : Outcome Reported) : Type 0 where
         bytes : List ℕ
-        is : with_fuel fuel o ≡ after_begun c.begun (gives (reported c.number bytes))
-        counts : Counts c.written bytes
+        is : with_fuel fuel o ≡ after_begun c.begun (gives (reported v.number bytes))
+        counts : Counts v.written bytes
 
       result : (o : Outcome Reported) → Reports (with_fuel fuel o) nothing nothing' c → Result o
-      result o (reports_value out is passes counts wrote) = record { bytes = out; is = is; counts = counts }
-      result o (reports_stop reason at is stop) = done_not refl (sym (ap verdict_result ended) ∙ stop)
+      result o (reports_value w out ends is counts wrote) =
+          let same : w ≡ v = cc in
+          record {
+            bytes = out;
+            is = is ∙ ap (λ (x : Value). after_begun c.begun (gives (reported x.number out))) same;
+            counts = subst (λ (x : Value). Counts x.written out) same counts;
+          }
+      result o (reports_stop reason at stop ends is number place) = cc
 
-      pub evaluate_full : (n : ℕ) (why : Refused) (r : SourceAnswer) → Room output n → n < c.written → why ≡ record { why = OutputFull; position = 0 }
+      pub evaluate_full : (why : Refused) (r : SourceAnswer) → length output < count_limit → length output < v.written → why ≡ record { why = OutputFull; position = 0 }
           → RefusedAs (number_of why.why) why.position c.begun r
           → Evaluates T input (measured found) first fuel output output values values₁ returns returns₁ r
       unfolding unless_refused
-      evaluate_full n why r room full is refuses =
+      evaluate_full why r short full is refuses =
           let e : RefusedAs output_full 0 c.begun r = rw is at refuses in
           record {
-            gave = λ o always v p.
-                let size = room.is in
-                let short = room.short in
-                let t = result o (the_first o always v p) in
+            gave = λ o always w p.
+                let t = result o (the_first o always w p) in
                 let long : length output < length t.bytes =
-                elim (dec_le count_limit c.written) [ yes h ↦ let m = t.counts.many h in omega arith | no h ↦ let f = t.counts.few (omega arith) in omega arith ] in
-                rw (reported-value output c.begun c.number (with_fuel fuel o) t.bytes t.is, reported_full output c.begun c.number t.bytes long)
+                elim (dec_le count_limit v.written) [ yes h ↦ let m = t.counts.many h in omega arith | no h ↦ let f = t.counts.few (omega arith) in omega arith ] in
+                rw (reported-value output c.begun v.number (with_fuel fuel o) t.bytes t.is, reported_full output c.begun v.number t.bytes long)
                 (record { answer = e.answer; output = refl; measures = e.measures; late = λ number position. late_stop output_full 0 number position full_late });
             long_values = counted.long_values;
             long_returns = counted.long_returns;
           }
 
-      module _ (n : ℕ) (room : Room output n) (few : c.written ≤ n) where
+      module _ (short : length output < count_limit) (few : v.written ≤ length output) where
         -- the count is exact, and the bytes fit
-        exact : (o : Outcome Reported) (t : Result o) → c.written ≡ length t.bytes
-        exact o t = t.counts.few (omega (arith, room.is, room.short))
+        exact : (o : Outcome Reported) (t : Result o) → v.written ≡ length t.bytes
+        exact o t = t.counts.few (omega (arith, short))
 
         fits : (o : Outcome Reported) (t : Result o) → length t.bytes ≤ length output
-        fits o t = omega (arith, exact o t, room.is)
+        fits o t = omega (arith, exact o t)
 
         -- The answer of a run that ended.
         abbrev ends : SourceAnswer
-        ends = record { verdict = Ok tt; begun = c.begun; written = c.written; number = c.number; measures = found }
+        ends = record { outcome = Ok (record { value = v; measures = found }); begun = c.begun }
 
         gives_it : (o : Outcome Reported) (t : Result o) (output' : List ℕ) → output' ≡ written output 0 t.bytes → Gave (report_steps 0 (with_fuel fuel o) output) (measured found) output' ends
         unfolding unless_refused
         gives_it o t output' w =
             let all = exact o t in
-            rw (reported-value output c.begun c.number (with_fuel fuel o) t.bytes t.is, reported_fits output c.begun c.number t.bytes (fits o t))
+            rw (reported-value output c.begun v.number (with_fuel fuel o) t.bytes t.is, reported_fits output c.begun v.number t.bytes (fits o t))
             (record { answer = rw all refl; output = w; measures = refl; late = λ number position. done_not refl })
 
         -- no bytes, and so nothing to write
-        pub evaluate_none : c.written ≡ 0 → Evaluates T input (measured found) first fuel output output values values₁ returns returns₁ ends
+        pub evaluate_none : v.written ≡ 0 → Evaluates T input (measured found) first fuel output output values values₁ returns returns₁ ends
         evaluate_none none =
             record {
-              gave = λ o always v p.
-                  let t = result o (the_first o always v p) in
+              gave = λ o always w p.
+                  let t = result o (the_first o always w p) in
                   let empty : t.bytes ≡ [] = no_bytes t.bytes (sym (exact o t) ∙ none) in
                   gives_it o t output (sym (ap (written output 0) empty ∙ written_none output 0));
               long_values = counted.long_values;
@@ -192,20 +200,20 @@ module _ (T input : List ℕ) (found : Found) (first fuel : ℕ) (output values 
             → Evaluates T input (measured found) first fuel output output' values values₂ returns returns₂ ends
         evaluate_again output' values₂ returns₂ d again =
             record {
-              gave = λ o always v p.
-                  let t = result o (the_first o always v p) in
+              gave = λ o always w p.
+                  let t = result o (the_first o always w p) in
                   let second = walk_reports T input first fuel output output' values₁ values₂ returns₁ returns₂ d again o
-                  (always.comes values₁ returns₁ (rw counted.long_values v) (rw counted.long_returns p)) in
+                  (always.comes values₁ returns₁ (rw counted.long_values w) (rw counted.long_returns p)) in
                   gives_it o t output' (by o t second);
               long_values = again.long_values ∙ counted.long_values;
               long_returns = again.long_returns ∙ counted.long_returns;
             }
           where
             by : (o : Outcome Reported) (t : Result o) → Reports (with_fuel fuel o) output output' d → output' ≡ written output 0 t.bytes
-            by o t (reports_value out is passes counts wrote) =
-                let same : reported d.number out ≡ reported c.number t.bytes = same_value d.begun c.begun _ _ (sym is ∙ t.is) in
+            by o t (reports_value w out ends is counts wrote) =
+                let same : reported w.number out ≡ reported v.number t.bytes = same_value d.begun c.begun _ _ (sym is ∙ t.is) in
                 let bytes : out ≡ t.bytes = ap (λ x. x.bytes) same in
                 wrote (rw bytes (fits o t)) ∙ ap (written output 0) bytes
-            by o t (reports_stop reason at is stop) = absurd (gives_not c.begun d.begun reason at _ (sym t.is ∙ is))
+            by o t (reports_stop reason at stop ends is number place) = absurd (gives_not c.begun d.begun reason at _ (sym t.is ∙ is))
 
 pub ruleset evaluates = (evaluate_stops, evaluate_full, evaluate_none, evaluate_again)

@@ -7,8 +7,7 @@ use lib.Dec.{leb}
 use lib.ListN.{length}
 use Rattle.formats.specs.Refusals.{space_too_short}
 use Rattle.meaning.specs.SourceRun.{SourceRan}
-use Rattle.tree.specs.Inner.TreeResults.{measured}
-use Rattle.source.specs.Inner.SourceAnswers.{source_answer, Sourced}
+use Rattle.source.specs.Inner.SourceAnswers.{source_answer, measures_in, Sourced}
 use Rattle.source.specs.declared.SourceAnswer.{SourceAnswer}
 use Rattle.run_answers.proofs.RunCall.{too_few, enough, not_called, called}
 use Rattle.source_answers.specs.SourceSlots.{source_slots}
@@ -25,9 +24,7 @@ module _ (due : SourceRan) (input output values returns before : List ℕ) (r : 
       (output' values' returns' after : List ℕ) (ran : SourceAnswer)
       → not room ≡ false
       → Sourced due input output' values values' returns returns' ran
-      → AnswersSource (source_answer ran) (measured ran.measures) before after r
+      → AnswersSource (source_answer ran) (measures_in ran.outcome) before after r
       → SourceCall due input output output' values values' returns returns' before after r
   run_answered output' values' returns' after ran u p a =
       called _ _ _ _ _ output values returns before r output' values' returns' after (enough source_slots before room test u) (rw (← p.measures, ← p.answer) a) p.output p.words
-
-pub ruleset ways = (not_run, run_answered)

@@ -14,6 +14,7 @@ use refusal::Refusal;
 // refusal, which leaves `output` untouched. With fewer than 16,384 words in `values` or 2,048 in
 // `returns`: 13. Refused with 1 to 13, 15, 16 or 20, a call leaves both untouched; after a run they
 // are unspecified. With fewer than six slots in `answer`: 13, and all buffers are untouched.
+#[tactic(auto, using(crate::proofs::Laws::run_answered))]
 pub fn source(
     file: &[u8],
     input: &[u8],

@@ -1,86 +1,74 @@
--- What a stage stands for: a law for each mode; and what a step that reaches a turn leaves.
+-- What a stage stands for: a law for each thing that is next; and what a step that reaches a turn
+-- leaves.
 use Prim.Native.Nat.{ℕ}
 use mathlib.Core.List.{List}
-use mathlib.Core.Bool.{Bool, true, false, false≢true}
+use mathlib.Core.Bool.{true, false}
 use mathlib.Core.Logic.{◌≢◌}
-use mathlib.Core.Path.{◌≡◌, refl, sym, ap, ◌∙◌}
+use mathlib.Core.Path.{◌≡◌, refl}
 use lib.ListN.{set, length-set}
 use Rattle.formats.specs.Arithmetic.{Op}
 use Rattle.stepwise.specs.Inner.Steps.{Turn, begin, finished, opens, ended, deep, broken, stuck}
 use Rattle.stages.specs.declared.Stage.{Stage}
-use Rattle.stages.specs.declared.Mode.{Mode}
-use Rattle.stages.specs.declared.Mode.TheVariants.{Begin, Finished, Open, Ended, Deep, Stuck, Broken}
-use Rattle.stages.specs.Inner.Stages.{to_begin, is_finished, to_open, state_of, Missing, turn_of, staged, with_written, stage_of, words_of, returns_of, missing_in, Reaches}
+use Rattle.stages.specs.declared.Next.{Next}
+use Rattle.stages.specs.declared.Next.TheVariants.{Begin, Finished, Open, Ended, Deep, Stuck, Broken}
+use Rattle.stages.specs.Inner.Stages.{to_begin, is_finished, to_open, node_of, number_of, state_of, Missing, turn_of, staged, with_written, stage_of, words_of, returns_of, missing_in, Reaches}
 
--- ---- the tests of a mode
+-- ---- the tests of what is next
 
-pub begin_mode : (m : Mode) → to_begin m ≡ true → m ≡ Begin
-begin_mode Begin e = refl
-begin_mode _ e = cc
+pub begin_next : (n : Next) → to_begin n ≡ true → n ≡ Begin (node_of n)
+begin_next (Begin r) e = refl
+begin_next _ e = cc
 
-pub begin_true : (m : Mode) → m ≡ Begin → to_begin m ≡ true
-begin_true m e = ap to_begin e
-
-pub begin_false : (m : Mode) → m ≢ Begin → to_begin m ≡ false
-begin_false Begin h = absurd (h refl)
+pub begin_false : (n : Next) → ((r : ℕ) → n ≢ Begin r) → to_begin n ≡ false
+begin_false (Begin r) h = absurd (h r refl)
 begin_false _ h = refl
 
-pub finished_mode : (m : Mode) → is_finished m ≡ true → m ≡ Finished
-finished_mode Finished e = refl
-finished_mode _ e = cc
+pub finished_next : (n : Next) → is_finished n ≡ true → n ≡ Finished (node_of n) (number_of n)
+finished_next (Finished r x) e = refl
+finished_next _ e = cc
 
-pub finished_true : (m : Mode) → m ≡ Finished → is_finished m ≡ true
-finished_true m e = ap is_finished e
-
-pub finished_false : (m : Mode) → m ≢ Finished → is_finished m ≡ false
-finished_false Finished h = absurd (h refl)
+pub finished_false : (n : Next) → ((r x : ℕ) → n ≢ Finished r x) → is_finished n ≡ false
+finished_false (Finished r x) h = absurd (h r x refl)
 finished_false _ h = refl
 
-pub open_mode : (m : Mode) → to_open m ≡ true → m ≡ Open
-open_mode Open e = refl
-open_mode _ e = cc
+pub open_next : (n : Next) → to_open n ≡ true → n ≡ Open (node_of n)
+open_next (Open r) e = refl
+open_next _ e = cc
 
-pub open_true : (m : Mode) → m ≡ Open → to_open m ≡ true
-open_true m e = ap to_open e
-
-pub open_false : (m : Mode) → m ≢ Open → to_open m ≡ false
-open_false Open h = absurd (h refl)
+pub open_false : (n : Next) → ((r : ℕ) → n ≢ Open r) → to_open n ≡ false
+open_false (Open r) h = absurd (h r refl)
 open_false _ h = refl
-
--- a test that does not hold is of another mode
-pub other_mode : (f : Mode → Bool) (m k : Mode) → f m ≡ false → f k ≡ true → m ≢ k
-other_mode f m k e h = λ (same : m ≡ k). absurd (false≢true (sym e ∙ ap f same ∙ h))
 
 -- ---- the turn of a stage
 
 module _ (m : Missing) (values returns : List ℕ) (s : Stage) where
-  pub turn_begin : s.mode ≡ Begin → turn_of m values returns s ≡ begin s.node (state_of values returns s)
+  pub turn_begin : (r : ℕ) → s.next ≡ Begin r → turn_of m values returns s ≡ begin r (state_of values returns s)
   unfolding turn_of
-  turn_begin e = rw (turn_of, e)
+  turn_begin r e = rw (turn_of, e)
 
-  pub turn_finished : s.mode ≡ Finished → turn_of m values returns s ≡ finished s.node s.number (state_of values returns s)
+  pub turn_finished : (r x : ℕ) → s.next ≡ Finished r x → turn_of m values returns s ≡ finished r x (state_of values returns s)
   unfolding turn_of
-  turn_finished e = rw (turn_of, e)
+  turn_finished r x e = rw (turn_of, e)
 
-  pub turn_open : s.mode ≡ Open → turn_of m values returns s ≡ opens s.node (state_of values returns s)
+  pub turn_open : (r : ℕ) → s.next ≡ Open r → turn_of m values returns s ≡ opens r (state_of values returns s)
   unfolding turn_of
-  turn_open e = rw (turn_of, e)
+  turn_open r e = rw (turn_of, e)
 
-  pub turn_ended : s.mode ≡ Ended → turn_of m values returns s ≡ ended s.number
+  pub turn_ended : (x : ℕ) → s.next ≡ Ended x → turn_of m values returns s ≡ ended x
   unfolding turn_of
-  turn_ended e = rw (turn_of, e)
+  turn_ended x e = rw (turn_of, e)
 
-  pub turn_deep : s.mode ≡ Deep → turn_of m values returns s ≡ deep s.node
+  pub turn_deep : (r : ℕ) → s.next ≡ Deep r → turn_of m values returns s ≡ deep r
   unfolding turn_of
-  turn_deep e = rw (turn_of, e)
+  turn_deep r e = rw (turn_of, e)
 
-  pub turn_stuck : s.mode ≡ Stuck → turn_of m values returns s ≡ stuck
+  pub turn_stuck : s.next ≡ Stuck → turn_of m values returns s ≡ stuck
   unfolding turn_of
   turn_stuck e = rw (turn_of, e)
 
-  pub turn_broken : s.mode ≡ Broken → turn_of m values returns s ≡ broken m.op m.i m.j s.node
+  pub turn_broken : (r : ℕ) → s.next ≡ Broken r → turn_of m values returns s ≡ broken m.op m.i m.j r
   unfolding turn_of
-  turn_broken e = rw (turn_of, e)
+  turn_broken r e = rw (turn_of, e)
 
 -- what is to be done next does not depend on the bytes written
 pub turn_written : (m : Missing) (values returns : List ℕ) (s : Stage) (at : ℕ) → turn_of m values returns (with_written s at) ≡ turn_of m values returns s
@@ -115,39 +103,39 @@ same_written s stuck = refl
 
 module _ (values returns : List ℕ) (s : Stage) where
   -- the words stay
-  pub reach_begin : (r : ℕ) → Reaches (begin r (state_of values returns s)) values values returns returns s (staged s Begin r 0)
+  pub reach_begin : (r : ℕ) → Reaches (begin r (state_of values returns s)) values values returns returns s (staged s (Begin r))
   unfolding stage_of words_of returns_of
   reach_begin r = record { stage = refl; words = refl; returns_are = refl; words_long = refl; returns_long = refl }
 
-  pub reach_finished : (r x : ℕ) → Reaches (finished r x (state_of values returns s)) values values returns returns s (staged s Finished r x)
+  pub reach_finished : (r x : ℕ) → Reaches (finished r x (state_of values returns s)) values values returns returns s (staged s (Finished r x))
   unfolding stage_of words_of returns_of
   reach_finished r x = record { stage = refl; words = refl; returns_are = refl; words_long = refl; returns_long = refl }
 
-  pub reach_open : (r : ℕ) → Reaches (opens r (state_of values returns s)) values values returns returns s (staged s Open r 0)
+  pub reach_open : (r : ℕ) → Reaches (opens r (state_of values returns s)) values values returns returns s (staged s (Open r))
   unfolding stage_of words_of returns_of
   reach_open r = record { stage = refl; words = refl; returns_are = refl; words_long = refl; returns_long = refl }
 
-  pub reach_ended : (x : ℕ) → Reaches (ended x) values values returns returns s (staged s Ended 0 x)
+  pub reach_ended : (x : ℕ) → Reaches (ended x) values values returns returns s (staged s (Ended x))
   unfolding stage_of words_of returns_of
   reach_ended x = record { stage = refl; words = refl; returns_are = refl; words_long = refl; returns_long = refl }
 
-  pub reach_deep : (r : ℕ) → Reaches (deep r) values values returns returns s (staged s Deep r 0)
+  pub reach_deep : (r : ℕ) → Reaches (deep r) values values returns returns s (staged s (Deep r))
   unfolding stage_of words_of returns_of
   reach_deep r = record { stage = refl; words = refl; returns_are = refl; words_long = refl; returns_long = refl }
 
-  pub reach_broken : (op : Op) (i j r : ℕ) → Reaches (broken op i j r) values values returns returns s (staged s Broken r 0)
+  pub reach_broken : (op : Op) (i j r : ℕ) → Reaches (broken op i j r) values values returns returns s (staged s (Broken r))
   unfolding stage_of words_of returns_of
   reach_broken op i j r = record { stage = refl; words = refl; returns_are = refl; words_long = refl; returns_long = refl }
 
-  pub reach_stuck : Reaches stuck values values returns returns s (staged s Stuck s.node 0)
+  pub reach_stuck : Reaches stuck values values returns returns s (staged s Stuck)
   unfolding stage_of words_of returns_of
   reach_stuck = record { stage = refl; words = refl; returns_are = refl; words_long = refl; returns_long = refl }
 
   -- a number is put on a value word
-  pub put_begin : (i y r : ℕ) → Reaches (begin r (state_of (set values i y) returns s)) values (set values i y) returns returns s (staged s Begin r 0)
+  pub put_begin : (i y r : ℕ) → Reaches (begin r (state_of (set values i y) returns s)) values (set values i y) returns returns s (staged s (Begin r))
   unfolding stage_of words_of returns_of
   put_begin i y r = record { stage = refl; words = refl; returns_are = refl; words_long = length-set values i y; returns_long = refl }
 
-  pub put_open : (i y r : ℕ) → Reaches (opens r (state_of (set values i y) returns s)) values (set values i y) returns returns s (staged s Open r 0)
+  pub put_open : (i y r : ℕ) → Reaches (opens r (state_of (set values i y) returns s)) values (set values i y) returns returns s (staged s (Open r))
   unfolding stage_of words_of returns_of
   put_open i y r = record { stage = refl; words = refl; returns_are = refl; words_long = length-set values i y; returns_long = refl }

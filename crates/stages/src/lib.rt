@@ -7,27 +7,28 @@ ghost use Rattle.stages.specs.Inner.Stages.{staged};
 // The numbers of records are below this limit.
 pub const RECORD_LIMIT: u16 = 2048;
 
-// What is to be done next: a record is to begin, a record is finished, a call is to open; the run
-// has ended, the call would be one too many, the rows lead nowhere, or the operation has no result.
+// What is to be done next: a record is to begin, a record is finished with a number, a call at a
+// record is to open; the run has ended with a number, the call at a record would be one too many,
+// the rows lead nowhere, or the operation at a record has no result.
 #[derive(Clone, Copy, Debug, PartialEq, Eq)]
-pub enum Mode {
-    Begin,
-    Finished,
-    Open,
-    Ended,
-    Deep,
+pub enum Next {
+    Begin(u16),
+    Finished(u16, u32),
+    Open(u16),
+    Ended(u32),
+    Deep(u16),
     Stuck,
-    Broken,
+    Broken(u16),
 }
 
-// What is to be done next, and with which record; the number found where the record is finished;
-// how many calls wait, and the offset of the frame's tree; a tree that was passed, by its offset
-// and its end (0 as long as there is none); how many bytes are written.
+// What is to be done next; how many calls wait, and the offset of the frame's tree; a tree that was
+// passed, by its offset and its end (0 as long as there is none); how many bytes are written. (Two
+// numbers and no Option: `stepwise: known_after` compares the first with the frame's tree, 0 too.
+// Where no tree was passed an Option would answer otherwise in states that no program reaches, and
+// contracts say each one.)
 #[derive(Clone, Copy, Debug, PartialEq, Eq)]
 pub struct Stage {
-    pub mode: Mode,
-    pub node: u16,
-    pub number: u32,
+    pub next: Next,
     pub calls: u16,
     pub tree: usize,
     pub known: usize,
@@ -37,14 +38,9 @@ pub struct Stage {
 
 impl Stage {
     // The same stage, with something else to be done next.
-    pub fn at(self, mode: Mode, r: u16, number: u32) -> Stage
-        ensures { result ≡ staged self mode r number }
+    pub fn at(self, next: Next) -> Stage
+        ensures { result ≡ staged self next }
     {
-        Stage {
-            mode,
-            node: r,
-            number,
-            ..self
-        }
+        Stage { next, ..self }
     }
 }

@@ -22,7 +22,8 @@ pub fn length_of(items: Items) -> usize
     }
 }
 
-// The items before part i.
+// The items before part i. (The parts of a template are three fields, and no array by part: the
+// definitions and proofs go by cases on them, and an array would need a proof of its length.)
 #[tactic(auto, using(crate::proofs::Items::before_ways))]
 pub fn items_before(template: Template, i: usize) -> Items
     ensures { ItemsBefore template i result }
@@ -39,6 +40,5 @@ pub fn items_before(template: Template, i: usize) -> Items
 pub fn entry_of(entries: &[u16], b: u16) -> u16
     ensures { result ≡ entries_in entries.now b }
 {
-    let k = b as usize;
-    entries.get(k).copied().unwrap_or(NO_ENTRY)
+    entries.get(usize::from(b)).copied().unwrap_or(NO_ENTRY)
 }

@@ -16,23 +16,24 @@ use Rattle.refusal.specs.Inner.Verdicts.{verdict_result}
 use Rattle.refusal.specs.declared.Refusal.TheVariants.{SpaceTooShort}
 use Rattle.refusal.specs.declared.Refused.{Refused}
 use Rattle.std.specs.Prelude.{Result as Answer, Ok, Err}
-use Rattle.refusal.proofs.FilledBuffer.{put_refused, put_done}
+use Rattle.std.specs.Result.{IsErrAnd}
+use Rattle.refusal.proofs.FilledBuffer.{put_refused, put_raised, put_done}
 use Rattle.rules.specs.PassTwo.{check_records}
 use Rattle.block_reader.proofs.Taken.{not_taken, taken_out, taken_inside}
 use Rattle.translation.specs.Templates.{operations_of, code_of}
 use Rattle.translation.specs.TranslateAndRun.{checked_records, translate_records, translate_file}
 use Rattle.translation.proofs.Calls.{as_checked}
 use Rattle.translate.specs.declared.Table.{Table}
-use Rattle.translate.specs.Inner.Walk.{Tabled, CodeReady, EmitsAll}
+use Rattle.translate.specs.Inner.Walk.{EmitsAll}
 use Rattle.translate.proofs.Written.{length_bytes}
 
 -- ---- `translate_records`
 
 module _ (s code' : List ℕ) (checks : Answer (Unit {0}) Refused) (reported : verdict_result checks ≡ check_records s) where
-  pub records_refused : (r : Refused) → checks ≡ Err r → FilledBuffer (translate_records (length code') s) code' code' (Err r)
+  pub records_refused : (r : Refused) (out : Answer ℕ Refused) → checks ≡ Err r → IsErrAnd out (λ q. q ≡ r) → FilledBuffer (translate_records (length code') s) code' code' out
   unfolding translate_records
-  records_refused r is =
-      put_refused _ code' r (then_refused _ (refused_is (checked_records s) (number r.why) r.position (sym (as_checked s) ∙ sym reported ∙ ap verdict_result is)))
+  records_refused r out is =
+      put_raised _ code' r out (then_refused _ (refused_is (checked_records s) (number r.why) r.position (sym (as_checked s) ∙ sym reported ∙ ap verdict_result is)))
 
   module _ (u : Unit {0}) (passes : checks ≡ Ok u) where
     pub records_asked : verdict (checked_records s) ≡ done tt
@@ -46,33 +47,30 @@ module _ (s code' : List ℕ) (checks : Answer (Unit {0}) Refused) (reported : v
     unfolding translate_records
     into = then_done (λ program. in_room (length code') (code_of program)) the_program.is
 
-    module _ (t : Table) (tabled : Tabled s t) where
-      long : length (code_of the_program.value) ≡ record_bytes * t.count
+    -- the first time it is only measured
+    module _ (no_entries no_code no_code' : List ℕ) (t : Table) (measured : EmitsAll s no_entries no_code no_code' t) where
+      long : length (code_of the_program.value) ≡ record_bytes * t.instructions
       unfolding code_of
-      long = length_bytes (operations_of the_program.value) ∙ ap (λ n. record_bytes * n) (sym (tabled.count the_program.value the_program.is))
+      long = length_bytes (operations_of the_program.value) ∙ ap (λ n. record_bytes * n) (sym (measured.counted the_program.value the_program.is))
 
-      pub records_short : length code' < record_bytes * t.count → (r : Refused) → r ≡ record { why = SpaceTooShort; position = 0 } → FilledBuffer (translate_records (length code') s) code' code' (Err r)
+      pub records_short : length code' < record_bytes * t.instructions → (r : Refused) → r ≡ record { why = SpaceTooShort; position = 0 } → FilledBuffer (translate_records (length code') s) code' code' (Err r)
       records_short short r is = put_refused _ code' r (into ∙ within_short (length code') _ (omega (arith, long)) ∙ ap (λ (x : Refused). refusal (number x.why) x.position) (sym is))
 
-      pub records_ready : record_bytes * t.count ≤ length code' → CodeReady s t.entries code'
-      records_ready room = record {
-        checked = records_asked;
-        entered = tabled.entries;
-        room = λ program e. omega (arith, tabled.count program e);
-      }
+      pub records_emitted : (after : List ℕ) (again : Table) → record_bytes * t.instructions ≤ length code' → EmitsAll s t.entries code' after again
+          → FilledBuffer (translate_records (length code') s) code' after (Ok (record_bytes * t.instructions))
+      records_emitted after again room l =
+          let v = the_program in
+          let fits : record_bytes * length (operations_of v.value) ≤ length code' = omega (arith, measured.counted v.value v.is) in
+          put_done _ code' after (code_of v.value) (record_bytes * t.instructions) (into ∙ within_room (length code') _ (omega (arith, long))) long (l.is v.value v.is (measured.entries_found v.value v.is) fits)
 
-      pub records_emitted : (after : List ℕ) → record_bytes * t.count ≤ length code' → EmitsAll s code' after → FilledBuffer (translate_records (length code') s) code' after (Ok (record_bytes * t.count))
-      records_emitted after room l =
-          put_done _ code' after (code_of the_program.value) (record_bytes * t.count) (into ∙ within_room (length code') _ (omega (arith, long))) long (l.is the_program.value the_program.is)
-
-pub ruleset records_ways = (records_refused, records_asked, records_short, records_ready, records_emitted)
+pub ruleset records_ways = (records_refused, records_asked, records_short, records_emitted)
 
 -- ---- `translate_file`
 
 module _ (s space : List ℕ) (size : length space ≡ most_bytes) (after : List ℕ) (taken : Answer ℕ Refused) (put : FilledBuffer (flat_in s) space after taken) where
-  pub file_refused : (before : List ℕ) (r : Refused) → taken ≡ Err r → FilledBuffer (translate_file (length before) s) before before (Err r)
+  pub file_refused : (before : List ℕ) (r : Refused) (out : Answer ℕ Refused) → taken ≡ Err r → IsErrAnd out (λ q. q ≡ r) → FilledBuffer (translate_file (length before) s) before before out
   unfolding translate_file
-  file_refused before r is = put_refused _ before r (then_refused (translate_records (length before)) (not_taken s space size after taken put r is))
+  file_refused before r out is = put_raised _ before r out (then_refused (translate_records (length before)) (not_taken s space size after taken put r is))
 
   pub file_put : (before last : List ℕ) (bytes : ℕ) (filled : Answer ℕ Refused) → taken ≡ Ok bytes → FilledBuffer (translate_records (length before) (take bytes after)) before last filled
       → FilledBuffer (translate_file (length before) s) before last filled

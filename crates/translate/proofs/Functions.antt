@@ -2,11 +2,15 @@
 use Prim.Native.Nat.{ℕ, zero, suc, ◌+◌, ◌*◌, ◌≤◌, min}
 use mathlib.Core.Bool.{Bool, true, false}
 use mathlib.Core.List.{List, [], ◌∷◌}
-use mathlib.Core.Path.{◌≡◌, refl, sym, ap, ap₂, ◌∙◌}
+use mathlib.Core.Path.{◌≡◌, refl, sym, ap, ap₂, subst, ◌∙◌}
 use native.Mathlib.Nat.{add-zero}
 use native.Mathlib.Omega.{arith}
+use mir.Syntax.{w64}
+use mir.Val.{Fits}
 use lib.Dec.{eqb}
 use lib.ListN.{length}
+use Rattle.std.specs.Prelude.{Option, Some, None}
+use Rattle.std.proofs.lemmas.Option.{none-some, same_Some}
 use Rattle.formats.specs.Inner.Buffers.{from_last}
 use Rattle.formats.specs.Records.{record_bytes, bytes_of_record, fields}
 use Rattle.formats.specs.Programs.{Sort, number_valued, tree_valued, sort_number, Function, signature_of}
@@ -28,8 +32,9 @@ use Rattle.instruction.specs.declared.Opcode.TheVariants as o
 use Rattle.instruction.specs.Inner.Opcodes.{number_of}
 use Rattle.translate.specs.declared.Emitted.{Emitted}
 use Rattle.translate.specs.Inner.Emitting.{emitted_at}
-use Rattle.translate.specs.Inner.Walk.{Small, Entering, Emits, start_around, Starts, EnteringFunction, EmitsFunction}
+use Rattle.translate.specs.Inner.Walk.{Small, Entering, EmittedHere, Emits, start_around, Starts, EnteringFunction, EmittedFunction, EmitsFunction}
 use Rattle.translate.proofs.Written.{emitted_beyond, emitted_one}
+use Rattle.translate.proofs.Walk.{not_none}
 
 -- ---- `start`
 
@@ -84,8 +89,8 @@ pub ruleset kept = (kept_tree, kept_number)
 
 -- ---- `emit_function`
 
-module _ (s entries code' : List ℕ) (entry j k end : ℕ) (c : Scope) (starts : Starts s j c) (body : Emitted) (between : List ℕ)
-    (small : Small k end entry 0 1) (l : Emits s entries code' between entry 0 k end c body) where
+module _ (s entries code' : List ℕ) (entry j k end : ℕ) (c : Scope) (starts : Starts s j c) (between : List ℕ)
+    (small : Small k end entry 0 1) (found : Option Emitted) (p : Emits s entries code' between entry 0 k end c found) where
   -- the body is entered
   body_entered : (f : Function) → EnteringFunction s j k end f → Entering s k end c f.body
   body_entered f h =
@@ -102,35 +107,56 @@ module _ (s entries code' : List ℕ) (entry j k end : ℕ) (c : Scope) (starts 
         words = omega (arith, small.inside.few, h.few_parameters);
       }
 
-  pub function_emitted : (n : ℕ) (x : Instruction) (after : List ℕ) → n ≡ words_kept (sort_of c.tree)
+  -- where a function's body stands, it is emitted
+  pub function_stuck : found ≡ None → EmitsFunction s entries code' between entry j k end None
+  function_stuck missing = record {
+    answered = λ f h. not_none (p.answered f.body (body_entered f h)) missing;
+    is = λ x same. absurd (none-some x same);
+  }
+
+  pub function_sum : (body : Emitted) → found ≡ Some body → Fits w64 (body.at + 1)
+  function_sum body is = record { fits = omega (arith, small.small, (p.is body is).went_on.small) }
+
+  pub function_emitted : (body : Emitted) (n : ℕ) (x : Instruction) (after : List ℕ) → found ≡ Some body → n ≡ words_kept (sort_of c.tree)
       → x ≡ record { opcode = o.Return; byte1 = 0; operand = 0; number = 0 }
       → after ≡ written between (record_bytes * body.at) (bytes_of_record (fields (number_of x.opcode) n x.operand x.number))
-      → EmitsFunction s entries code' after entry j k end (record { next = body.next; at = body.at + 1; last = 0 })
+      → EmitsFunction s entries code' after entry j k end (Some (record { next = body.next; at = body.at + 1; last = body.last }))
   unfolding function_code function_end instruction_of
-  function_emitted n x after keeps plain wrote = record {
-    went_on = record {
-      went = l.went_on.went;
-      up = omega arith;
-      small = omega (arith, l.went_on.small);
-      last_small = omega arith;
-    };
-    next = λ f h. (l.came f.body (body_entered f h)).next;
-    address = λ f h. omega (arith, address f h);
-    emits = λ f h room.
-        let is = starts.begins.is f h.signature h.few_parameters in
-        let sort : sort_of c.tree ≡ f.sort = ap (λ (x : Around). x.sort) is in
-        let own = code (entries_in entries) f.sort (first_words f.parameters) f.parameters entry f.body in
-        let first : between ≡ emitted_at code' 0 own =
-        l.emits f.body (body_entered f h) (omega arith)
-        ∙ ap₂ (λ (x : Around) a. emitted_at code' 0 (code (entries_in entries) x.sort x.words x.standing a f.body)) is (add-zero entry) in
-        let long : body.at ≡ 0 + length own = omega (arith, address f h, length_code (entries_in entries) f.sort (first_words f.parameters) f.parameters entry f.body) in
-        wrote
-        ∙ ap (λ (y : Instruction). written between (record_bytes * body.at) (bytes_of_record (fields (number_of y.opcode) n y.operand y.number))) plain
-        ∙ ap (λ m. written between (record_bytes * body.at) (bytes_of_record (fields 13 m 0 0))) (keeps ∙ ap words_kept sort)
-        ∙ emitted_one between body.at (Return (words_kept f.sort))
-        ∙ ap (λ (b : List ℕ). emitted_at b body.at (Return (words_kept f.sort) ∷ [])) first
-        ∙ emitted_beyond code' 0 own (Return (words_kept f.sort) ∷ []) body.at long (omega arith);
+  function_emitted body n x after is keeps plain wrote = record {
+    answered = λ f h. refl;
+    is = λ r same. subst (EmittedFunction s entries code' after entry j k end) (same_Some _ r same) emitted;
   }
     where
+      l : EmittedHere s entries code' between entry 0 k end c body
+      l = p.is body is
+
       address : (f : Function) → EnteringFunction s j k end f → entry + body.at ≡ code_end f.body entry
       address f h = (l.came f.body (body_entered f h)).address ∙ ap (code_end f.body) (add-zero entry)
+
+      emitted : EmittedFunction s entries code' after entry j k end (record { next = body.next; at = body.at + 1; last = body.last })
+      emitted = record {
+        went_on = record {
+          went = l.went_on.went;
+          up = omega arith;
+          small = omega (arith, l.went_on.small);
+          last_small = l.went_on.last_small;
+        };
+        next = λ f h. (l.came f.body (body_entered f h)).next;
+        address = λ f h. omega (arith, address f h);
+        emits = λ f h room.
+            let is = starts.begins.is f h.signature h.few_parameters in
+            let sort : sort_of c.tree ≡ f.sort = ap (λ (x : Around). x.sort) is in
+            let own = code (entries_in entries) f.sort (first_words f.parameters) f.parameters entry f.body in
+            let first : between ≡ emitted_at code' 0 own =
+            l.emits f.body (body_entered f h) (omega arith)
+            ∙ ap₂ (λ (x : Around) a. emitted_at code' 0 (code (entries_in entries) x.sort x.words x.standing a f.body)) is (add-zero entry) in
+            let long : body.at ≡ 0 + length own = omega (arith, address f h, length_code (entries_in entries) f.sort (first_words f.parameters) f.parameters entry f.body) in
+            wrote
+            ∙ ap (λ (y : Instruction). written between (record_bytes * body.at) (bytes_of_record (fields (number_of y.opcode) n y.operand y.number))) plain
+            ∙ ap (λ m. written between (record_bytes * body.at) (bytes_of_record (fields 13 m 0 0))) (keeps ∙ ap words_kept sort)
+            ∙ emitted_one between body.at (Return (words_kept f.sort))
+            ∙ ap (λ (b : List ℕ). emitted_at b body.at (Return (words_kept f.sort) ∷ [])) first
+            ∙ emitted_beyond code' 0 own (Return (words_kept f.sort) ∷ []) body.at long (omega arith);
+      }
+
+pub ruleset function_ways = (function_stuck, function_sum, function_emitted)

@@ -1,20 +1,24 @@
--- The loops over a program's functions: one measures them, one emits them.
-use Prim.Native.Nat.{ℕ, ◌+◌, ◌-◌, ◌*◌, ◌%◌, ◌≤◌, ◌<◌}
+-- The loop over a program's functions: where they begin is found, and they are emitted where there
+-- is room.
+use Prim.Native.Nat.{ℕ, ◌+◌, ◌-◌, ◌*◌, ◌≤◌, ◌<◌, min}
 use mathlib.Core.List.{List, [], ◌∷◌, ◌++◌, append-nil, map}
 use mathlib.Core.Path.{◌≡◌, refl, sym, ap, ◌∙◌}
 use native.Mathlib.Decide.{dec_le}
 use native.Mathlib.Nat.{zero-add}
 use native.Mathlib.Omega.{arith}
 use borrow.Author.Rules.{rules}
+use mir.Syntax.{w16, w64}
+use mir.Val.{Fits}
 use lib.ListN.{length, get_or, set, take, drop, length-drop, length-set, drop_of_length-le}
 use lib.Seq.{get_or-set_same, get_or-set_other, take_all, drop-drop}
+use Rattle.std.specs.Prelude.{Option, Some, IsSome}
 use Rattle.formats.specs.Numbers.{Bytes}
 use Rattle.formats.specs.Results.{done, verdict}
 use Rattle.formats.specs.Records.{record_bytes, record_at, flat}
 use Rattle.formats.specs.Programs.{size, Function, Program, most_functions}
 use Rattle.formats.specs.Inner.Limits.{most_records}
 use Rattle.formats.specs.Inner.Fields.{header_in}
-use Rattle.formats.proofs.Results.{Value, passed_is}
+use Rattle.formats.proofs.Results.{passed_is}
 use Rattle.formats.proofs.Rows.{flattens}
 use Rattle.formats.proofs.Written.{written_fits}
 use Rattle.walks.specs.Inner.Limits.{record_instructions, most_emitted}
@@ -27,11 +31,12 @@ use Rattle.translation.specs.Templates.{function_code, function_end, functions_c
 use Rattle.template.specs.Inner.Items.{entries_in}
 use Rattle.translate.specs.declared.Emitted.{Emitted}
 use Rattle.translate.specs.Inner.Emitting.{emitted_at}
-use Rattle.translate.specs.Inner.Walk.{Small, EmitsFunction, Tabled, CodeReady, EmitsAll}
+use Rattle.translate.specs.declared.Table.{Table}
+use Rattle.translate.specs.Inner.Walk.{Small, EmittedFunction, EmitsFunction, HasEntries, EmitsAll}
 use Rattle.translate.proofs.Written.{length_bytes, length_emitted, emitted_none, emitted_beyond}
 use Rattle.translate.proofs.All.{was_checked, beyond_all, beyond_more, code_more, length_all, FunctionsLeft, Next, next_function, all_left, none-left, entry_here, same_function}
 
--- ---- what both loops know
+-- ---- what the loop knows
 
 -- Counts of a program that was checked.
 pub record Counts (s : List ℕ) (functions end : ℕ) : Type 0 where
@@ -69,7 +74,7 @@ record Following (s : List ℕ) (end : ℕ) (program : Program) (k j entry : ℕ
 
 following : (s entries code' after : List ℕ) (end : ℕ) (program : Program) (k j entry : ℕ) (st : Standing s end program k j entry) (r : Emitted)
     → j < length program.functions
-    → EmitsFunction s entries code' after entry j k end r
+    → EmittedFunction s entries code' after entry j k end r
     → Following s end program k j entry st.before r
 following s entries code' after end program k j entry st r more l =
     let n = next_function s end program st.before k j st.left more in
@@ -81,86 +86,7 @@ following s entries code' after end program k j entry st r more l =
       begins = entry_here s end program st.before k j st.left ∙ sym st.entry_is;
     }
 
--- at first all functions are left, and address 0 is the first one's
-begun : (s : List ℕ) (functions nodes end : ℕ) (program : Program) → Bytes s → functions ≡ (header_in s).functions → nodes ≡ (header_in s).nodes → end ≡ 1 + functions + nodes
-    → checked_records s ≡ done program
-    → Standing s end program (1 + functions) 0 0
-unfolding beyond_all
-begun s functions nodes end program bytes ef en el e =
-    record { before = []; left = all_left s end program functions nodes bytes (was_checked s program e) ef en el; entry_is = refl }
-
--- ---- `measure`
-
--- The entries of the functions before j are in the table.
-pub record Measuring (s : List ℕ) (functions end : ℕ) (entries : List ℕ) (k entry j : ℕ) : Type 0 where
-  pub counts : Counts s functions end
-  pub table : length entries ≡ most_functions
-  pub inside : Inside k end
-  pub small : entry + record_instructions * (end - k) + (functions - j) ≤ most_emitted
-  pub standing : (program : Program) → checked_records s ≡ done program → Standing s end program k j entry
-  pub entered : (program : Program) → checked_records s ≡ done program → (b : ℕ) → b < j → get_or entries b 0 ≡ entry_of program b
-
-pub measure_first : (s : List ℕ) (functions nodes end : ℕ) (entries : List ℕ) → Bytes s → verdict (checked_records s) ≡ done tt → functions ≡ (header_in s).functions → nodes ≡ (header_in s).nodes
-    → end ≡ 1 + functions + nodes → length entries ≡ most_functions
-    → Measuring s functions end entries (1 + functions) 0 0
-measure_first s functions nodes end entries bytes checked ef en el long =
-    let c = counted s functions nodes end bytes checked ef en el in
-    record {
-      counts = c;
-      table = long;
-      inside = record { before_end = omega arith; few = c.short };
-      small = omega (arith, c.few, c.short);
-      standing = λ program e. begun s functions nodes end program bytes ef en el e;
-      entered = λ program e b below. absurd (omega arith);
-    }
-
-module _ (s : List ℕ) (functions end : ℕ) (entries : List ℕ) (k entry j : ℕ) (m : Measuring s functions end entries k entry j) where
-  pub measure_asked : j < functions → Small k end entry 0 1
-  measure_asked more = record {
-    inside = m.inside;
-    base_small = omega (arith, m.small);
-    small = omega (arith, m.counts.few, m.counts.short);
-  }
-
-  pub measure_index : j < functions → j < most_functions
-  measure_index more = omega (arith, m.counts.few)
-
-  pub measure_more : (no_entries no_code after : List ℕ) (r : Emitted) → j < functions → EmitsFunction s no_entries no_code after entry j k end r
-      → Measuring s functions end (set entries j (entry % 65536)) r.next (entry + r.at) (j + 1)
-  measure_more no_entries no_code after r more l = record {
-    counts = m.counts;
-    table = length-set entries j (entry % 65536) ∙ m.table;
-    inside = record { before_end = l.went_on.went.inside; few = m.inside.few };
-    small = omega (arith, m.small, l.went_on.small);
-    standing = λ program e.
-        let f = follow program e in
-        record { before = _; left = f.left; entry_is = f.entry_is };
-    entered = λ program e b below. elim (dec_le j b) [
-      | yes over ↦
-          let here : b ≡ j = omega arith in
-          let own : entry % 65536 ≡ entry = omega (arith, m.small) in
-          ap (λ n. get_or (set entries j (entry % 65536)) n 0) here ∙ get_or-set_same entries j (entry % 65536) 0 (rw m.table (measure_index more)) ∙ own ∙ sym (follow program e).begins ∙ ap (entry_of program) (sym here)
-      | no under ↦ get_or-set_other entries j b (entry % 65536) 0 (λ same. omega arith) ∙ m.entered program e b (omega arith)
-    ];
-  }
-    where
-      follow : (program : Program) (e : checked_records s ≡ done program) → Following s end program k j entry (m.standing program e).before r
-      follow program e = following s no_entries no_code after end program k j entry (m.standing program e) r (omega (arith, m.counts.functions_are program e)) l
-
-  pub measured : functions ≤ j → Tabled s (record { entries = entries; count = entry })
-  unfolding operations_of
-  measured over = record {
-    entries = λ program e b below. m.entered program e b (omega (arith, m.counts.functions_are program e));
-    count = λ program e.
-        let st = m.standing program e in
-        let all = none-left s end program st.before k j st.left (omega (arith, m.counts.functions_are program e)) in
-        st.entry_is ∙ ap (λ fs. beyond_all fs 0) all ∙ sym (length_all (entry_of program) 0 program.functions) ∙ zero-add (length (functions_code (entry_of program) 0 program.functions));
-    small = omega (arith, m.small);
-  }
-
-pub ruleset measuring = (measure_first, measure_asked, measure_index, measure_more, measured, rules)
-
--- ---- `emit_all`
+-- ---- code written into parts of the buffer
 
 -- functions end at the address at which they begin, or after it
 beyond_up : (fs : List Function) (a : ℕ) → a ≤ beyond_all fs a
@@ -186,144 +112,152 @@ emitted_part s a ops fits =
     (written_fits (drop p s) 0 vs inside ∙ ap (λ n. vs ++ drop n (drop p s)) (zero-add (length vs)) ∙ ap (λ (l : List ℕ). vs ++ l) (drop-drop (length vs) p s))
     ∙ sym (written_fits s p vs (omega arith))
 
--- The functions before j are emitted.
-pub record UpTo (s : List ℕ) (functions end : ℕ) (code₀ code : List ℕ) (k j : ℕ) (program : Program) : Type 0 where
-  pub before : List Function
-  pub left : FunctionsLeft s end program before k j
-  pub emitted : code ≡ emitted_at code₀ 0 (functions_code (entry_of program) 0 before)
-  pub small : beyond_all before 0 + record_instructions * (end - k) + (functions - j) ≤ most_emitted
+-- ---- `emit_all`
 
-pub record EmittingAll (s entries : List ℕ) (functions end : ℕ) (code₀ code : List ℕ) (k j : ℕ) : Type 0 where
-  pub ready : CodeReady s entries code₀
+-- The functions before j have their entries in the table, and are emitted where there is room.
+pub record EmittingAll (s entries : List ℕ) (functions end : ℕ) (code₀ code : List ℕ) (t : Table) (k j : ℕ) : Type 0 where
+  pub checked : verdict (checked_records s) ≡ done tt
   pub counts : Counts s functions end
+  pub table : length t.entries ≡ most_functions
   pub inside : Inside k end
-  pub up_to : (program : Program) → checked_records s ≡ done program → UpTo s functions end code₀ code k j program
+  pub small : t.instructions + record_instructions * (end - k) + (functions - j) ≤ most_emitted
+  pub standing : (program : Program) → checked_records s ≡ done program → Standing s end program k j t.instructions
+  pub entered : (program : Program) → checked_records s ≡ done program → (b : ℕ) → b < j → entries_in t.entries b ≡ entry_of program b
+  pub emitted : (program : Program) (e : checked_records s ≡ done program) → HasEntries entries program → record_bytes * length (operations_of program) ≤ length code₀
+      → code ≡ emitted_at code₀ 0 (functions_code (entry_of program) 0 (standing program e).before)
 
-pub all_first : (s entries : List ℕ) (functions nodes end : ℕ) (code : List ℕ) → Bytes s → CodeReady s entries code → functions ≡ (header_in s).functions → nodes ≡ (header_in s).nodes
-    → end ≡ 1 + functions + nodes
-    → EmittingAll s entries functions end code code (1 + functions) 0
+pub all_first : (s entries : List ℕ) (functions end first : ℕ) (code : List ℕ) (t : Table) → Bytes s → verdict (checked_records s) ≡ done tt → functions ≡ (header_in s).functions
+    → first ≡ 1 + (header_in s).functions → end ≡ 1 + (header_in s).functions + (header_in s).nodes → length t.entries ≡ most_functions → t.instructions ≡ 0
+    → EmittingAll s entries functions end code code t first 0
 unfolding functions_code beyond_all
-all_first s entries functions nodes end code bytes ready ef en el =
-    let c = counted s functions nodes end bytes ready.checked ef en el in
+all_first s entries functions end first code t bytes checked ef ek el long none =
+    let c = counted s functions _ end bytes checked ef refl (rw ef el) in
     record {
-      ready = ready;
+      checked = checked;
       counts = c;
+      table = long;
       inside = record { before_end = omega arith; few = c.short };
-      up_to = λ program e. record {
+      small = omega (arith, c.few, c.short);
+      standing = λ program e. record {
         before = [];
-        left = all_left s end program functions nodes bytes (was_checked s program e) ef en el;
-        emitted = sym (emitted_none code 0);
-        small = omega (arith, c.few, c.short);
+        left = rw (ek ∙ ap (λ n. 1 + n) (sym ef)) (all_left s end program functions _ bytes (was_checked s program e) ef refl (rw ef el));
+        entry_is = none;
       };
+      entered = λ program e b below. absurd (omega arith);
+      emitted = λ program e has room. sym (emitted_none code 0);
     }
 
-module _ (s entries : List ℕ) (functions end : ℕ) (code₀ code : List ℕ) (k j : ℕ) (l : EmittingAll s entries functions end code₀ code k j) where
+module _ (s entries : List ℕ) (functions end : ℕ) (code₀ code : List ℕ) (t : Table) (k j : ℕ) (l : EmittingAll s entries functions end code₀ code t k j) where
   -- the end
-  pub all_emitted : functions ≤ j → EmitsAll s code₀ code
+  pub all_emitted : functions ≤ j → EmitsAll s entries code₀ code t
   unfolding code_of operations_of emitted_at
   all_emitted over = record {
-    is = λ program e.
-        let u = l.up_to program e in
-        let all = none-left s end program u.before k j u.left (omega (arith, l.counts.functions_are program e)) in
-        u.emitted ∙ ap (λ fs. emitted_at code₀ 0 (functions_code (entry_of program) 0 fs)) all;
+    entries_found = λ program e b below. l.entered program e b (omega (arith, l.counts.functions_are program e));
+    counted = λ program e.
+        (l.standing program e).entry_is ∙ ap (λ fs. beyond_all fs 0) (all program e) ∙ sym (length_all (entry_of program) 0 program.functions)
+        ∙ zero-add (length (functions_code (entry_of program) 0 program.functions));
+    small = omega (arith, l.small);
+    is = λ program e has room. l.emitted program e has room ∙ ap (λ fs. emitted_at code₀ 0 (functions_code (entry_of program) 0 fs)) (all program e);
   }
+    where
+      all : (program : Program) (e : checked_records s ≡ done program) → (l.standing program e).before ≡ program.functions
+      all program e = none-left s end program _ k j (l.standing program e).left (omega (arith, l.counts.functions_are program e))
 
-  module _ (entry : ℕ) (is : entry ≡ entries_in entries j) (more : j < functions) where
-    -- where function j begins
-    begins_at : (program : Program) (e : checked_records s ≡ done program) → entry ≡ beyond_all (l.up_to program e).before 0
-    begins_at program e =
-        is ∙ l.ready.entered program e j (omega (arith, l.counts.functions_are program e)) ∙ entry_here s end program _ k j (l.up_to program e).left
+  module _ (more : j < functions) where
+    pub all_index : (place : ℕ) → place ≡ j → place < most_functions
+    all_index place is = omega (arith, l.counts.few)
 
-    -- the code before it has room, and so has what follows
-    fits_in : (program : Program) (e : checked_records s ≡ done program) (more_functions : List Function) → program.functions ≡ (l.up_to program e).before ++ more_functions
-        → record_bytes * entry ≤ length code
-    unfolding operations_of
-    fits_in program e fs split =
-        let u = l.up_to program e in
-        omega (
-          arith,
-          l.ready.room program e,
-          length_all (entry_of program) 0 program.functions,
-          ap (λ gs. beyond_all gs 0) split,
-          beyond_front u.before fs 0,
-          begins_at program e,
-          ap length u.emitted ∙ length_emitted code₀ 0 (functions_code (entry_of program) 0 u.before),
-        )
+    pub all_cast : Fits w16 t.instructions
+    all_cast = record { fits = omega (arith, l.small) }
 
-    -- some program was checked
-    the_program : Value (checked_records s)
-    the_program = passed_is (checked_records s) l.ready.checked
+    pub all_bytes : Fits w64 (8 * t.instructions)
+    all_bytes = record { fits = omega (arith, l.small) }
 
-    pub all_room : record_bytes * entry ≤ length code
-    all_room = let v = the_program in fits_in v.value v.is (l.up_to v.value v.is).left.others (l.up_to v.value v.is).left.split
+    pub all_asked : Small k end t.instructions 0 1
+    all_asked = record { inside = l.inside; base_small = omega (arith, l.small); small = omega (arith, l.counts.few, l.counts.short) }
 
-    pub all_asked : Small k end entry 0 1
-    all_asked =
-        let v = the_program in
-        let u = l.up_to v.value v.is in
-        record {
-          inside = l.inside;
-          base_small = omega (arith, u.small, begins_at v.value v.is);
-          small = omega (arith, l.counts.few, l.counts.short);
-        }
+    -- there is a next function
+    pub all_answered : (code' after : List ℕ) (found : Option Emitted) → EmitsFunction s entries code' after t.instructions j k end found → IsSome found
+    all_answered code' after found f =
+        let v = passed_is (checked_records s) l.checked in
+        let n = next_function s end v.value _ k j (l.standing v.value v.is).left (omega (arith, l.counts.functions_are v.value v.is)) in
+        f.answered n.here n.entering
 
-    emitted_on : (after : List ℕ) (r : Emitted) → EmitsFunction s entries (drop (record_bytes * entry) code) after entry j k end r
-        → EmittingAll s entries functions end code₀ (take (record_bytes * entry) code ++ after) r.next (j + 1)
-    unfolding operations_of
-    emitted_on after r f = record {
-      ready = l.ready;
-      counts = l.counts;
-      inside = record { before_end = f.went_on.went.inside; few = l.inside.few };
-      up_to = λ program e.
-          let u = l.up_to program e in
-          let at = begins_at program e in
-          let st : Standing s end program k j entry = record { before = u.before; left = u.left; entry_is = at } in
-          let o = following s entries _ after end program k j entry st r (omega (arith, l.counts.functions_are program e)) f in
+    pub all_sum : (code' after : List ℕ) (found : Option Emitted) (r : Emitted) → found ≡ Some r → EmitsFunction s entries code' after t.instructions j k end found → Fits w64 (t.instructions + r.at)
+    all_sum code' after found r is f = record { fits = omega (arith, l.small, (f.is r is).went_on.small) }
+
+    -- the next function is emitted
+    module _ (r : Emitted) (start : ℕ) (after : List ℕ) (at_start : start ≡ min (record_bytes * t.instructions) (length code))
+        (f : EmittedFunction s entries (drop start code) after t.instructions j k end r) where
+      abbrev entry : ℕ
+      entry = t.instructions
+
+      follow : (program : Program) (e : checked_records s ≡ done program) → Following s end program k j entry (l.standing program e).before r
+      follow program e = following s entries _ after end program k j entry (l.standing program e) r (omega (arith, l.counts.functions_are program e)) f
+
+      code_on : (program : Program) (e : checked_records s ≡ done program) → HasEntries entries program → record_bytes * length (operations_of program) ≤ length code₀
+          → take start code ++ after ≡ emitted_at code₀ 0 (functions_code (entry_of program) 0 ((l.standing program e).before ++ ((follow program e).next.here ∷ [])))
+      unfolding operations_of
+      code_on program e has fits =
+          let st = l.standing program e in
+          let o = follow program e in
           let here = o.next.here in
           let own = function_code (entry_of program) entry here in
-          let done_code = functions_code (entry_of program) 0 u.before in
+          let done_code = functions_code (entry_of program) 0 st.before in
           let long_own = length_function (entry_of program) entry here in
           let address = f.address here o.next.entering in
-          let long_done : entry ≡ 0 + length done_code = at ∙ sym (length_all (entry_of program) 0 u.before) in
-          let long : length code ≡ length code₀ = ap length u.emitted ∙ length_emitted code₀ 0 done_code in
+          let is = l.emitted program e has fits in
+          let long_done : entry ≡ 0 + length done_code = st.entry_is ∙ sym (length_all (entry_of program) 0 st.before) in
+          let long : length code ≡ length code₀ = ap length is ∙ length_emitted code₀ 0 done_code in
           let room : record_bytes * (entry + r.at) ≤ length code₀ = omega (
             arith,
-            l.ready.room program e,
             length_all (entry_of program) 0 program.functions,
             ap (λ gs. beyond_all gs 0) o.left.split,
-            beyond_front (u.before ++ (here ∷ [])) o.left.others 0,
+            beyond_front (st.before ++ (here ∷ [])) o.left.others 0,
             o.entry_is,
           ) in
-          let emitted_own : after ≡ emitted_at (drop (record_bytes * entry) code) 0 own =
-          f.emits here o.next.entering (omega (arith, length-drop (record_bytes * entry) code))
-          ∙ ap (emitted_at (drop (record_bytes * entry) code) 0) (same_function (entries_in entries) (entry_of program) (length program.functions) (l.ready.entered program e) entry here o.next.in_range) in
-          record {
-            before = u.before ++ (here ∷ []);
-            left = o.left;
-            emitted =
-                ap (λ (x : List ℕ). take (record_bytes * entry) code ++ x) emitted_own
-                ∙ emitted_part code entry own (omega arith)
-                ∙ ap (λ (x : List ℕ). emitted_at x entry own) u.emitted
-                ∙ emitted_beyond code₀ 0 done_code own entry long_done (omega arith)
-                ∙ ap (λ n. emitted_at code₀ 0 (done_code ++ function_code (entry_of program) n here)) at
-                ∙ ap (emitted_at code₀ 0) (sym (code_more (entry_of program) 0 u.before here));
-            small = omega (arith, u.small, f.went_on.small, o.entry_is, at);
-          };
-    }
+          let begins : start ≡ record_bytes * entry = omega arith in
+          let part : after ≡ emitted_at (drop start code) 0 own =
+          f.emits here o.next.entering (omega (arith, length-drop start code))
+          ∙ ap (emitted_at (drop start code) 0) (same_function (entries_in entries) (entry_of program) (length program.functions) has entry here o.next.in_range) in
+          ap (λ (x : List ℕ). take start code ++ x) part
+          ∙ ap (λ n. take n code ++ emitted_at (drop n code) 0 own) begins
+          ∙ emitted_part code entry own (omega arith)
+          ∙ ap (λ (x : List ℕ). emitted_at x entry own) is
+          ∙ emitted_beyond code₀ 0 done_code own entry long_done (omega arith)
+          ∙ ap (λ n. emitted_at code₀ 0 (done_code ++ function_code (entry_of program) n here)) st.entry_is
+          ∙ ap (emitted_at code₀ 0) (sym (code_more (entry_of program) 0 st.before here))
+
+      emitted_on : EmittingAll s entries functions end code₀ (take start code ++ after) (record { entries = set t.entries j entry; instructions = entry + r.at }) r.next (j + 1)
+      emitted_on = record {
+        checked = l.checked;
+        counts = l.counts;
+        table = length-set t.entries j entry ∙ l.table;
+        inside = record { before_end = f.went_on.went.inside; few = l.inside.few };
+        small = omega (arith, l.small, f.went_on.small);
+        standing = λ program e. record { before = _; left = (follow program e).left; entry_is = (follow program e).entry_is };
+        entered = λ program e b below. elim (dec_le j b) [
+          | yes over ↦
+              let here : b ≡ j = omega arith in
+              ap (λ n. get_or (set t.entries j entry) n 0) here ∙ get_or-set_same t.entries j entry 0 (rw l.table (all_index j refl)) ∙ sym (follow program e).begins ∙ ap (entry_of program) (sym here)
+          | no under ↦ get_or-set_other t.entries j b entry 0 (λ same. omega arith) ∙ l.entered program e b (omega arith)
+        ];
+        emitted = code_on;
+      }
 
     -- the part lent is the rest of the buffer
-    pub all_more : (after : List ℕ) (r : Emitted)
-        → EmitsFunction s entries (take (length code - record_bytes * entry) (drop (record_bytes * entry) code)) after entry j k end r
+    pub all_more : (found : Option Emitted) (r : Emitted) (place start : ℕ) (after : List ℕ) → place ≡ j → start ≡ min (record_bytes * t.instructions) (length code) → found ≡ Some r
+        → EmitsFunction s entries (take (length code - start) (drop start code)) after t.instructions j k end found
         → EmittingAll s entries functions end code₀
-        (take (record_bytes * entry) code ++ (after ++ drop (length code - record_bytes * entry) (drop (record_bytes * entry) code)))
+        (take start code ++ (after ++ drop (length code - start) (drop start code)))
+        (record { entries = set t.entries place t.instructions; instructions = t.instructions + r.at })
         r.next
         (j + 1)
-    all_more after r f =
-        let p = record_bytes * entry in
-        let n = length code - p in
-        let long = length-drop p code in
-        let part : take n (drop p code) ≡ drop p code = take_all n (drop p code) (omega arith) in
-        let rest : drop n (drop p code) ≡ [] = drop_of_length-le (drop p code) {i = n} (omega arith) in
-        rw (rest, append-nil) (emitted_on after r (rw part at f))
+    all_more found r place start after at_place at_start is f =
+        let n = length code - start in
+        let long = length-drop start code in
+        let part : take n (drop start code) ≡ drop start code = take_all n (drop start code) (omega arith) in
+        let rest : drop n (drop start code) ≡ [] = drop_of_length-le (drop start code) {i = n} (omega arith) in
+        rw (at_place, rest, append-nil) (emitted_on r start after at_start (rw part at (f.is r is)))
 
-pub ruleset emitting_all = (all_first, all_room, all_asked, all_more, all_emitted, rules)
+pub ruleset emitting_all = (all_first, all_index, all_cast, all_bytes, all_asked, all_answered, all_sum, all_more, all_emitted, rules)

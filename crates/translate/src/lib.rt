@@ -1,7 +1,7 @@
 // The translator: from a program's records to its code, by 01, Templates.
 #![tactic(auto)]
 
-ghost use Rattle.std.specs.Prelude.{◌≡◌, length};
+ghost use Rattle.std.specs.Prelude.{◌≡◌, ◌+◌, length};
 ghost use Rattle.formats.specs.Results.{done, verdict};
 ghost use Rattle.refusal.specs.Inner.FilledBuffer.{FilledBuffer};
 ghost use Rattle.translation.specs.TranslateAndRun.{checked_records, translate_records, translate_file};
@@ -9,16 +9,15 @@ ghost use Rattle.translation.specs.Templates.{words_kept};
 ghost use Rattle.records.specs.Inner.Read.{row};
 ghost use Rattle.code_scope.specs.Inner.Around.{sort_of};
 ghost use Rattle.emit_items.specs.Inner.Operations.{operations_for, put_all};
-ghost use Rattle.translate.specs.Inner.Walk.{Small, SmallParts, Emits, EmitsParts, Starts, EmitsFunction, Tabled, CodeReady, EmitsAll};
+ghost use Rattle.translate.specs.Inner.Walk.{Small, SmallParts, SmallAddresses, Emits, EmitsParts, Starts, EmitsFunction, EmitsAll};
 
 use block_reader::MOST_BYTES;
 use code_scope::Scope;
 use emit_items::Emitter;
+use header::MOST_FUNCTIONS;
 use instruction::{INSTRUCTION_BYTES, Instruction, Opcode};
 use records::{Described, Items};
 use refusal::{Refusal, Refused};
-
-const MOST_FUNCTIONS: usize = 32;
 
 // How far the code is emitted: the next record, the next address, and the address at which the last
 // part begins. Addresses count from the start of the part of the code buffer that is lent.
@@ -40,7 +39,7 @@ struct Shape {
 #[derive(Clone, Copy)]
 struct Table {
     entries: [u16; MOST_FUNCTIONS],
-    count: usize,
+    instructions: usize,
 }
 
 // What is known on entering the body of function j: its number parameters stand on the frame's
@@ -49,7 +48,7 @@ struct Table {
 fn start(flat: &[u8], j: u16) -> Scope
     ensures { Starts flat.now j result }
 {
-    let parameters = signatures::parameters(flat, j) as usize;
+    let parameters = usize::from(signatures::parameters(flat, j));
     Scope {
         words: [0, 1, 2, 3, 4, 5, 6, 7, 8, 9, 10, 11, 12, 13, 14, 15],
         names: parameters,
@@ -79,39 +78,32 @@ struct Emission<'a> {
 
 impl Emission<'_> {
     // Emits the expression at record k from address `at` of `code` on, which is address base + at
-    // of the program. Instructions that do not fit are not written; the addresses are reported all
-    // the same.
+    // of the program; None where a record is missing or refused. Instructions that do not fit are
+    // not written; the addresses are reported all the same.
     #[cycle(emitting)]
-    fn emit(&self, code: &mut [u8], at: usize, k: usize, scope: Scope) -> Emitted
+    #[tactic(auto, using(crate::proofs::Walk::expressions))]
+    fn emit(&self, code: &mut [u8], at: usize, k: usize, scope: Scope) -> Option<Emitted>
         requires { Small k self.now.end self.now.base at 0 }
         ensures { Emits self.now.flat.now self.now.entries.now code.old
             code.new self.now.base at k self.now.end scope result }
     {
-        let nothing = Emitted {
-            next: k,
-            at,
-            last: at,
-        };
         if self.end <= k {
-            return nothing;
+            return None;
         }
-        let found = records::record_at(self.flat, k);
-        match found {
-            Err(_) => nothing,
-            Ok(read) => {
-                let shape = Shape {
-                    read,
-                    count: nodes::part_count(self.flat, read.parts),
-                };
-                self.emit_parts(code, at, at, &shape, 0, k + 1, scope)
-            }
-        }
+        let read = records::record_at(self.flat, k).ok()?;
+        let shape = Shape {
+            read,
+            count: nodes::part_count(self.flat, read.parts),
+        };
+        self.emit_parts(code, at, at, &shape, 0, k + 1, scope)
     }
 
     // Emits the parts of a record from part i on, the next of them at record k, each after the
     // template's items before it, and after them all the template's last items. The items before a
-    // part are emitted after all parts, because only then their addresses are known.
+    // part are emitted after all parts, because only then their addresses are known: so it calls
+    // itself, since a loop would have to keep where each part begins.
     #[cycle(emitting)]
+    #[tactic(auto, using(crate::proofs::Walk::parts))]
     fn emit_parts(
         &self,
         code: &mut [u8],
@@ -121,7 +113,7 @@ impl Emission<'_> {
         i: usize,
         k: usize,
         scope: Scope,
-    ) -> Emitted
+    ) -> Option<Emitted>
         requires { SmallParts i k self.now.end self.now.base at last }
         ensures { EmitsParts self.now.flat.now self.now.entries.now code.old
             code.new self.now.base at last shape.now i k self.now.end scope
@@ -130,35 +122,26 @@ impl Emission<'_> {
         if shape.count <= i {
             let items = shape.read.template.last;
             let beyond = at + template::length_of(items);
-            self.emit_items(code, at, items, scope, self.base + last, self.base + beyond);
-            return Emitted {
+            self.emit_items(code, at, items, scope, last, beyond);
+            return Some(Emitted {
                 next: k,
                 at: beyond,
                 last,
-            };
+            });
         }
         let items = template::items_before(shape.read.template, i);
         let start = at + template::length_of(items);
         let inner = scope.inside(parts::nth_part(shape.read.parts, i), i);
-        let emitted = self.emit(code, start, k, inner);
-        if emitted.next <= k {
-            return emitted;
-        }
-        let rest = self.emit_parts(code, emitted.at, start, shape, i + 1, emitted.next, scope);
-        self.emit_items(
-            code,
-            at,
-            items,
-            scope,
-            self.base + rest.last,
-            self.base + rest.at,
-        );
-        rest
+        let part = self.emit(code, start, k, inner)?;
+        let rest = self.emit_parts(code, part.at, start, shape, i + 1, part.next, scope)?;
+        self.emit_items(code, at, items, scope, rest.last, rest.at);
+        Some(rest)
     }
 
-    // Emits items of a record, whose last part begins at address `last`, and whose code ends before
-    // address `beyond`. It is not put into its caller: there are many frames of that.
+    // Emits items of a record, whose last part begins at address `last` of `code`, and whose code
+    // ends before address `beyond`. It is not put into its caller: there are many frames of that.
     #[inline(never)]
+    #[tactic(auto, using(crate::proofs::Walk::addresses))]
     fn emit_items(
         &self,
         code: &mut [u8],
@@ -168,92 +151,74 @@ impl Emission<'_> {
         last: usize,
         beyond: usize,
     )
+        requires { SmallAddresses self.now.base last beyond }
         ensures { code.new ≡ put_all code.old at (operations_for
-            self.now.flat.now self.now.entries.now scope last beyond
-            (row items)) }
+            self.now.flat.now self.now.entries.now scope (self.now.base + last)
+            (self.now.base + beyond) (row items)) }
     {
         let emitter = Emitter {
             flat: self.flat,
             entries: self.entries,
             scope,
-            last,
-            beyond,
+            last: self.base + last,
+            beyond: self.base + beyond,
         };
         emitter.emit(code, at, items);
     }
 
     // Emits function j, its body at record k, at the start of `code`, which is the part of the code
-    // buffer that begins at its entry: its body, then return.
-    fn emit_function(&self, code: &mut [u8], j: u16, k: usize) -> Emitted
+    // buffer that begins at its entry: its body, then return. None where a record of the body is
+    // missing or refused.
+    #[tactic(auto, using(crate::proofs::Functions::function_ways))]
+    fn emit_function(&self, code: &mut [u8], j: u16, k: usize) -> Option<Emitted>
         requires { Small k self.now.end self.now.base 0 1 }
         ensures { EmitsFunction self.now.flat.now self.now.entries.now code.old
             code.new self.now.base j k self.now.end result }
     {
         let scope = start(self.flat, j);
-        let body = self.emit(code, 0, k, scope);
+        let body = self.emit(code, 0, k, scope)?;
         let leaves = Instruction {
             byte1: words_kept(scope.tree),
             ..Opcode::Return.alone()
         };
         leaves.write_at(code, body.at);
-        Emitted {
-            next: body.next,
+        Some(Emitted {
             at: body.at + 1,
-            last: 0,
-        }
+            ..body
+        })
     }
 }
 
-// The table of entries. Each function is emitted into a buffer in which nothing fits, and so only
-// measured.
-fn measure(flat: &[u8]) -> Table
+// Emits all functions of a program that was checked, with these entries, each in the part of the
+// code buffer that begins where the one before it ends; and says where they begin. Where the buffer
+// has no room they are only measured.
+#[tactic(auto, using(crate::proofs::Loops::emitting_all))]
+fn emit_all(flat: &[u8], entries: &[u16], code: &mut [u8]) -> Table
     requires { verdict (checked_records flat.now) ≡ done tt }
-    ensures { Tabled flat.now result }
+    ensures { EmitsAll flat.now entries.now code.old code.new result }
 {
-    let functions = signatures::functions_in(flat) as u16;
-    let mut k = 1 + functions as usize;
-    let end = k + signatures::nodes_in(flat) as usize;
-    let mut entries = [0u16; MOST_FUNCTIONS];
-    let mut entry = 0;
-    for j in 0..functions {
-        entries[j as usize] = (entry % 65536) as u16;
-        let mut no_room = [0u8; 1];
-        let emission = Emission {
-            flat,
-            entries: &[],
-            base: entry,
-            end,
-        };
-        let emitted = emission.emit_function(&mut no_room, j, k);
-        k = emitted.next;
-        entry += emitted.at;
-    }
-    Table {
-        entries,
-        count: entry,
-    }
-}
-
-// Emits all functions, each in the part of the code buffer that begins at its entry.
-fn emit_all(flat: &[u8], entries: &[u16], code: &mut [u8])
-    requires { CodeReady flat.now entries.now code.old }
-    ensures { EmitsAll flat.now code.old code.new }
-{
-    let functions = signatures::functions_in(flat) as u16;
-    let mut k = 1 + functions as usize;
-    let end = k + signatures::nodes_in(flat) as usize;
-    for j in 0..functions {
-        let entry = template::entry_of(entries, j) as usize;
-        let part = &mut code[INSTRUCTION_BYTES * entry..];
+    let mut table = Table {
+        entries: [0; MOST_FUNCTIONS],
+        instructions: 0,
+    };
+    let end = signatures::nodes_end(flat);
+    let mut k = signatures::first_node(flat);
+    for j in 0..u16::from(signatures::functions_in(flat)) {
+        let entry = table.instructions;
+        table.entries[usize::from(j)] = entry as u16;
         let emission = Emission {
             flat,
             entries,
             base: entry,
             end,
         };
-        let emitted = emission.emit_function(part, j, k);
+        let start = (INSTRUCTION_BYTES * entry).min(code.len());
+        // No record of a program that was checked is missing or refused.
+        let emitted = emission.emit_function(&mut code[start..], j, k).unwrap();
+        table.instructions += emitted.at;
         k = emitted.next;
     }
+    table
 }
 
 // The code of flat records that are a program which both passes accept, written to the start of a
@@ -265,8 +230,8 @@ pub fn translate_records(flat: &[u8], code: &mut [u8]) -> Result<usize, Refused>
         code.new result }
 {
     order::check_records(flat)?;
-    let table = measure(flat);
-    let bytes = INSTRUCTION_BYTES * table.count;
+    let table = emit_all(flat, &[], &mut []);
+    let bytes = INSTRUCTION_BYTES * table.instructions;
     if code.len() < bytes {
         return Err(Refusal::SpaceTooShort.at(0));
     }
@@ -280,6 +245,7 @@ pub fn translate_file(file: &[u8], code: &mut [u8]) -> Result<usize, Refused>
         code.old code.new result }
 {
     let mut flat = [0u8; MOST_BYTES];
+    // `block_reader: from_blocks` says why each of its callers cuts the buffer.
     let bytes = block_reader::from_blocks(file, &mut flat)?;
     translate_records(&flat[..bytes], code)
 }

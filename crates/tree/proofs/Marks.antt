@@ -185,11 +185,12 @@ module _ (width : ℕ) (s marks : List ℕ) (above above_next deepest at : ℕ) 
         ∙ ap (on_value (measures_at width)) (sym last_one ∙ leaf_done)
 
     -- .. and all below the node whose right tree comes next
-    pub walk_leaf : (deeper : ℕ) → deeper ≡ max deepest above → above_next ≢ 0
-        → Walking width s marks above_next (get_or marks (above_next - 1) 0) deeper (at + 1 + width)
-    walk_leaf deeper e some =
+    pub walk_leaf : (deeper mark : ℕ) → deeper ≡ max deepest above → above_next ≢ 0 → mark ≡ get_or marks (above_next - 1) 0
+        → Walking width s marks above_next mark deeper (at + 1 + width)
+    walk_leaf deeper mark e some read =
         let n = one_comes w.marked some in
-        record {
+        rw read
+        (record {
           within = leaf_within;
           table = w.table;
           shallow = omega (arith, w.inside, w.shallow);
@@ -201,9 +202,6 @@ module _ (width : ℕ) (s marks : List ℕ) (above above_next deepest at : ℕ) 
               ∙ sym (goes_done width above_next ended s n.rest)
               ∙ ap (λ (ds : List ℕ). go_on width s ds (done ended)) (sym n.first)
               ∙ leaf_done;
-        }
-
-  pub mark_small : above_next ≢ 0 → get_or marks (above_next - 1) 0 < most_depth
-  mark_small some = let n = one_comes w.marked some in omega (arith, n.low, w.inside, w.shallow)
+        })
 
 pub ruleset walks = (walk_node, walk_leaf, walk_past, walk_deep, walk_other, walk_cut, walk_ends)

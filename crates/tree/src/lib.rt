@@ -31,8 +31,9 @@ pub struct Measures {
     pub depth: usize,
 }
 
-// What is answered where there is no tree, or where the source run is refused. Written out, since
-// the edits `byte_without_a_tree` and `tip_without_a_tree` each change one of these numbers.
+// What is answered where there is no tree, or where the source run is refused. Written out: the
+// edits `byte_without_a_tree` and `tip_without_a_tree` each change one of these numbers, and where
+// a derive makes them, nothing in this crate has a number to change, or a clause to refuse it.
 impl Default for Measures {
     ghost is_default = { λ m. measured m ≡ no_measures };
 
@@ -53,7 +54,8 @@ impl Default for Measures {
 // of the innermost node whose left tree is not done: `above_next` nodes are above it, 0 if there is
 // none. The mark of an open node is what `above_next` was before that node. So a leaf closes all
 // nodes that are done with it in one step, however many they are. `deepest` nodes are above the
-// deepest leaf so far.
+// deepest leaf so far. (It is long because both arms change the same numbers: a function for
+// each arm would be handed all four and the marks, and give them back, for each node.)
 fn walk(input: &[u8], width: usize) -> Result<Measures, Refused>
     ensures { tree_result result ≡ measures_by width input.now }
 {
@@ -93,7 +95,7 @@ fn walk(input: &[u8], width: usize) -> Result<Measures, Refused>
                 });
             }
             above = above_next;
-            above_next = marks[above - 1] as usize;
+            above_next = usize::from(marks[above - 1]);
         }
     }
     Err(Refusal::InputEnded.at(at))
@@ -104,14 +106,12 @@ pub fn tree_answer(input: &[u8]) -> Result<Measures, Refused>
     ensures { tree_result result ≡ first_measures input.now }
 {
     // A leaf alone needs no marks, which take longer to clear than it takes to read.
-    if LEAF_BYTES <= input.len() {
-        if input[0] == LEAF_TAG {
-            return Ok(Measures {
-                bytes: LEAF_BYTES,
-                tips: 1,
-                depth: 0,
-            });
-        }
+    if LEAF_BYTES <= input.len() && input[0] == LEAF_TAG {
+        return Ok(Measures {
+            bytes: LEAF_BYTES,
+            tips: 1,
+            depth: 0,
+        });
     }
     walk(input, LABEL_BYTES)
 }

@@ -10,8 +10,7 @@ ghost use Rattle.tree_calls.specs.TreeCall.{TreeCall};
 pub fn tree_bytes(input: &[u8]) -> usize
     ensures { result ≡ length (own_bytes (first_tree input.now)) }
 {
-    let own = tree::first_tree(input);
-    own.len()
+    tree::first_tree(input).len()
 }
 
 // The refusal's number, 0 where there is a tree; the refusal's position and the tree's length, tips

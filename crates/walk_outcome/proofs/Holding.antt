@@ -2,7 +2,6 @@
 use Prim.Native.Nat.{ℕ, zero, suc, ◌+◌, ◌≤◌, ◌<◌}
 use mathlib.Core.Bool.{Bool, true, false}
 use mathlib.Core.List.{List, ◌++◌}
-use mathlib.Core.Logic.{◌≢◌}
 use mathlib.Core.Path.{◌≡◌, refl, sym, ap, ◌∙◌}
 use native.Mathlib.Decide.{dec_le}
 use native.Mathlib.Omega.{arith}
@@ -15,10 +14,10 @@ use Rattle.meaning.specs.OpenCalls.{Outcome, begins}
 use Rattle.stepwise.specs.Inner.Steps.{State, Turn, begin, finished, opens, Found, record_limit, tree_at, beginning, emitted_first, rising, emitted_last, weight, opening}
 use Rattle.stepwise.specs.Inner.Outcomes.{Reported, Comes, at_begin, at_finished, at_open}
 use Rattle.stages.specs.declared.Stage.{Stage}
-use Rattle.stages.specs.declared.Mode.{Mode}
-use Rattle.stages.specs.declared.Mode.TheVariants.{Begin, Finished, Open, Stuck}
-use Rattle.stages.specs.Inner.Stages.{is_finished, to_open, state_of, Missing, none_missing, turn_of, staged, stage_of, words_of, returns_of, missing_in}
-use Rattle.stages.proofs.Stages.{finished_true, finished_mode, open_mode, other_mode, turn_begin, turn_finished, turn_open, turn_written, turn_again, same_written}
+use Rattle.stages.specs.declared.Next.{Next}
+use Rattle.stages.specs.declared.Next.TheVariants.{Finished, Stuck}
+use Rattle.stages.specs.Inner.Stages.{to_begin, is_finished, to_open, node_of, number_of, state_of, Missing, none_missing, turn_of, staged, stage_of, words_of, returns_of, missing_in}
+use Rattle.stages.proofs.Stages.{begin_next, finished_next, open_next, turn_begin, turn_finished, turn_open, turn_written, turn_again, same_written}
 use Rattle.begin_record.proofs.Begins.{begun_found}
 use Rattle.open_call.specs.Inner.Opens.{opened_turn}
 use Rattle.open_call.proofs.Opens.{opened_found, opened_settled}
@@ -113,10 +112,10 @@ wrote_more output₀ output output' at out bytes c short before w fits =
 -- the weight of a stage is that of its turn
 weight_turn : (m : Missing) (values returns : List ℕ) (s : Stage) → weight (turn_of m values returns s) ≡ weight_of s
 unfolding turn_of weight weight_of
-weight_turn m values returns s = by s.mode refl
+weight_turn m values returns s = by s.next refl
   where
-    by : (k : Mode) → s.mode ≡ k → weight (turn_of m values returns s) ≡ weight_of s
-    by Finished e = rw (turn_of, weight_of, e) (omega arith)
+    by : (n : Next) → s.next ≡ n → weight (turn_of m values returns s) ≡ weight_of s
+    by (Finished r x) e = let node : node_of s.next ≡ r = ap node_of e in rw (turn_of, weight_of, e) (omega (arith, node))
     by _ e = rw (turn_of, weight_of, e) refl
 
 -- ---- the steps
@@ -139,36 +138,43 @@ module _ (T input output₀ : List ℕ) where
         short = h.short;
       }
 
-  begin_holds : (p : Run) (o : Outcome Reported) → p.stage.mode ≡ Begin → Holding T input output₀ p o → Begun T input output₀ (begin_step T input p) o
+  begin_holds : (p : Run) (o : Outcome Reported) → to_begin p.stage.next ≡ true → Holding T input output₀ p o
+      → Begun T input output₀ (begin_step T input (node_of p.stage.next) p) o
   unfolding begin_step
-  begin_holds p o mode h =
+  begin_holds p o going h =
       let s = state_of p.values p.returns p.stage in
-      let b = comes_begin T input (rw (turn_begin h.missing p.values p.returns p.stage mode) at h.comes) in
+      let r = node_of p.stage.next in
+      let b = comes_begin T input (rw (turn_begin h.missing p.values p.returns p.stage r (begin_next _ going)) at h.comes) in
       record {
         rest = b.rest;
         begun = b.begun;
-        holds =
-            held p _ (emitted_first T p.stage.node) o b.rest h
-            (rw (begun_found T input p.stage.node b.offset s b.few b.found) b.comes);
+        holds = held p _ (emitted_first T r) o b.rest h (rw (begun_found T input r b.offset s b.few b.found) b.comes);
       }
 
   -- a record that is finished
-  module _ (p : Run) (o : Outcome Reported) (mode : p.stage.mode ≡ Finished) (h : Holding T input output₀ p o) where
-    from_it : RisesFrom T input h.out p.stage.node p.stage.number (state_of p.values p.returns p.stage) o
-    from_it = comes_finished T input (rw (turn_finished h.missing p.values p.returns p.stage mode) at h.comes)
+  module _ (p : Run) (o : Outcome Reported) (done : is_finished p.stage.next ≡ true) (h : Holding T input output₀ p o) where
+    -- The record and its number.
+    abbrev r : ℕ
+    r = node_of p.stage.next
+
+    abbrev x : ℕ
+    x = number_of p.stage.next
+
+    from_it : RisesFrom T input h.out r x (state_of p.values p.returns p.stage) o
+    from_it = comes_finished T input (rw (turn_finished h.missing p.values p.returns p.stage r x (finished_next _ done)) at h.comes)
 
     rise_holds : Holding T input output₀ (rise_step T input p) o
     unfolding rise_step
-    rise_holds = held p _ (emitted_last T p.stage.node p.stage.number) o o h from_it.comes
+    rise_holds = held p _ (emitted_last T r x) o o h from_it.comes
 
     -- the weight falls
     rise_falls : weight_of (rise_step T input p).stage < weight_of p.stage
     unfolding rise_step weight_of
     rise_falls =
         let s = state_of p.values p.returns p.stage in
-        let t = rising T input p.stage.node p.stage.number s in
-        let old : weight (finished p.stage.node p.stage.number s) ≡ weight_of p.stage =
-        ap weight (sym (turn_finished none_missing p.values p.returns p.stage mode)) ∙ weight_turn none_missing p.values p.returns p.stage in
+        let t = rising T input r x s in
+        let old : weight (finished r x s) ≡ weight_of p.stage =
+        ap weight (sym (turn_finished none_missing p.values p.returns p.stage r x (finished_next _ done))) ∙ weight_turn none_missing p.values p.returns p.stage in
         let new : weight t ≡ weight_of (stage_of p.stage t) =
         ap weight (sym (turn_again p.values p.returns p.stage t)) ∙ weight_turn (missing_in t) (words_of p.values t) (returns_of p.returns t) (stage_of p.stage t) in
         let falls = from_it.falls in
@@ -177,114 +183,122 @@ module _ (T input output₀ : List ℕ) where
   climb_holds : (n : ℕ) (p : Run) (o : Outcome Reported) → Holding T input output₀ p o → Holding T input output₀ (climbing T input n p) o
   unfolding climbing
   climb_holds zero p o h = h
-  climb_holds (suc n) p o h = by (is_finished p.stage.mode) refl (λ holds. climb_holds n (rise_step T input p) o holds)
+  climb_holds (suc n) p o h = by (is_finished p.stage.next) refl (λ holds. climb_holds n (rise_step T input p) o holds)
     where
-      on : p.stage.mode ≡ Finished → (Holding T input output₀ (rise_step T input p) o → Holding T input output₀ (climbing T input n (rise_step T input p)) o)
+      on : is_finished p.stage.next ≡ true → (Holding T input output₀ (rise_step T input p) o → Holding T input output₀ (climbing T input n (rise_step T input p)) o)
           → Holding T input output₀
           (elim (ltb (weight_of (rise_step T input p).stage) (weight_of p.stage)) [
             | true ↦ climbing T input n (rise_step T input p)
-            | false ↦ run (rise_step T input p).output (rise_step T input p).values (rise_step T input p).returns (staged (rise_step T input p).stage Stuck 0 0)
+            | false ↦ run (rise_step T input p).output (rise_step T input p).values (rise_step T input p).returns (staged (rise_step T input p).stage Stuck)
           ])
           o
-      on mode next = rw (lt-ltb _ _ (rise_falls p o mode h)) (next (rise_holds p o mode h))
+      on done next = rw (lt-ltb _ _ (rise_falls p o done h)) (next (rise_holds p o done h))
 
-      by : (b : Bool) → is_finished p.stage.mode ≡ b → (Holding T input output₀ (rise_step T input p) o → Holding T input output₀ (climbing T input n (rise_step T input p)) o)
+      by : (b : Bool) → is_finished p.stage.next ≡ b → (Holding T input output₀ (rise_step T input p) o → Holding T input output₀ (climbing T input n (rise_step T input p)) o)
           → Holding T input output₀
           (elim b [
             | true ↦
                 elim (ltb (weight_of (rise_step T input p).stage) (weight_of p.stage)) [
                   | true ↦ climbing T input n (rise_step T input p)
-                  | false ↦ run (rise_step T input p).output (rise_step T input p).values (rise_step T input p).returns (staged (rise_step T input p).stage Stuck 0 0)
+                  | false ↦ run (rise_step T input p).output (rise_step T input p).values (rise_step T input p).returns (staged (rise_step T input p).stage Stuck)
                 ]
             | false ↦ p
           ])
           o
-      by true e next = on (finished_mode _ e) next
+      by true e next = on e next
       by false e next = h
 
   open_holds : (p : Run) (o : Outcome Reported) → Holding T input output₀ p o → Holding T input output₀ (open_step T input p) o
   unfolding open_step
-  open_holds p o h = by (to_open p.stage.mode) refl
+  open_holds p o h = by (to_open p.stage.next) refl
     where
       t : Turn
-      t = opened_turn T input p.stage.node (state_of p.values p.returns p.stage)
+      t = opened_turn T input (node_of p.stage.next) (state_of p.values p.returns p.stage)
 
-      opens_it : p.stage.mode ≡ Open → Holding T input output₀ (run p.output (words_of p.values t) (returns_of p.returns t) (stage_of p.stage t)) o
-      opens_it mode =
-          let c = comes_open T input (rw (turn_open h.missing p.values p.returns p.stage mode) at h.comes) in
+      opens_it : to_open p.stage.next ≡ true → Holding T input output₀ (run p.output (words_of p.values t) (returns_of p.returns t) (stage_of p.stage t)) o
+      opens_it going =
+          let r = node_of p.stage.next in
+          let c = comes_open T input (rw (turn_open h.missing p.values p.returns p.stage r (open_next _ going)) at h.comes) in
           let s = state_of p.values p.returns p.stage in
           record {
             out = h.out;
             missing = missing_in t;
-            comes = rw (turn_again p.values p.returns p.stage t, opened_found T input p.stage.node c.offset s c.few c.found) c.comes;
+            comes = rw (turn_again p.values p.returns p.stage t, opened_found T input r c.offset s c.few c.found) c.comes;
             counts = rw (same_written p.stage t) h.counts;
             wrote = h.wrote;
             long = h.long;
             short = h.short;
           }
 
-      by : (b : Bool) → to_open p.stage.mode ≡ b
+      by : (b : Bool) → to_open p.stage.next ≡ b
           → Holding T input output₀
           (elim b [ true ↦ run p.output (words_of p.values t) (returns_of p.returns t) (stage_of p.stage t) | false ↦ p ])
           o
-      by true e = opens_it (open_mode _ e)
+      by true e = opens_it e
       by false e = h
 
   -- a turn
-  pub turn_holds : (p : Run) (o : Outcome Reported) → p.stage.mode ≡ Begin → Holding T input output₀ p o → Begun T input output₀ (turned T input p) o
-  turn_holds p o mode h =
-      let b = begin_holds p o mode h in
-      let q = begin_step T input p in
+  pub turn_holds : (p : Run) (o : Outcome Reported) → to_begin p.stage.next ≡ true → Holding T input output₀ p o → Begun T input output₀ (turned T input p) o
+  turn_holds p o going h =
+      let b = begin_holds p o going h in
+      let q = begin_step T input (node_of p.stage.next) p in
       record { rest = b.rest; begun = b.begun; holds = open_holds (climbed T input q) b.rest (climb_holds (weight_of q.stage) q b.rest b.holds) }
 
 -- ---- what is to be done after a turn
 
--- What is to be done next in a run.
-abbrev mode_of : Run → Mode
-mode_of p = p.stage.mode
+-- Whether a record is finished, or a call is to open, next in a run.
+abbrev finishes : Run → Bool
+finishes p = is_finished p.stage.next
+
+abbrev opens_next : Run → Bool
+opens_next p = to_open p.stage.next
 
 module _ (T input : List ℕ) where
   -- a stage whose record is finished has a weight above 0
-  some_weight : (s : Stage) → s.mode ≡ Finished → 0 < weight_of s
+  some_weight : (s : Stage) → is_finished s.next ≡ true → 0 < weight_of s
   unfolding weight_of
-  some_weight s e = rw (weight_of, finished_true _ e) (omega arith)
+  some_weight s e = rw (weight_of, e) (omega arith)
 
   -- nothing is finished after a climb
-  climb_settles : (n : ℕ) (p : Run) → weight_of p.stage ≤ n → (climbing T input n p).stage.mode ≢ Finished
+  climb_settles : (n : ℕ) (p : Run) → weight_of p.stage ≤ n → finishes (climbing T input n p) ≡ false
   unfolding climbing
-  climb_settles zero p low = λ e. absurd (omega (arith, some_weight p.stage e))
-  climb_settles (suc n) p low = by (is_finished p.stage.mode) refl (ltb (weight_of (rise_step T input p).stage) (weight_of p.stage)) refl (λ less. climb_settles n (rise_step T input p) less)
+  climb_settles zero p low = by (is_finished p.stage.next) refl
     where
-      by : (b : Bool) → is_finished p.stage.mode ≡ b → (c : Bool) → ltb (weight_of (rise_step T input p).stage) (weight_of p.stage) ≡ c
-          → (weight_of (rise_step T input p).stage ≤ n → (climbing T input n (rise_step T input p)).stage.mode ≢ Finished)
-          → mode_of
+      by : (b : Bool) → is_finished p.stage.next ≡ b → is_finished p.stage.next ≡ false
+      by true e = absurd (omega (arith, some_weight p.stage e))
+      by false e = e
+  climb_settles (suc n) p low = by (is_finished p.stage.next) refl (ltb (weight_of (rise_step T input p).stage) (weight_of p.stage)) refl (λ less. climb_settles n (rise_step T input p) less)
+    where
+      by : (b : Bool) → is_finished p.stage.next ≡ b → (c : Bool) → ltb (weight_of (rise_step T input p).stage) (weight_of p.stage) ≡ c
+          → (weight_of (rise_step T input p).stage ≤ n → finishes (climbing T input n (rise_step T input p)) ≡ false)
+          → finishes
           (elim b [
             | true ↦
                 elim c [
                   | true ↦ climbing T input n (rise_step T input p)
-                  | false ↦ run (rise_step T input p).output (rise_step T input p).values (rise_step T input p).returns (staged (rise_step T input p).stage Stuck 0 0)
+                  | false ↦ run (rise_step T input p).output (rise_step T input p).values (rise_step T input p).returns (staged (rise_step T input p).stage Stuck)
                 ]
             | false ↦ p
           ])
-          ≢ Finished
+          ≡ false
       by true e true less next = next (omega (arith, ltb-true (weight_of (rise_step T input p).stage) (weight_of p.stage) less))
-      by true e false less next = λ (e : Stuck ≡ Finished). cc
-      by false e c less next = other_mode is_finished _ Finished e refl
+      by true e false less next = refl
+      by false e c less next = e
 
-  open_settles : (p : Run) → p.stage.mode ≢ Finished → ((open_step T input p).stage.mode ≢ Finished) × ((open_step T input p).stage.mode ≢ Open)
+  open_settles : (p : Run) → finishes p ≡ false → (finishes (open_step T input p) ≡ false) × (opens_next (open_step T input p) ≡ false)
   unfolding open_step
-  open_settles p settled = by (to_open p.stage.mode) refl
+  open_settles p settled = by (to_open p.stage.next) refl
     where
       t : Turn
-      t = opened_turn T input p.stage.node (state_of p.values p.returns p.stage)
+      t = opened_turn T input (node_of p.stage.next) (state_of p.values p.returns p.stage)
 
-      by : (b : Bool) → to_open p.stage.mode ≡ b
-          → (mode_of (elim b [ true ↦ run p.output (words_of p.values t) (returns_of p.returns t) (stage_of p.stage t) | false ↦ p ]) ≢ Finished)
-          × (mode_of (elim b [ true ↦ run p.output (words_of p.values t) (returns_of p.returns t) (stage_of p.stage t) | false ↦ p ]) ≢ Open)
-      by true e = opened_settled T input p.stage.node (state_of p.values p.returns p.stage) p.stage
-      by false e = (settled, other_mode to_open _ Open e refl)
+      by : (b : Bool) → to_open p.stage.next ≡ b
+          → (finishes (elim b [ true ↦ run p.output (words_of p.values t) (returns_of p.returns t) (stage_of p.stage t) | false ↦ p ]) ≡ false)
+          × (opens_next (elim b [ true ↦ run p.output (words_of p.values t) (returns_of p.returns t) (stage_of p.stage t) | false ↦ p ]) ≡ false)
+      by true e = opened_settled T input (node_of p.stage.next) (state_of p.values p.returns p.stage) p.stage
+      by false e = (settled, e)
 
-  pub turn_settles : (p : Run) → ((turned T input p).stage.mode ≢ Finished) × ((turned T input p).stage.mode ≢ Open)
+  pub turn_settles : (p : Run) → (finishes (turned T input p) ≡ false) × (opens_next (turned T input p) ≡ false)
   turn_settles p =
-      let q = begin_step T input p in
+      let q = begin_step T input (node_of p.stage.next) p in
       open_settles (climbed T input q) (climb_settles (weight_of q.stage) q (omega arith))

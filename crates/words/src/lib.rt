@@ -13,7 +13,10 @@ pub fn bytes_at<const WIDTH: usize>(s: &[u8], at: usize) -> Option<&[u8; WIDTH]>
     s.get(at..)?.first_chunk()
 }
 
-// The number that two bytes stand for.
+// The number that two bytes stand for. (What is read and written of 16 bits, and of 32 in
+// `words32`, is no one generic function: each type has its own `from_le_bytes` and `to_le_bytes`,
+// and std has no trait for them. A trait of our own would state both methods, their laws and an
+// impl for each type, more text than the functions that it would make one of.)
 #[tactic(auto, using(crate::proofs::Bytes::numbers_read))]
 pub fn word16(b0: u8, b1: u8) -> u16
     ensures { result ≡ number_of (b0 ∷ b1 ∷ []) }
@@ -28,13 +31,14 @@ pub fn read8(s: &[u8], at: usize) -> u8
     s.get(at).copied().unwrap_or(0)
 }
 
-// The 16-bit number at an offset, or 0 where the slice does not hold it whole.
+// The 16-bit number at an offset, or 0 where the slice does not hold it whole. (`words32: read32`
+// is the like of 32 bits: see `word16`.)
 #[tactic(auto, using(crate::proofs::Bytes::numbers_read))]
 pub fn read16(s: &[u8], at: usize) -> u16
     ensures { result ≡ number_at 2 s.now at }
 {
     match bytes_at::<2>(s, at) {
-        Some(bytes) => u16::from_le_bytes(*bytes),
+        Some(&[low, high]) => word16(low, high),
         None => 0,
     }
 }

@@ -7,7 +7,8 @@ ghost use Rattle.std.specs.Prelude.{◌≡◌, [], ◌∷◌};
 ghost use Rattle.formats.specs.Numbers.{bytes_of, number_of, number_at};
 ghost use Rattle.formats.specs.Written.{written};
 
-// The number that four bytes stand for.
+// The number that four bytes stand for. (Why what is here is no one generic function with what
+// `words` and `writing` do of 16 bits, `words: word16` says.)
 #[tactic(auto, using(words::proofs::Bytes::numbers_read))]
 pub fn word32(b0: u8, b1: u8, b2: u8, b3: u8) -> u32
     ensures { result ≡ number_of (b0 ∷ b1 ∷ b2 ∷ b3 ∷ []) }
@@ -21,7 +22,7 @@ pub fn read32(s: &[u8], at: usize) -> u32
     ensures { result ≡ number_at 4 s.now at }
 {
     match words::bytes_at::<4>(s, at) {
-        Some(bytes) => u32::from_le_bytes(*bytes),
+        Some(&[b0, b1, b2, b3]) => word32(b0, b1, b2, b3),
         None => 0,
     }
 }

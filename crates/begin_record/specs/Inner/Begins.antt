@@ -9,11 +9,11 @@ use Rattle.named_trees.specs.Inner.Offsets.{named_by}
 unfoldable pub begun_turn : (T input : List ℕ) → ℕ → State → Turn
 begun_turn T input r s = elim (ltb r record_limit) [ true ↦ beginning T input (named_by T input r s) r s | false ↦ stuck ]
 
--- The step from a stage whose record is to begin. It does not look at the return words.
-pub record Begins (T input values values' : List ℕ) (s r : Stage) : Type 0 where
-  pub is : (returns : List ℕ) → Reaches (begun_turn T input s.node (state_of values returns s)) values values' returns returns s r
+-- The step from a stage whose record r is to begin. It does not look at the return words.
+pub record Begins (T input values values' : List ℕ) (r : ℕ) (s t : Stage) : Type 0 where
+  pub is : (returns : List ℕ) → Reaches (begun_turn T input r (state_of values returns s)) values values' returns returns s t
 
 -- .. and from one whose record looks at a tree.
-pub record Looks (T input values values' : List ℕ) (s r : Stage) : Type 0 where
+pub record Looks (T input values values' : List ℕ) (r : ℕ) (s t : Stage) : Type 0 where
   pub is : (returns : List ℕ)
-      → Reaches (looking T input (named_by T input s.node (state_of values returns s)) s.node (state_of values returns s)) values values' returns returns s r
+      → Reaches (looking T input (named_by T input r (state_of values returns s)) r (state_of values returns s)) values values' returns returns s t

@@ -1,13 +1,9 @@
--- `block_check::word_sum` meets its contract. Before each turn of the loop the words passed are in
--- the sum, and those left make it whole. The measure is the number of words left.
-use Rattle.block_check.proofs.Checks.{summed}
+-- `block_check::word_sum` meets its contract: the sum goes over the bytes two by two.
+use Rattle.std.proofs.Common.{rules}
+use Rattle.block_check.proofs.Checks.{pairs_in_order, pairs_summed}
 use Rattle.block_check.proofs.word_sum.Goals as goal
 
-pub loop-k-init : goal.loop-k-init
-loop-k-init c = search summed
-
-pub loop-k-preserved : goal.loop-k-preserved
-loop-k-preserved c = search summed
-
 pub returns : goal.returns
-returns c = search summed
+returns c =
+    let run = c.fold.ensures.runs in
+    pairs_summed _ c.args.s.now c.fold.result run.0 run.1 c.fold.ensures.ran (search pairs_in_order) (λ sum word next q k. search rules)

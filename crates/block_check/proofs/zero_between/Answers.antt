@@ -1,16 +1,16 @@
--- `block_check::zero_between` meets its contract. Before each turn of the loop the bytes passed are
--- zero, so those left decide. The measure is the number of bytes left.
-use Rattle.block_check.proofs.Checks.{zeroed}
+-- `block_check::zero_between` meets its contract: the bytes from the one offset up to the other are
+-- tested one by one.
+use Rattle.std.proofs.Common.{rules, ◌∙◌, eqb, take, drop}
+use borrow.Author.Tests.{tests}
+use Rattle.std.proofs.lemmas.Iterator.{YieldsList-from_slice, YieldsList-from_take}
+use Rattle.std.proofs.lemmas.Iterator.Adapters.{YieldsList-from_skip}
+use Rattle.std.proofs.lemmas.Iterator.Search.{all_from_yields_List}
+use Rattle.block_check.proofs.Checks.{zeros_is}
 use Rattle.block_check.proofs.zero_between.Goals as goal
 
-pub loop-i-init : goal.loop-i-init
-loop-i-init c = search zeroed
-
-pub returns-then-read8-ne0 : goal.returns-then-read8-ne0
-returns-then-read8-ne0 c = search zeroed
-
-pub loop-i-preserved : goal.loop-i-preserved
-loop-i-preserved c = search zeroed
-
 pub returns : goal.returns
-returns c = search zeroed
+returns c =
+    all_from_yields_List (λ byte. eqb byte 0) _ _ c.all.result c.all.ensures.ran
+    (YieldsList-from_skip c.args.from (YieldsList-from_take c.args.to (YieldsList-from_slice c.args.s.now cc) cc) cc)
+    (λ x b q k. search (rules, tests))
+    ∙ zeros_is (drop c.args.from (take c.args.to c.args.s.now))

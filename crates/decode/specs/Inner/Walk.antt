@@ -1,6 +1,6 @@
 -- What the functions promise that fill a table, over flat records s. `table` and `cases` are the
 -- words of the table and of the stack of Cases at entry, `table'` and `cases'` at exit.
-use Rattle.std.specs.Prelude.{ℕ, suc, ◌+◌, ◌-◌, ◌*◌, ◌%◌, ◌≤◌, ◌<◌, List, [], ◌∷◌, ◌++◌, ◌≡◌, length, get_or, take}
+use Rattle.std.specs.Prelude.{ℕ, suc, ◌+◌, ◌-◌, ◌*◌, ◌%◌, ◌≤◌, ◌<◌, List, [], ◌∷◌, ◌++◌, ◌≡◌, length, get_or, take, Option, Some, IfSome}
 use Rattle.formats.specs.Results.{done, verdict}
 use Rattle.formats.specs.Records.{Kind, Part, a_number, a_tree, as_whole, under_number, under_trees, parts_of, part_count}
 use Rattle.formats.specs.Programs.{Expr, size, Placed, Function, Program}
@@ -13,10 +13,12 @@ use Rattle.records.specs.declared.Record.{Record}
 use Rattle.records.specs.declared.Parts.{Parts}
 use Rattle.walks.specs.Inner.Limits.{most_count}
 use Rattle.walks.specs.Inner.Walks.{Inside, Went, Here, HereRow, PartsFrom, Begins}
-use Rattle.stepwise.specs.Inner.Rows.{whole, last_word, action_of, role_of, slot_of, keeps_in, part_location, operand_of, tree_of, more_of, rows_of, row_words, tabled}
+use Rattle.stepwise.specs.Inner.Rows.{last_word, action_of, keeps_in, part_location, operand_of, tree_of, more_of, rows_of, row_words, tabled}
 use Rattle.stepwise.specs.Inner.Rows.{Location as LocationThere}
+use Rattle.frames.specs.declared.Role.TheVariants.{Whole}
+use Rattle.frames.specs.Inner.Named.{action_number, role_number}
 use Rattle.part_locations.specs.declared.Location.{Location}
-use Rattle.part_locations.specs.Inner.Locations.{location_with}
+use Rattle.part_locations.specs.Inner.Locations.{location_with, role_inside, slot_inside}
 use Rattle.record_rows.specs.declared.Own.{Own}
 use Rattle.record_rows.specs.Inner.Halves.{first_in}
 use Rattle.decode.specs.Inner.Decoding.{table_words}
@@ -44,9 +46,9 @@ deeper under_trees depth = suc depth
 unfoldable pub inside_location : Part → Kind → (r i count : ℕ) → Location → Location
 inside_location part kind r i count p =
     record {
-      role = role_of (λ b. 0) (λ b. count) kind i;
+      role = role_inside kind i count;
       parent = r;
-      slot = slot_of (λ b. 0) (λ b. count) (location_with p []) kind i;
+      slot = slot_inside kind i count p;
       names = names_under part p.names;
       keeps = keeps_in (λ b. 0) (λ b. count) (location_with p []) kind i;
       depth = deeper part p.depth;
@@ -74,7 +76,7 @@ pub record Stacked (cases : List ℕ) (depth more : ℕ) : Type 0 where
 
 -- The first half of a row is the right one.
 pub record FirstHalf (entry arity : ℕ → ℕ) (p : LocationThere) (kind : Kind) (o : Own) : Type 0 where
-  pub action : o.action ≡ action_of kind
+  pub action : action_number o.action ≡ action_of kind
   pub operand : o.operand ≡ operand_of entry arity p kind
   pub tree : o.tree ≡ tree_of entry arity p kind
   pub more : o.more ≡ more_of entry arity kind
@@ -82,7 +84,7 @@ pub record FirstHalf (entry arity : ℕ → ℕ) (p : LocationThere) (kind : Kin
 -- The words of a row, made from its two halves.
 abbrev pub row_in : Own → Location → ℕ → List ℕ
 row_in o p after =
-    o.action ∷ o.operand ∷ o.tree ∷ o.more ∷ p.role ∷ (p.parent % 65536) ∷ (p.slot % 65536) ∷ (after % 65536) ∷ []
+    action_number o.action ∷ o.operand ∷ o.tree ∷ o.more ∷ role_number p.role ∷ (p.parent % 65536) ∷ (p.slot % 65536) ∷ (after % 65536) ∷ []
 
 -- ---- an expression
 
@@ -108,15 +110,18 @@ pub record Same (cases cases' : List ℕ) (depth : ℕ) : Type 0 where
   pub long : length cases' ≡ length cases
   pub below_depth : take depth cases' ≡ take depth cases
 
--- The rows of the expression's records are in the table; nothing else in it has changed.
-pub record Filled (table table' cases cases' : List ℕ) (entry arity : ℕ → ℕ) (k : ℕ) (p : Location) (e : Expr) (next : ℕ) : Type 0 where
-  pub after : next ≡ k + size e
+-- The rows of the expression's records are in the table; nothing else in it has changed. The record
+-- after it is given.
+pub record Filled (table table' cases cases' : List ℕ) (entry arity : ℕ → ℕ) (k : ℕ) (p : Location) (e : Expr) (r : Option ℕ) : Type 0 where
+  pub after : r ≡ Some (k + size e)
   pub rows : table' ≡ written table (row_words * k) (rows_of entry arity (location_with p cases) k e)
   pub stack : Same cases cases' p.depth
 
-pub record FillsRows (s table table' cases cases' : List ℕ) (k end : ℕ) (p : Location) (next : ℕ) : Type 0 where
-  pub went : Went k end next
-  pub is : (entry arity : ℕ → ℕ) (e : Expr) → Entering s table cases entry arity k end p e → Filled table table' cases cases' entry arity k p e next
+-- A record that is given is beyond record k and not past the end; where a program's expression
+-- stands, one is given.
+pub record FillsRows (s table table' cases cases' : List ℕ) (k end : ℕ) (p : Location) (r : Option ℕ) : Type 0 where
+  pub went : IfSome r (Went (suc k) end)
+  pub is : (entry arity : ℕ → ℕ) (e : Expr) → Entering s table cases entry arity k end p e → Filled table table' cases cases' entry arity k p e r
 
 -- ---- parts
 
@@ -162,7 +167,7 @@ pub record FillsParts (s table table' cases cases' : List ℕ) (node : Record) (
 
 -- Where the body of a function stands.
 abbrev pub start_location : Function → Location
-start_location f = record { role = whole; parent = 0; slot = 0; names = f.parameters; keeps = 0; depth = 0 }
+start_location f = record { role = Whole; parent = 0; slot = 0; names = f.parameters; keeps = 0; depth = 0 }
 
 abbrev pub Starts : List ℕ → ℕ → Location → Type 0
 Starts s j p = Begins Location s j start_location p

@@ -2,7 +2,6 @@
 -- own buffer, and the rows header to prefix form are tested there.
 use borrow.Author.Rules.{rules}
 use lib.Seq.{length-take-le}
-use Rattle.std.proofs.lemmas.Result.{err_from_is_err_and}
 use Rattle.files.proofs.Laws.{read_ways}
 use Rattle.files.proofs.read_file.Goals as goal
 
@@ -13,9 +12,7 @@ pub slice_bounds-put_program-end : goal.slice_bounds-put_program-end
 slice_bounds-put_program-end c = search (rules, length-take-le, read_ways, c.in_ok-bytes.was)
 
 pub returns-in_err-bytes : goal.returns-in_err-bytes
-returns-in_err-bytes c =
-    let p = err_from_is_err_and c.from_residual.result c.from_residual.ensures.1 in
-    rw (p.1, p.2) (search (read_ways, c.in_err-bytes.was))
+returns-in_err-bytes c = search (read_ways, c.in_err-bytes.was)
 
 pub returns : goal.returns
 returns c = search (read_ways, c.in_ok-bytes.was)

@@ -2,17 +2,26 @@
 use Rattle.finish_record.proofs.Rises.{risings}
 use Rattle.finish_record.proofs.rise.Goals as goal
 
-pub returns-in-0 : goal.returns-in-0
-returns-in-0 c = search risings
+pub returns-in-Whole : goal.returns-in-Whole
+returns-in-Whole c = search risings
 
-pub returns-in-1 : goal.returns-in-1
-returns-in-1 c = search risings
+pub returns-in-Kept : goal.returns-in-Kept
+returns-in-Kept c = search risings
 
-pub returns-in-2 : goal.returns-in-2
-returns-in-2 c = search risings
+pub returns-in-Added : goal.returns-in-Added
+returns-in-Added c = search risings
 
-pub returns-in-3 : goal.returns-in-3
-returns-in-3 c = search risings
+pub returns-in-Tested : goal.returns-in-Tested
+returns-in-Tested c = search risings
 
-pub returns-in_default : goal.returns-in_default
-returns-in_default c = search risings
+pub returns-in-Passed : goal.returns-in-Passed
+returns-in-Passed c = search risings
+
+pub returns-in-Labelled : goal.returns-in-Labelled
+returns-in-Labelled c = search risings
+
+pub returns-in-Followed : goal.returns-in-Followed
+returns-in-Followed c = search risings
+
+pub returns-in-LastArgument : goal.returns-in-LastArgument
+returns-in-LastArgument c = search risings

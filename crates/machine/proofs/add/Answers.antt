@@ -1,15 +1,20 @@
--- `machine::add` meets its contract: no fuel is left, words are missing, or the sum of the two top
--- words replaces them or is out of range.
+-- `machine::add` meets its contract: words are missing, or the sum of the two top words replaces
+-- them or is out of range.
+use Prim.Native.Nat.{◌≤◌}
 use native.Mathlib.Omega.{arith}
+use lib.ListN.{length}
+use Rattle.meaning.specs.Running.{value_words}
 use Rattle.operations.proofs.StackLaws.{adds}
-use Rattle.operations.proofs.CheckedLaws.{fuelled, tests}
+use Rattle.operations.proofs.CheckedLaws.{tests}
 use Rattle.machine.proofs.add.Goals as goal
 
 pub returns-then-lacks : goal.returns-then-lacks
-returns-then-lacks g c = search (fuelled, tests, adds)
+returns-then-lacks g c = search (tests, adds)
 
 pub returns-in-Some : goal.returns-in-Some
-returns-in-Some g c = search (fuelled, tests, adds, arith)
+returns-in-Some g c =
+    let long : value_words ≤ length c.args.values.now = omega arith in
+    search (tests, adds)
 
 pub returns-in-None : goal.returns-in-None
-returns-in-None g c = search (fuelled, tests, adds)
+returns-in-None g c = search (tests, adds)

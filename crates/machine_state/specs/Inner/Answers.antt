@@ -1,8 +1,8 @@
 -- What the machine's answers report.
-use Rattle.std.specs.Prelude.{◌≡◌, ℕ, ◌+◌, ◌%◌, ◌^◌, true, false, List}
+use Rattle.std.specs.Prelude.{◌≡◌, ℕ, ◌+◌, ◌%◌, ◌^◌, true, false, List, Result as Outcome, Ok, Err}
 use Rattle.formats.specs.Results.{done, refusal}
+use Rattle.refusal.specs.Inner.Answered.{answered}
 use Rattle.refusal.specs.Inner.Numbers.{number}
-use Rattle.refusal.specs.Inner.Verdicts.{verdict_result}
 use Rattle.refusal.specs.declared.Refused.{Refused}
 use Rattle.meaning.specs.Performing.{number_kept}
 use Rattle.meaning.specs.Running.{Ran, Answer as Due}
@@ -11,10 +11,15 @@ use Rattle.machine_state.specs.Inner.States.{frame_of, has_ended, refusal_number
 use Rattle.machine_state.specs.declared.Machine.{Machine}
 use Rattle.machine_state.specs.declared.Answer.{Answer}
 
+-- The number of a run that has ended; where a run is refused, 0.
+abbrev pub number_in : Outcome ℕ Refused → ℕ
+number_in (Ok n) = n
+number_in (Err r) = 0
+
 -- The answer, as 01, The answer of a stream run, has it.
 abbrev pub run_answer : Answer → Due
 run_answer a =
-    record { outcome = verdict_result a.verdict; units = a.units; bytes_read = a.read; bytes_written = a.written; number = a.number }
+    record { outcome = answered (λ n. tt) a.outcome; units = a.units; bytes_read = a.read; bytes_written = a.written; number = number_in a.outcome }
 
 -- The answer of a call that is refused before its first instruction.
 abbrev pub nothing_done : Refused → Due

@@ -1,12 +1,14 @@
 -- The state that the machine's numbers and the lent words stand for.
 use Rattle.std.specs.Prelude.{◌≡◌, ℕ, zero, suc, ◌+◌, ◌-◌, ◌/◌, ◌<◌, ◌≤◌, min, Bool, true, false, List, [], ◌∷◌, length, take, nat_lt, slice_index, slice_index_or}
-use Rattle.formats.specs.Refusals.{fuel_used_up, input_ended, not_a_tag, output_full, too_many_calls, cannot_perform, out_of_range}
+use Rattle.formats.specs.Refusals.{cannot_perform}
+use Rattle.refusal.specs.Inner.Numbers.{number}
+use Rattle.refusal.specs.declared.Refusal.{Refusal}
 use Rattle.meaning.specs.Instructions.{instruction_bytes, most_instructions}
 use Rattle.meaning.specs.Performing.{Setting, Caller, State, Step, goes, ends, refuses, number_kept}
 use Rattle.meaning.specs.Running.{value_words, return_words, most_calls}
 use Rattle.machine_state.specs.declared.Machine.{Machine}
 use Rattle.machine_state.specs.declared.Stop.{Stop}
-use Rattle.machine_state.specs.declared.Stop.TheVariants.{GoesOn, Ended, FuelUsedUp, InputEnded, NotATag, OutputFull, TooManyCalls, CannotPerform, OutOfRange}
+use Rattle.machine_state.specs.declared.Stop.TheVariants.{GoesOn, Ended, Refused}
 
 -- The n value words from a base up, the top one first.
 unfoldable pub words_from : List ℕ → ℕ → ℕ → List ℕ
@@ -41,37 +43,16 @@ state_of values returns output s =
 -- Whether the machine goes on, and whether its run has ended.
 abbrev pub goes_on : Stop → Bool
 goes_on GoesOn = true
-goes_on Ended = false
-goes_on FuelUsedUp = false
-goes_on InputEnded = false
-goes_on NotATag = false
-goes_on OutputFull = false
-goes_on TooManyCalls = false
-goes_on CannotPerform = false
-goes_on OutOfRange = false
+goes_on _ = false
 
 abbrev pub has_ended : Stop → Bool
-has_ended GoesOn = false
 has_ended Ended = true
-has_ended FuelUsedUp = false
-has_ended InputEnded = false
-has_ended NotATag = false
-has_ended OutputFull = false
-has_ended TooManyCalls = false
-has_ended CannotPerform = false
-has_ended OutOfRange = false
+has_ended _ = false
 
 -- The number of the refusal that stops the machine: 19 where it has not been refused.
 abbrev pub refusal_number : Stop → ℕ
-refusal_number GoesOn = cannot_perform
-refusal_number Ended = cannot_perform
-refusal_number FuelUsedUp = fuel_used_up
-refusal_number InputEnded = input_ended
-refusal_number NotATag = not_a_tag
-refusal_number OutputFull = output_full
-refusal_number TooManyCalls = too_many_calls
-refusal_number CannotPerform = cannot_perform
-refusal_number OutOfRange = out_of_range
+refusal_number (Refused why) = number why
+refusal_number _ = cannot_perform
 
 -- The outcome of an instruction: the run goes on; it has ended, and its number is the top word of
 -- the frame, if there is one; or the instruction is refused.
@@ -131,6 +112,9 @@ pub record Lent (s : Machine) (input output values returns : List ℕ) : Type 0 
 abbrev pub stopped_by : Stop → Machine → Machine
 stopped_by why s =
     record { stop = why; address = s.address; top = s.top; base = s.base; saved = s.saved; read = s.read; written = s.written }
+
+abbrev pub refused_by : Refusal → Machine → Machine
+refused_by why = stopped_by (Refused why)
 
 abbrev pub next_to : ℕ → Machine → Machine
 next_to top s =

@@ -9,6 +9,6 @@ use Rattle.named_trees.specs.Inner.Offsets.{named_by}
 unfoldable pub opened_turn : (T input : List ℕ) → ℕ → State → Turn
 opened_turn T input r s = elim (ltb r record_limit) [ true ↦ opening T (named_by T input r s) r s | false ↦ stuck ]
 
--- The step from a stage whose call is to open.
-pub record Opens (T input values values' returns returns' : List ℕ) (s r : Stage) : Type 0 where
-  pub is : Reaches (opened_turn T input s.node (state_of values returns s)) values values' returns returns' s r
+-- The step from a stage whose call at record r is to open.
+pub record Opens (T input values values' returns returns' : List ℕ) (r : ℕ) (s t : Stage) : Type 0 where
+  pub is : Reaches (opened_turn T input r (state_of values returns s)) values values' returns returns' s t

@@ -9,8 +9,8 @@ use Rattle.meaning.specs.Performing.{Setting, State, start, refuses, step}
 use Rattle.meaning.specs.Running.{value_words, of_code}
 use Rattle.meaning.specs.StreamRun.{Steps as Led}
 use Rattle.machine_state.specs.declared.Machine.{Machine}
-use Rattle.machine_state.specs.declared.Stop.TheVariants.{FuelUsedUp}
-use Rattle.machine_state.specs.Inner.States.{state_of, Held, stopped_by}
+use Rattle.refusal.specs.declared.Refusal.TheVariants.{FuelUsedUp}
+use Rattle.machine_state.specs.Inner.States.{state_of, Held, refused_by}
 use Rattle.operations.specs.Inner.Effects.{Performs}
 
 -- ---- what is asked
@@ -48,12 +48,8 @@ pub record ReturnByte (k : ℕ) : Type 0 where
 
 -- ---- what is done. 01, Fuel and units: "Fuel is looked at first."
 
--- With no fuel left the machine stops with 14, and what is lent stays as it was; else it is done.
-pub record Fuelled (fuel : ℕ) (lent lent' : List ℕ) (s r : Machine) (Done : Type 0) : Type 0 where
-  pub used_up : fuel ≡ 0 → (r ≡ stopped_by FuelUsedUp s) × (lent' ≡ lent)
-  pub performed : fuel ≢ 0 → Done
-
--- The same of an instruction, which is lent all buffers.
+-- With no fuel left the machine stops with 14, and what is lent stays as it was; else the
+-- instruction is performed.
 pub record Turns (fuel : ℕ) (i : Instruction) (input values returns output values' returns' output' : List ℕ) (s r : Machine) : Type 0 where
-  pub used_up : fuel ≡ 0 → (r ≡ stopped_by FuelUsedUp s) × (values' ≡ values) × (returns' ≡ returns) × (output' ≡ output)
+  pub used_up : fuel ≡ 0 → (r ≡ refused_by FuelUsedUp s) × (values' ≡ values) × (returns' ≡ returns) × (output' ≡ output)
   pub performed : fuel ≢ 0 → Performs i input values returns output values' returns' output' s r

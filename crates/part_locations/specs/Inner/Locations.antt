@@ -1,8 +1,10 @@
 -- Where the parts of a record stand, whatever its own location: what `stepwise/specs/Inner/Rows`
 -- says of them, with counts that are 64-bit numbers.
-use Rattle.std.specs.Prelude.{ℕ, zero, suc, ◌≡◌, ◌+◌, ◌-◌, ◌%◌, ◌^◌, min, List, [], set, take}
+use Rattle.std.specs.Prelude.{ℕ, zero, suc, ◌+◌, ◌-◌, ◌%◌, ◌^◌, min, List, [], set, take}
 use Rattle.formats.specs.Records.{Kind, Const, Var, Compute, IfZero, Let, Leaf, Node, Case, Call, Part, a_number, a_tree, as_whole, under_number, under_trees}
 use Rattle.stepwise.specs.Inner.Rows.{role_of, slot_of, Location as LocationThere}
+use Rattle.frames.specs.declared.Role.{Role}
+use Rattle.frames.specs.Inner.Named.{role_number, role_of_number}
 use Rattle.part_locations.specs.declared.Location.{Location}
 
 -- The largest 64-bit number. Sums stop there.
@@ -15,7 +17,7 @@ capped n = min n largest
 -- A location as `stepwise` has it, with the Cases taken from the stack.
 abbrev pub location_with : Location → List ℕ → LocationThere
 location_with p cases =
-    record { role = p.role; parent = p.parent; slot = p.slot; names = p.names; keeps = p.keeps; cases = take p.depth cases }
+    record { role = role_number p.role; parent = p.parent; slot = p.slot; names = p.names; keeps = p.keeps; cases = take p.depth cases }
 
 -- How many numbers are named in a part, by what the part is. At its record `names` are named.
 unfoldable pub names_inside : Part → ℕ → ℕ
@@ -49,17 +51,15 @@ keeps_inside (Call a b) i keeps = capped (keeps + i)
 
 -- What part i of a record of this kind is for, which has `count` parts, and on which word. (A
 -- function matters by its arity alone, and the Cases of the location do not matter.)
-abbrev pub role_inside : Kind → (i count : ℕ) → ℕ
-role_inside kind i count = role_of (λ b. 0) (λ b. count) kind i
+abbrev pub role_inside : Kind → (i count : ℕ) → Role
+role_inside kind i count = role_of_number (role_of (λ b. 0) (λ b. count) kind i)
 
 abbrev pub slot_inside : Kind → (i count : ℕ) → Location → ℕ
 slot_inside kind i count p = slot_of (λ b. 0) (λ b. count) (location_with p []) kind i
 
 -- The three that go by the record's kind.
-pub record Used (kind : Kind) (i count : ℕ) (p : Location) (role slot keeps : ℕ) : Type 0 where
-  pub role_is : role ≡ role_inside kind i count
-  pub slot_is : slot ≡ slot_inside kind i count p
-  pub keeps_is : keeps ≡ keeps_inside kind i p.keeps
+unfoldable pub used_in : Kind → (i count : ℕ) → Location → Role × ℕ × ℕ
+used_in kind i count p = (role_inside kind i count, slot_inside kind i count p, keeps_inside kind i p.keeps)
 
 -- Where part i of the record r stands, which has `count` parts: by what the part is, and by the
 -- record's kind.

@@ -4,4 +4,4 @@ use Rattle.pass_one.proofs.Functions.{Walking}
 use Rattle.pass_one.proofs.pass.Given as goal
 
 abbrev pub invariant-loop-j : goal.invariant-loop-j
-invariant-loop-j l = Walking l.flat l.functions l.end l.k l.j
+invariant-loop-j l = Walking l.flat l.functions l.walk.end l.k l.j

@@ -1,22 +1,21 @@
 -- What the functions of pass one answer; s are the flat records.
 use Rattle.std.specs.Prelude.{ℕ, suc, ◌+◌, ◌-◌, ◌*◌, ◌≤◌, ◌<◌, Bool, true, false, List, ◌≡◌, Result as Answer, Ok}
 use Rattle.formats.specs.Results.{Result, done, on_value}
-use Rattle.formats.specs.Records.{Kind, function_below}
-use Rattle.formats.specs.Programs.{Expr, size, Placed, Signature, Program}
+use Rattle.formats.specs.Records.{function_below}
+use Rattle.formats.specs.Programs.{Expr, size, Signature, Program}
 use Rattle.formats.specs.Rows.{read_program}
 use Rattle.formats.specs.Inner.Fields.{header_in, function_in}
 use Rattle.refusal.specs.Inner.Verdicts.{verdict_result}
 use Rattle.refusal.specs.Inner.Answered.{answered}
 use Rattle.refusal.specs.declared.Refused.{Refused}
-use Rattle.records.specs.Inner.Read.{meant, listed}
-use Rattle.records.specs.declared.Parts.{Parts}
+use Rattle.records.specs.Inner.Read.{meant}
 use Rattle.records.specs.declared.Record.{Record}
 use Rattle.rules.specs.Types.{Ty, Int, Tree⁺}
 use Rattle.rules.specs.Scopes.{scope, start_of, entry, entered, Scope as ScopeThere}
 use Rattle.rules.specs.PassOne.{type_fits, words_tested, has_room, bare_number, at_entry, pass_over, pass_one}
-use Rattle.walks.specs.Inner.Standing.{Known, pass_parts}
+use Rattle.walks.specs.Inner.Standing.{Known}
 use Rattle.walks.specs.Inner.Limits.{most_count, most_tree_names}
-use Rattle.walks.specs.Inner.Walks.{Inside, Went, Here, HereRow, PartsFrom, Begins}
+use Rattle.walks.specs.Inner.Walks.{Inside, Went, Here, Begins}
 use Rattle.pass_one.specs.declared.Scope.{Scope}
 
 -- The type expected, by whether it is a tree.
@@ -77,14 +76,6 @@ pub record Entered (s : List ℕ) (k end : ℕ) (c : Scope) (r : Answer ℕ Refu
   pub went : (next : ℕ) → r ≡ Ok next → Went (suc k) end next
   pub is : (e : Expr) (here : Here s end k e)
       → reported r ≡ on_value (λ u. k + size e) (pass_over here.signed (entered (scope_of c) k e))
-
--- Pass one over the parts of a record from part i on, `count` in all, the next of them at record k;
--- for the kind whose parts these are.
-pub record EnteredParts (s : List ℕ) (parts : Parts) (i count k end : ℕ) (c : Scope) (r : Answer ℕ Refused) : Type 0 where
-  pub went : (next : ℕ) → r ≡ Ok next → Went k end next
-  pub is : (kind : Kind) (ps : List Placed) (m : ℕ) (here : HereRow s end k ps m)
-      → PartsFrom s (listed parts) kind i count ps
-      → reported r ≡ on_value (λ u. m) (pass_parts here.signed kind i (scope_of c) ps)
 
 -- The scope on entering the body of function j.
 abbrev pub Starts : List ℕ → ℕ → Scope → Type 0

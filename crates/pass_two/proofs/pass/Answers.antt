@@ -1,17 +1,14 @@
 -- `pass_two::pass` meets its contract: the functions before j have passed, so those from j on
 -- decide.
 use native.Mathlib.Omega.{arith}
-use Rattle.std.proofs.lemmas.Result.{err_from_is_err_and}
 use Rattle.pass_two.proofs.Rows.{walk_first, passed_over}
 use Rattle.pass_two.proofs.pass.Goals as goal
 
 pub loop-j-init : goal.loop-j-init
-loop-j-init c = walk_first _ _ _ c.from.result _ (λ i. omega (arith, c.type_inv.flat i)) c.requires (cc) (cc) (cc) (cc)
+loop-j-init c = walk_first _ _ _ _ (λ i. omega (arith, c.type_inv.flat i)) c.requires (cc) (cc) (cc)
 
 pub returns-in_err-k : goal.returns-in_err-k
-returns-in_err-k c =
-    let p = err_from_is_err_and c.from_residual.result c.from_residual.ensures.1 in
-    rw (p.1, p.2) (search (passed_over, c.in_err-k.was))
+returns-in_err-k c = search (passed_over, c.in_err-k.was)
 
 pub loop-j-preserved : goal.loop-j-preserved
 loop-j-preserved c = search (passed_over, c.in_ok-k.was)

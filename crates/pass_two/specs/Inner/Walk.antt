@@ -66,10 +66,10 @@ pub record OrderedIf (s : List ℕ) (k end n : ℕ) (p : Pending) (r : Answer Ch
   pub went_on : WentOn (suc k) end r
   pub reports : (t x y : Expr) → Here s end k (if_zero t x y) → Reports r (k + size (if_zero t x y)) (walk n k (list_of p) (if_zero t x y))
 
--- Pass two over parts from number i on, `count` in all, the next of them at record k.
-pub record OrderedList (s : List ℕ) (i count k end n : ℕ) (p : Pending) (r : Answer Checked Refused) : Type 0 where
+-- Pass two over `count` parts, the first of them at record k.
+pub record OrderedList (s : List ℕ) (count k end n : ℕ) (p : Pending) (r : Answer Checked Refused) : Type 0 where
   pub went_on : WentOn k end r
-  pub reports : (ps : List Placed) (m : ℕ) → HereRow s end k ps m → i + length ps ≡ count → Reports r m (walk_parts n (list_of p) ps)
+  pub reports : (ps : List Placed) (m : ℕ) → HereRow s end k ps m → length ps ≡ count → Reports r m (walk_parts n (list_of p) ps)
 
 -- 01, Pass two: "a function ends with none". The function whose body is at record k.
 abbrev pub walk_function : ℕ → Expr → Result (List ℕ)

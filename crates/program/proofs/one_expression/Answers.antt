@@ -7,8 +7,8 @@ use Rattle.program.proofs.one_expression.Goals as goal
 pub loop-k-init : goal.loop-k-init
 loop-k-init c = search walked
 
-pub returns-in-None : goal.returns-in-None
-returns-in-None c = search (walked, c.in-None.ensures)
+pub returns-in_default : goal.returns-in_default
+returns-in_default c = search (walked, c.in_default.ensures)
 
 pub loop-k-preserved : goal.loop-k-preserved
 loop-k-preserved c = search (walked, c.in-Some.ensures.0, c.in-Some.ensures.1)

@@ -1,10 +1,11 @@
 -- The first half of the row of a record, over flat records s, whatever these are: what
 -- `stepwise/specs/Inner/Rows` says of it, as 16-bit words.
-use Rattle.std.specs.Prelude.{ℕ, ◌+◌, ◌%◌, List, take}
+use Rattle.std.specs.Prelude.{ℕ, ◌+◌, ◌%◌, List}
 use Rattle.formats.specs.Records.{Kind, Const, Var, Compute, IfZero, Let, Leaf, Node, Case, Call}
 use Rattle.formats.specs.Inner.Fields.{header_in, arity_in}
 use Rattle.functions.specs.Inner.Counts.{counts_from}
 use Rattle.stepwise.specs.Inner.Rows.{action_of, naming_code, more_of}
+use Rattle.frames.specs.Inner.Named.{action_of_number}
 use Rattle.record_rows.specs.declared.Own.{Own}
 
 -- The first record of function b, from the node counts of the function records.
@@ -24,23 +25,23 @@ operand_in s names Node = 0
 operand_in s names (Case a) = names % 65536
 operand_in s names (Call a b) = first_in s b % 65536
 
--- The code of the tree that a Case or a Call names, inside the first `depth` Cases on the stack.
-unfoldable pub tree_in : (cases : List ℕ) → (depth : ℕ) → Kind → ℕ
-tree_in cases depth (Const i) = 0
-tree_in cases depth (Var a) = 0
-tree_in cases depth (Compute op) = 0
-tree_in cases depth IfZero = 0
-tree_in cases depth Let = 0
-tree_in cases depth Leaf = 0
-tree_in cases depth Node = 0
-tree_in cases depth (Case a) = naming_code (take depth cases) a % 65536
-tree_in cases depth (Call a b) = naming_code (take depth cases) a % 65536
+-- The code of the tree that a Case or a Call names, inside these Cases.
+unfoldable pub tree_in : (cases : List ℕ) → Kind → ℕ
+tree_in cases (Const i) = 0
+tree_in cases (Var a) = 0
+tree_in cases (Compute op) = 0
+tree_in cases IfZero = 0
+tree_in cases Let = 0
+tree_in cases Leaf = 0
+tree_in cases Node = 0
+tree_in cases (Case a) = naming_code cases a % 65536
+tree_in cases (Call a b) = naming_code cases a % 65536
 
-unfoldable pub own_in : (s cases : List ℕ) (names depth : ℕ) → Kind → Own
-own_in s cases names depth kind =
+unfoldable pub own_in : (s cases : List ℕ) (names : ℕ) → Kind → Own
+own_in s cases names kind =
     record {
-      action = action_of kind;
+      action = action_of_number (action_of kind);
       operand = operand_in s names kind;
-      tree = tree_in cases depth kind;
+      tree = tree_in cases kind;
       more = more_of (λ b. 0) (arity_in s) kind;
     }

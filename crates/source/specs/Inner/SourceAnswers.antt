@@ -1,29 +1,44 @@
 -- What a call of the source run answers.
-use Rattle.std.specs.Prelude.{ℕ, suc, ◌≤◌, ◌<◌, true, false, List, [], ◌≡◌, leb, length}
+use Rattle.std.specs.Prelude.{ℕ, suc, ◌≤◌, true, false, List, [], ◌≡◌, leb, length, Result as Answer, Ok, Err}
 use Rattle.formats.specs.Refusals.{output_full}
 use Rattle.formats.specs.Measures.{Measures, no_measures}
 use Rattle.formats.specs.Results.{done, refusal}
-use Rattle.formats.specs.Blocks.{flat_in}
 use Rattle.formats.specs.Written.{written}
-use Rattle.refusal.specs.Inner.Verdicts.{verdict_result}
+use Rattle.refusal.specs.Inner.Answered.{answered}
+use Rattle.refusal.specs.declared.Refused.{Refused}
 use Rattle.meaning.specs.Running.{value_words, return_words}
 use Rattle.meaning.specs.OpenCalls.{refusal_of, Outcome, gives, stops, begins, with_fuel}
-use Rattle.meaning.specs.SourceRun.{SourceRan, refused_after, position_of, source_run, unless_refused, passed_on, SourceAnswer as Due}
+use Rattle.meaning.specs.SourceRun.{SourceRan, refused_after, position_of, unless_refused, passed_on, SourceAnswer as Due}
 use Rattle.meaning.specs.WorkWords.{before_source, WorkWords}
 use Rattle.stepwise.specs.Inner.Steps.{begin}
 use Rattle.stepwise.specs.Inner.Outcomes.{Reported, Comes}
-use Rattle.result_bytes.specs.Inner.Bytes.{count_limit}
 use Rattle.tree.specs.Inner.TreeResults.{measured}
+use Rattle.source.specs.declared.Ended.{Ended}
 use Rattle.source.specs.declared.SourceAnswer.{SourceAnswer}
+
+-- The bytes written, 0 on a refusal.
+abbrev pub written_in : Answer Ended Refused → ℕ
+written_in (Ok e) = e.value.written
+written_in (Err why) = 0
+
+-- The number, 0 on a refusal.
+abbrev pub number_in : Answer Ended Refused → ℕ
+number_in (Ok e) = e.value.number
+number_in (Err why) = 0
+
+-- The measures of the tree, all 0 on a refusal.
+abbrev pub measures_in : Answer Ended Refused → Measures
+measures_in (Ok e) = measured e.measures
+measures_in (Err why) = no_measures
 
 -- The answer, as 01, The source run, has it.
 abbrev pub source_answer : SourceAnswer → Due
-source_answer a = record { outcome = verdict_result a.verdict; begun = a.begun; bytes_written = a.written; number = a.number }
+source_answer a = record { outcome = answered (λ e. tt) a.outcome; begun = a.begun; bytes_written = written_in a.outcome; number = number_in a.outcome }
 
 -- The answer of a run that is refused after `begun` expressions.
 pub record RefusedAs (number position begun : ℕ) (r : SourceAnswer) : Type 0 where
   pub answer : source_answer r ≡ record { outcome = refusal number position; begun = begun; bytes_written = 0; number = 0 }
-  pub measures : measured r.measures ≡ no_measures
+  pub measures : measures_in r.outcome ≡ no_measures
 
 -- An evaluation on a tree with these measures gives what is due: its answer, every byte of the
 -- output, and the measures, unless it is refused. None of its refusals is one that comes before the
@@ -31,13 +46,8 @@ pub record RefusedAs (number position begun : ℕ) (r : SourceAnswer) : Type 0 w
 pub record Gave (due : SourceRan) (m : Measures) (output' : List ℕ) (r : SourceAnswer) : Type 0 where
   pub answer : source_answer r ≡ due.answer
   pub output : output' ≡ due.output
-  pub measures : measured r.measures ≡ unless_refused due.answer.outcome m
+  pub measures : measures_in r.outcome ≡ unless_refused due.answer.outcome m
   pub late : (number position : ℕ) → due.answer.outcome ≡ refusal number position → before_source number ≡ false
-
--- The length of a buffer, which is below 2^63.
-pub record Room (l : List ℕ) (r : ℕ) : Type 0 where
-  pub is : r ≡ length l
-  pub short : length l < count_limit
 
 -- ---- the outcome of the steps
 
@@ -74,15 +84,15 @@ pub record Evaluates (T input : List ℕ) (m : Measures) (first fuel : ℕ) (out
 
 -- ---- the call
 
+-- The answer of a call whose error is a refusal before the evaluation: nothing has begun.
+abbrev pub answer_of : Answer SourceAnswer Refused → SourceAnswer
+answer_of (Ok a) = a
+answer_of (Err why) = record { outcome = Err why; begun = 0 }
+
 -- A call: its answer, what it passes on of the tree, every byte of the output, and the work words,
 -- which are unspecified after a run and untouched where the call is refused before it.
 pub record Sourced (due : SourceRan) (input output' values values' returns returns' : List ℕ) (r : SourceAnswer) : Type 0 where
   pub answer : source_answer r ≡ due.answer
-  pub measures : measured r.measures ≡ passed_on due.answer.outcome input
+  pub measures : measures_in r.outcome ≡ passed_on due.answer.outcome input
   pub output : output' ≡ due.output
   pub words : WorkWords before_source due.answer.outcome values values' returns returns'
-
--- The call on every file that has these flat records.
-pub record OfFile (flat input output output' values values' returns returns' : List ℕ) (fuel : ℕ) (r : SourceAnswer) : Type 0 where
-  pub is : (file : List ℕ) → flat_in file ≡ done flat
-      → Sourced (source_run file input output fuel (length values) (length returns)) input output' values values' returns returns' r

@@ -2,22 +2,37 @@
 use Rattle.std.specs.Prelude.{ℕ, Bool, true, false, List, ◌≡◌, length}
 use Rattle.formats.specs.Arithmetic.{Op, plus}
 use Rattle.stepwise.specs.Inner.Steps.{State, Turn, begin, finished, opens, ended, deep, broken, stuck}
-use Rattle.stages.specs.declared.Mode.{Mode}
-use Rattle.stages.specs.declared.Mode.TheVariants.{Begin, Finished, Open, Ended, Deep, Stuck, Broken}
+use Rattle.stages.specs.declared.Next.{Next}
+use Rattle.stages.specs.declared.Next.TheVariants.{Begin, Finished, Open, Ended, Deep, Stuck, Broken}
 use Rattle.stages.specs.declared.Stage.{Stage}
 
 -- Whether a record is to begin, a record is finished, a call is to open.
-abbrev pub to_begin : Mode → Bool
-to_begin Begin = true
+abbrev pub to_begin : Next → Bool
+to_begin (Begin r) = true
 to_begin _ = false
 
-abbrev pub is_finished : Mode → Bool
-is_finished Finished = true
+abbrev pub is_finished : Next → Bool
+is_finished (Finished r x) = true
 is_finished _ = false
 
-abbrev pub to_open : Mode → Bool
-to_open Open = true
+abbrev pub to_open : Next → Bool
+to_open (Open r) = true
 to_open _ = false
+
+-- The record that this is to be done with; 0 where there is none.
+abbrev pub node_of : Next → ℕ
+node_of (Begin r) = r
+node_of (Finished r x) = r
+node_of (Open r) = r
+node_of (Deep r) = r
+node_of (Broken r) = r
+node_of _ = 0
+
+-- The number found; 0 where there is none.
+abbrev pub number_of : Next → ℕ
+number_of (Finished r x) = x
+number_of (Ended x) = x
+number_of _ = 0
 
 abbrev pub state_of : (values returns : List ℕ) → Stage → State
 state_of values returns s = record { words = values; returns = returns; calls = s.calls; tree = s.tree; known = s.known; end = s.end }
@@ -33,43 +48,42 @@ pub record Missing : Type 0 where
 -- stage is broken.
 unfoldable pub turn_of : Missing → (values returns : List ℕ) → Stage → Turn
 turn_of m values returns s =
-    elim s.mode [
-      | Begin ↦ begin s.node (state_of values returns s)
-      | Finished ↦ finished s.node s.number (state_of values returns s)
-      | Open ↦ opens s.node (state_of values returns s)
-      | Ended ↦ ended s.number
-      | Deep ↦ deep s.node
+    elim s.next [
+      | Begin r ↦ begin r (state_of values returns s)
+      | Finished r x ↦ finished r x (state_of values returns s)
+      | Open r ↦ opens r (state_of values returns s)
+      | Ended x ↦ ended x
+      | Deep r ↦ deep r
       | Stuck ↦ stuck
-      | Broken ↦ broken m.op m.i m.j s.node
+      | Broken r ↦ broken m.op m.i m.j r
     ]
 
 -- The same frame, with something else to be done next.
-abbrev pub staged : Stage → Mode → ℕ → ℕ → Stage
-staged s mode r number =
-    record { mode = mode; node = r; number = number; calls = s.calls; tree = s.tree; known = s.known; end = s.end; written = s.written }
+abbrev pub staged : Stage → Next → Stage
+staged s next =
+    record { next = next; calls = s.calls; tree = s.tree; known = s.known; end = s.end; written = s.written }
 
 -- The same stage, with so many bytes written.
 abbrev pub with_written : Stage → ℕ → Stage
 with_written s at =
-    record { mode = s.mode; node = s.node; number = s.number; calls = s.calls; tree = s.tree; known = s.known; end = s.end; written = at }
+    record { next = s.next; calls = s.calls; tree = s.tree; known = s.known; end = s.end; written = at }
 
 -- ---- one step
 
 -- The frame of a state, with this to be done next and so many bytes written.
-abbrev pub in_state : State → Mode → (r number written : ℕ) → Stage
-in_state t mode r number written =
-    record { mode = mode; node = r; number = number; calls = t.calls; tree = t.tree; known = t.known; end = t.end; written = written }
+abbrev pub in_state : State → Next → (written : ℕ) → Stage
+in_state t next written =
+    record { next = next; calls = t.calls; tree = t.tree; known = t.known; end = t.end; written = written }
 
--- The stage of a turn that follows the stage s. A turn without a state leaves the frame as it was,
--- and one without a record the record.
+-- The stage of a turn that follows the stage s. A turn without a state leaves the frame as it was.
 unfoldable pub stage_of : Stage → Turn → Stage
-stage_of s (begin r t) = in_state t Begin r 0 s.written
-stage_of s (finished r x t) = in_state t Finished r x s.written
-stage_of s (opens r t) = in_state t Open r 0 s.written
-stage_of s (ended x) = staged s Ended 0 x
-stage_of s (deep r) = staged s Deep r 0
-stage_of s (broken op i j r) = staged s Broken r 0
-stage_of s stuck = staged s Stuck s.node 0
+stage_of s (begin r t) = in_state t (Begin r) s.written
+stage_of s (finished r x t) = in_state t (Finished r x) s.written
+stage_of s (opens r t) = in_state t (Open r) s.written
+stage_of s (ended x) = staged s (Ended x)
+stage_of s (deep r) = staged s (Deep r)
+stage_of s (broken op i j r) = staged s (Broken r)
+stage_of s stuck = staged s Stuck
 
 -- The value words before a turn: those of its state, or where it has none, those that there were.
 unfoldable pub words_of : List ℕ → Turn → List ℕ

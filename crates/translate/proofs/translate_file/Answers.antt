@@ -2,14 +2,11 @@
 -- start of the array `flat`, and these are translated.
 use borrow.Author.Rules.{rules}
 use lib.Seq.{length-take-le}
-use Rattle.std.proofs.lemmas.Result.{err_from_is_err_and}
 use Rattle.translate.proofs.Calls.{file_ways}
 use Rattle.translate.proofs.translate_file.Goals as goal
 
 pub returns-in_err-bytes : goal.returns-in_err-bytes
-returns-in_err-bytes c =
-    let p = err_from_is_err_and c.from_residual.result c.from_residual.ensures.1 in
-    rw (p.1, p.2) (search (file_ways, c.in_err-bytes.was))
+returns-in_err-bytes c = search (file_ways, c.in_err-bytes.was)
 
 pub slice_bounds-flat-end : goal.slice_bounds-flat-end
 slice_bounds-flat-end c = search (file_ways, c.in_ok-bytes.was)

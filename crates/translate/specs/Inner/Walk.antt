@@ -1,10 +1,10 @@
 -- What the functions that emit code answer, over flat records s, a table of entries, and a part of
 -- the code buffer that begins at address `base`: `code'` holds its bytes at entry and `after` those
 -- at exit.
-use Rattle.std.specs.Prelude.{ℕ, ◌+◌, ◌-◌, ◌*◌, ◌≤◌, ◌<◌, List, ◌≡◌, length}
+use Rattle.std.specs.Prelude.{ℕ, ◌+◌, ◌-◌, ◌*◌, ◌≤◌, ◌<◌, List, ◌≡◌, length, Option, Some, IsSome}
 use Rattle.formats.specs.Inner.CodeColumn.{Template}
 use Rattle.formats.specs.Records.{Kind, record_bytes, parts_of, nth_part}
-use Rattle.formats.specs.Results.{done, verdict}
+use Rattle.formats.specs.Results.{done}
 use Rattle.formats.specs.Programs.{Expr, size, Placed, Function, signature_of, Program}
 use Rattle.formats.specs.Inner.Fields.{arity_in, function_in}
 use Rattle.records.specs.Inner.Read.{listed, column_of}
@@ -41,6 +41,12 @@ pub record SmallParts (i k end base at last : ℕ) : Type 0 where
   pub small : Small k end base at (due_from i)
   pub last_small : last ≤ most_emitted
 
+-- So do those that a record's items refer to.
+pub record SmallAddresses (base last beyond : ℕ) : Type 0 where
+  pub base_small : base ≤ most_emitted
+  pub last_small : last ≤ most_emitted
+  pub beyond_small : beyond ≤ most_emitted
+
 -- How far the records and the addresses went on, and that no more is emitted than may be.
 pub record WentOn (k end at due : ℕ) (r : Emitted) : Type 0 where
   pub went : Went k end r.next
@@ -65,12 +71,18 @@ pub record Came (base at k : ℕ) (e : Expr) (r : Emitted) : Type 0 where
   pub next : r.next ≡ k + size e
   pub address : base + r.at ≡ code_end e (base + at)
 
--- The expression at record k, emitted from address base + at on.
-pub record Emits (s entries code' after : List ℕ) (base at k end : ℕ) (c : Scope) (r : Emitted) : Type 0 where
+-- The expression at record k was emitted from address base + at on.
+pub record EmittedHere (s entries code' after : List ℕ) (base at k end : ℕ) (c : Scope) (r : Emitted) : Type 0 where
   pub went_on : WentOn k end at 0 r
+  pub past : k < r.next
   pub came : (e : Expr) → Entering s k end c e → Came base at k e r
   pub emits : (e : Expr) → Entering s k end c e → record_bytes * r.at ≤ length code'
       → after ≡ emitted_at code' at (code (entries_in entries) (sort_of c.tree) (words_in c) c.standing (base + at) e)
+
+-- It is emitted, unless no expression is entered here.
+pub record Emits (s entries code' after : List ℕ) (base at k end : ℕ) (c : Scope) (r : Option Emitted) : Type 0 where
+  pub answered : (e : Expr) → Entering s k end c e → IsSome r
+  pub is : (x : Emitted) → r ≡ Some x → EmittedHere s entries code' after base at k end c x
 
 -- ---- parts
 
@@ -95,12 +107,17 @@ pub record CameParts (base at last : ℕ) (t : Template) (i : ℕ) (ps : List Pl
   pub address : base + r.at ≡ beyond_parts t i (base + at) ps
   pub last-part : base + r.last ≡ last_part t (base + last) i (base + at) ps
 
--- The parts from number i on, emitted with the items before and after them.
-pub record EmitsParts (s entries code' after : List ℕ) (base at last : ℕ) (shape : Shape) (i k end : ℕ) (c : Scope) (r : Emitted) : Type 0 where
+-- The parts from number i on were emitted with the items before and after them.
+pub record EmittedParts (s entries code' after : List ℕ) (base at last : ℕ) (shape : Shape) (i k end : ℕ) (c : Scope) (r : Emitted) : Type 0 where
   pub went_on : WentOn k end at (due_from i) r
   pub came : (ps : List Placed) (m : ℕ) → EnteringParts s shape i k end c ps m → CameParts base at last (column_of shape.read.template) i ps m r
   pub emits : (ps : List Placed) (m : ℕ) → EnteringParts s shape i k end c ps m → record_bytes * r.at ≤ length code'
       → after ≡ emitted_at code' at (parts_code (entries_in entries) (arity_in s) (listed shape.read.parts) (column_of shape.read.template) (around_of c) (base + r.last) (base + r.at) i (base + at) ps)
+
+-- They are emitted, unless no parts are entered here.
+pub record EmitsParts (s entries code' after : List ℕ) (base at last : ℕ) (shape : Shape) (i k end : ℕ) (c : Scope) (r : Option Emitted) : Type 0 where
+  pub answered : (ps : List Placed) (m : ℕ) → EnteringParts s shape i k end c ps m → IsSome r
+  pub is : (x : Emitted) → r ≡ Some x → EmittedParts s entries code' after base at last shape i k end c x
 
 -- ---- a function
 
@@ -121,29 +138,30 @@ pub record EnteringFunction (s : List ℕ) (j k end : ℕ) (f : Function) : Type
   pub few_parameters : f.parameters ≤ parameters_of_any
   pub passes : pass_over here.signed (entered (scope f.parameters 1 f.parameters (result_type f.sort)) k f.body) ≡ done tt
 
--- Function j, its body at record k, emitted from its entry on.
-pub record EmitsFunction (s entries code' after : List ℕ) (entry j k end : ℕ) (r : Emitted) : Type 0 where
+-- Function j, its body at record k, was emitted from its entry on.
+pub record EmittedFunction (s entries code' after : List ℕ) (entry j k end : ℕ) (r : Emitted) : Type 0 where
   pub went_on : WentOn k end 0 1 r
   pub next : (f : Function) → EnteringFunction s j k end f → r.next ≡ k + size f.body
   pub address : (f : Function) → EnteringFunction s j k end f → entry + r.at ≡ function_end f entry
   pub emits : (f : Function) → EnteringFunction s j k end f → record_bytes * r.at ≤ length code'
       → after ≡ emitted_at code' 0 (function_code (entries_in entries) entry f)
 
+-- It is emitted, unless no function is entered here.
+pub record EmitsFunction (s entries code' after : List ℕ) (entry j k end : ℕ) (r : Option Emitted) : Type 0 where
+  pub answered : (f : Function) → EnteringFunction s j k end f → IsSome r
+  pub is : (x : Emitted) → r ≡ Some x → EmittedFunction s entries code' after entry j k end x
+
 -- ---- all functions
 
--- Where the functions begin, and how many instructions they have together.
-pub record Tabled (s : List ℕ) (t : Table) : Type 0 where
-  pub entries : (program : Program) → checked_records s ≡ done program → (b : ℕ) → b < length program.functions → entries_in t.entries b ≡ entry_of program b
-  pub count : (program : Program) → checked_records s ≡ done program → t.count ≡ length (operations_of program)
-  pub small : t.count ≤ most_emitted
+-- A table has the entries of a program's functions.
+abbrev pub HasEntries : List ℕ → Program → Type 0
+HasEntries entries program = (b : ℕ) → b < length program.functions → entries_in entries b ≡ entry_of program b
 
--- The records are a program that both passes accept, the table has its entries, and its code has
--- room.
-pub record CodeReady (s entries code' : List ℕ) : Type 0 where
-  pub checked : verdict (checked_records s) ≡ done tt
-  pub entered : (program : Program) → checked_records s ≡ done program → (b : ℕ) → b < length program.functions → entries_in entries b ≡ entry_of program b
-  pub room : (program : Program) → checked_records s ≡ done program → record_bytes * length (operations_of program) ≤ length code'
-
--- All functions emitted, each from its entry on.
-pub record EmitsAll (s code' after : List ℕ) : Type 0 where
-  pub is : (program : Program) → checked_records s ≡ done program → after ≡ written code' 0 (code_of program)
+-- The program's entries are found, and how many instructions it has together. With its entries its
+-- code is written, each function from its entry on, where there is room.
+pub record EmitsAll (s entries code' after : List ℕ) (t : Table) : Type 0 where
+  pub entries_found : (program : Program) → checked_records s ≡ done program → HasEntries t.entries program
+  pub counted : (program : Program) → checked_records s ≡ done program → t.instructions ≡ length (operations_of program)
+  pub small : t.instructions ≤ most_emitted
+  pub is : (program : Program) → checked_records s ≡ done program → HasEntries entries program → record_bytes * length (operations_of program) ≤ length code'
+      → after ≡ written code' 0 (code_of program)

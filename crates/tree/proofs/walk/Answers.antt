@@ -1,7 +1,7 @@
 -- `tree::walk` meets its contract: before each tag `Walking` holds, and the bytes left fall. Each
 -- way through the loop is a law of proofs/Marks.antt.
 use native.Mathlib.Omega.{arith}
-use Rattle.tree.proofs.Marks.{walk_first, mark_small, walks}
+use Rattle.tree.proofs.Marks.{walk_first, walks}
 use Rattle.tree.proofs.walk.Goals as goal
 
 pub loop-at-init : goal.loop-at-init
@@ -26,11 +26,6 @@ returns-then-whole-at c = search walks
 -- it ends the tree
 pub returns-then-above_next-eq0 : goal.returns-then-above_next-eq0
 returns-then-above_next-eq0 c = search walks
-
--- a mark fits the number that it is read as
-pub overflow_cast-above_next : goal.overflow_cast-above_next
-overflow_cast-above_next c = let small = mark_small _ _ _ _ _ _ _ c.loop-at.invariant c.if-above_next-eq0.false in
-    omega (arith, small)
 
 pub loop-at-preserved : goal.loop-at-preserved
 loop-at-preserved c = search walks

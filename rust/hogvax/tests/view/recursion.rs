@@ -24,9 +24,9 @@ fn the_recursive_routines_of_the_whole_library_are_found() {
     let ways = words.filter(|words| words.clone().next() == Some("recursive:"));
     let recursive: Vec<&str> = ways.flatten().collect();
     for name in [
-        "pass_one::enter",
-        "pass_two::order_at",
-        "decode::decode_at",
+        "pass_one::Walk::enter",
+        "pass_two::Walk::order_at",
+        "decode::Walk::decode_at",
         "translate::Emission::emit",
         "named_trees::offset_of",
     ] {

@@ -1,18 +1,12 @@
--- `Text::put_signed` meets its contract: a number below 0 has a minus before its magnitude.
-use Rattle.listing.proofs.Signs.{signed_ways}
+-- `Text::put_signed` meets its contract: the newline is put after the digits.
+use Rattle.listing.proofs.Fields.{signed_ways}
 use Rattle.listing.proofs.Text.put_signed.Goals as goal
 
-pub put_byte-requires : goal.put_byte-requires
-put_byte-requires c = search signed_ways
+pub put_word-requires : goal.put_word-requires
+put_word-requires c = search signed_ways
 
-pub put_field-requires : goal.put_field-requires
-put_field-requires c = search signed_ways
-
-pub returns-then-n-lt0 : goal.returns-then-n-lt0
-returns-then-n-lt0 c = search signed_ways
-
-pub put_field-requires-2 : goal.put_field-requires-2
-put_field-requires-2 c = search signed_ways
+pub put_word-requires-2 : goal.put_word-requires-2
+put_word-requires-2 c = search signed_ways
 
 pub returns : goal.returns
 returns c = search signed_ways

@@ -2,11 +2,11 @@
 use Rattle.pending.proofs.Laws.{heads}
 use Rattle.pending.proofs.Pending.take_head.Goals as goal
 
-pub returns-then-len-eq0 : goal.returns-then-len-eq0
-returns-then-len-eq0 c = search heads
+pub returns-in_err-top : goal.returns-in_err-top
+returns-in_err-top c = rw c.from_residual.ensures (search (heads, c.in_err-top.ensures))
 
-pub returns-then-self-len : goal.returns-then-self-len
-returns-then-self-len c = search heads
+pub returns-then-self-top : goal.returns-then-self-top
+returns-then-self-top c = search (heads, c.in_ok-top.ensures)
 
 pub returns : goal.returns
-returns c = search heads
+returns c = search (heads, c.in_ok-top.ensures)

@@ -1,0 +1,2 @@
+-- Laws of the numbers of actions and roles.
+pub mod Named

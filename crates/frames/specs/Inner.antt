@@ -1,0 +1,3 @@
+-- What the functions of this crate promise each other and their callers in Rattle. Nobody need
+-- believe it.
+pub mod Named

@@ -1,0 +1,2 @@
+-- The numbers of actions and roles.
+pub mod Inner

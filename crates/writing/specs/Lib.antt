@@ -1,0 +1,2 @@
+-- Items written into a slice.
+pub mod Inner

@@ -32,7 +32,7 @@ fn each_block(file: &[u8], blocks: u16) -> Result<(), Refused>
 }
 
 // The rows "blocks" and "each block" of a file.
-#[tactic(auto, using(crate::proofs::Rows::whole_rows), unfolding(formats::specs::Blocks::flat_in, formats::specs::Blocks::length_row))]
+#[tactic(auto, unfolding(formats::specs::Blocks::flat_in, formats::specs::Blocks::length_row))]
 fn block_rows(file: &[u8]) -> Result<(), Refused>
     ensures { verdict_result result ≡ verdict (flat_in file.now) }
 {

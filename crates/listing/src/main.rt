@@ -35,7 +35,6 @@ struct Line {
 }
 
 // The line of instruction k.
-#[tactic(auto, using(crate::proofs::Lines::line_shown), unfolding(translation::specs::Listing::instructions_in))]
 fn line_at(code: &[u8], k: usize) -> Line
     requires { k < instructions_in code.now }
     ensures { shown result ≡ line_of k (record_at code.now k) }
@@ -105,7 +104,6 @@ impl Text {
     }
 
     // Puts a line.
-    #[tactic(auto, using(crate::proofs::Fields::line_ways))]
     fn put_line(&mut self, l: Line)
         requires { self.old.len + length (line_text (shown l)) ≤ length self.old.bytes }
         ensures { Puts self.old.bytes self.new.bytes self.old.len
@@ -119,7 +117,6 @@ impl Text {
     }
 
     // Puts the lines of code.
-    #[tactic(auto, using(crate::proofs::Lines::lines_ways), unfolding(translation::specs::Listing::instructions_in))]
     fn put_lines(&mut self, code: &[u8])
         requires { (length code.now ≤ most_code) ×
             (self.old.len + longest_line * instructions_in code.now ≤ length self.old.bytes) }
@@ -132,7 +129,6 @@ impl Text {
     }
 
     // Puts the one line of a refusal.
-    #[tactic(auto, using(crate::proofs::Texts::refusal_ways), unfolding(translation::specs::ListingText::refused_word, formats::specs::Characters::ascii))]
     fn put_refusal(&mut self, number: usize, position: usize)
         requires { self.old.len + most_text ≤ length self.old.bytes }
         ensures { Puts self.old.bytes self.new.bytes self.old.len
@@ -144,7 +140,6 @@ impl Text {
     }
 
     // Puts the listing of code: the heading, and the lines.
-    #[tactic(auto, using(crate::proofs::Texts::code_ways), unfolding(translation::specs::Listing::instructions_in, translation::specs::ListingText::code_word, formats::specs::Characters::ascii))]
     fn put_code(&mut self, code: &[u8])
         requires { (self.old.len + most_text ≤ length self.old.bytes) ×
             (length code.now ≤ most_code) }
@@ -157,7 +152,6 @@ impl Text {
     }
 
     // Puts the listing of a program file.
-    #[tactic(auto, using(crate::proofs::Texts::listing_ways))]
     fn put_listing(&mut self, file: &[u8])
         requires { self.old.len + most_text ≤ length self.old.bytes }
         ensures { Puts self.old.bytes self.new.bytes self.old.len

@@ -11,6 +11,9 @@ slice_bounds-code-end c = search listing_ways
 pub slice_bounds-put_code-end : goal.slice_bounds-put_code-end
 slice_bounds-put_code-end c = search (rules, length-take-le, listing_ways)
 
+pub put_code-requires : goal.put_code-requires
+put_code-requires c = search (rules, listing_ways)
+
 pub returns-in-Err : goal.returns-in-Err
 returns-in-Err c = search listing_ways
 

@@ -41,14 +41,19 @@ fn values() -> BTreeMap<String, usize> {
     lines.lines().map(pair).collect()
 }
 
-/// The refusals by the library's names, in the order of their numbers.
+/// The refusals by the library's names, with the numbers that it gives them, which
+/// are those of their order.
 fn refusals() -> Vec<(String, usize)> {
     let (_, cases) = REFUSALS.split_once("pub enum Refusal {\n").unwrap();
     let (cases, _) = cases.split_once("\n}").unwrap();
     let cases = cases.lines().map(str::trim);
     let cases = cases.filter(|line| !line.starts_with("//"));
-    let name = |case: &str| format!("HOGVAX{}", c_name(case.trim_end_matches(',')));
-    cases.map(name).zip(1..).collect()
+    let numbered = |(case, place): (&str, usize)| {
+        let (name, number) = case.trim_end_matches(',').split_once(" = ").unwrap();
+        assert_eq!(number, place.to_string());
+        (format!("HOGVAX{}", c_name(name)), place)
+    };
+    cases.zip(1..).map(numbered).collect()
 }
 
 /// `SpaceTooShort` is `_SPACE_TOO_SHORT`.

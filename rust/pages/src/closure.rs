@@ -90,9 +90,10 @@ pub fn contract_roots(project: &Project, place: &str, functions: &[&str]) -> Vec
     let mut roots = Vec::new();
     for one in &source.declarations {
         if one.sort == Sort::Function && is_root(&one.name) {
-            let words = one.contract.iter().flat_map(|line| words(line)).collect();
+            let lines = [&one.contract[..], &one.clauses[..]].concat();
+            let words = lines.iter().flat_map(|line| words(line)).collect();
             roots.extend(imported(project, &source.imports, &words));
-            roots.extend(declared_types(project, crate_of(place), &one.contract));
+            roots.extend(declared_types(project, crate_of(place), &lines));
         }
     }
     roots

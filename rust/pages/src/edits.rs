@@ -2,10 +2,11 @@
 //! refuse.
 
 use crate::project::{files_below, read, Project};
+use crate::source::Declaration;
 use crate::text::sentence;
 
 /// A must-fail edit.
-#[derive(Debug)]
+#[derive(Clone, Debug)]
 pub struct Edit {
     /// Its crate.
     pub place: String,
@@ -14,7 +15,7 @@ pub struct Edit {
     pub says: String,
     /// The file that it changes, as `tree/src/lib`.
     pub file: String,
-    /// The declarations or definitions that it changes.
+    /// The declarations, by their full names, or the definitions that it changes.
     pub changes: Vec<String>,
 }
 
@@ -57,11 +58,12 @@ fn changed(project: &Project, file: &str, source: &str, old: &str) -> String {
         panic!("{file} does not have one line with {old}");
     };
     let found = match project.sources.get(file) {
-        Some(source) => source.at_line(line).map(|one| &one.name),
-        None => project.files[file].at_line(line).map(|item| &item.name),
+        Some(source) => source.at_line(line).map(Declaration::full_name),
+        None => project.files[file]
+            .at_line(line)
+            .map(|item| item.name.clone()),
     };
-    let found = found.unwrap_or_else(|| panic!("{file}: {old} stands in no declaration"));
-    found.clone()
+    found.unwrap_or_else(|| panic!("{file}: {old} stands in no declaration"))
 }
 
 /// All edits, by their crates in the order of `crates.txt`.

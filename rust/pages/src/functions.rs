@@ -1,10 +1,9 @@
 //! The public functions, and what each of them rests on in its own crate.
 
-use std::collections::BTreeSet;
-
 use crate::edits::Edit;
 use crate::project::Project;
 use crate::source::{Declaration, Sort, Source};
+use crate::uses::used_in_body;
 
 /// A public function.
 pub struct Function<'a> {
@@ -29,27 +28,41 @@ pub fn public<'a>(project: &'a Project, place: &'a str) -> Vec<Function<'a>> {
     found
 }
 
-/// `method` of `Type::method`; any other name as it is.
-fn own_name(name: &str) -> &str {
-    match name.split_once("::") {
-        Some((place, method)) if place.starts_with(char::is_uppercase) => method,
-        _ => name,
-    }
-}
-
 impl Function<'_> {
+    /// What no other function has: its crate and its name, and the `impl` that it stands in.
     pub fn title(&self) -> String {
-        format!("{}: {}", self.place, self.declaration.name)
+        format!("{}: {}", self.place, self.declaration.full_name())
     }
 
-    /// Its own name, and the functions and constants of its file that it uses, directly or not.
-    pub fn uses(&self) -> BTreeSet<&str> {
-        let (mut used, mut open) = (BTreeSet::new(), vec![self.declaration]);
+    /// The same as a page has it: crate and name as documents cite them, between backticks.
+    pub fn shown(&self) -> String {
+        let cited = format!("`{}: {}`", self.place, self.declaration.name);
+        match &self.declaration.block {
+            Some(block) => format!("{cited} of `{block}`"),
+            None => cited,
+        }
+    }
+
+    /// It, and the declarations of its file that it uses, directly or not.
+    pub fn uses(&self) -> Vec<&Declaration> {
+        self.used(|_| true)
+    }
+
+    /// The same, without other public functions that have contracts, and what these use: what an
+    /// edit shows there, it shows of their contracts.
+    fn own(&self) -> Vec<&Declaration> {
+        self.used(|one| {
+            let is_public = one.is_public && one.has_contract();
+            std::ptr::eq(one, self.declaration) || !is_public
+        })
+    }
+
+    fn used(&self, counts: impl Fn(&Declaration) -> bool) -> Vec<&Declaration> {
+        let (mut used, mut open) = (Vec::<&Declaration>::new(), vec![self.declaration]);
         while let Some(one) = open.pop() {
-            if used.insert(&one.name[..]) {
-                let names = one.body_names();
-                let own = names.iter().map(|name| own_name(name));
-                open.extend(own.filter_map(|name| self.source.find(name)));
+            if counts(one) && !used.iter().any(|known| std::ptr::eq(*known, one)) {
+                used.push(one);
+                open.extend(used_in_body(self.source, one));
                 open.extend(self.constants_of(one));
             }
         }
@@ -67,16 +80,24 @@ impl Function<'_> {
 
     /// The edits that change it, or what it uses of its own crate.
     pub fn edits<'a>(&self, edits: &'a [Edit]) -> Vec<&'a Edit> {
-        let used = self.uses();
+        self.changing(edits, self.uses())
+    }
+
+    /// Those of its own: what changes other public functions alone is left out.
+    pub fn own_edits<'a>(&self, edits: &'a [Edit]) -> Vec<&'a Edit> {
+        self.changing(edits, self.own())
+    }
+
+    fn changing<'a>(&self, edits: &'a [Edit], used: Vec<&Declaration>) -> Vec<&'a Edit> {
+        let used: Vec<String> = used.into_iter().map(Declaration::full_name).collect();
         let here = |edit: &&Edit| edit.place == self.place && !edit.is_of_definition();
-        let changes = |edit: &&Edit| edit.changes.iter().any(|name| used.contains(&name[..]));
+        let changes = |edit: &&Edit| edit.changes.iter().any(|name| used.contains(name));
         edits.iter().filter(here).filter(changes).collect()
     }
 
     /// Whether it, or what it uses of its own crate, names this function, as `crate::function`.
     pub fn calls(&self, path: &str) -> bool {
-        let used = self.uses().into_iter();
-        let mut used = used.filter_map(|name| self.source.find(name));
+        let mut used = self.uses().into_iter();
         used.any(|one| one.body_names().contains(path))
     }
 
@@ -90,17 +111,10 @@ impl Function<'_> {
         let (place, name) = path.split_once("::")?;
         let place = project.crates.iter().find(|one| *one == place)?;
         let mut others = public(project, place).into_iter();
-        let other = others.find(|one| one.declaration.name == name)?;
+        let other = others.find(|one| one.declaration.full_name() == name)?;
         let same = self.declaration.promises() == other.declaration.promises();
-        (same && given == self.parameters().join(", ")).then_some(other)
-    }
-
-    /// The names of its parameters.
-    fn parameters(&self) -> Vec<String> {
-        let contract = self.declaration.contract.join(" ");
-        let inside = contract.split_once('(').map_or("", |(_, rest)| rest);
-        let inside = inside.split(')').next().unwrap();
-        let names = inside.split(',').filter_map(|one| one.split_once(':'));
-        names.map(|(name, _)| name.trim().to_owned()).collect()
+        let parameters = self.declaration.parameters().into_iter();
+        let names: Vec<String> = parameters.map(|(name, _)| name).collect();
+        (same && given == names.join(", ")).then_some(other)
     }
 }

@@ -11,6 +11,7 @@ pub mod project;
 pub mod roots;
 pub mod source;
 pub mod text;
+pub mod uses;
 pub mod words;
 pub mod wrong;
 

@@ -64,7 +64,7 @@ const INTRODUCTION: &str = "Each must-fail edit puts a wrong answer into a funct
     definition, and the check must refuse it. An edit of a function stands below each public \
     function that uses what it changes; its sentence stands where it comes first. An edit of a \
     definition names a closed case that comes out differently. Edits stand in their crate's \
-    `must-fail/`.";
+    `must-fail/`. With a method stands the `impl` that it is of.";
 
 /// The page `docs/WRONG-ANSWERS.md`.
 pub fn page(project: &Project, edits: &[Edit]) -> String {
@@ -93,15 +93,12 @@ fn of_function<'a>(
     edits: &'a [Edit],
     seen: &mut BTreeSet<(&'a str, &'a str)>,
 ) -> String {
-    let title = function.title();
+    let shown = function.shown();
     if let Some(other) = function.forwards_to(project) {
-        let said = format!(
-            "`{title}`: a call of `{}`, with its contract",
-            other.title()
-        );
+        let said = format!("{shown}: a call of {}, with its contract", other.shown());
         return wrapped("- ", "  ", &said);
     }
-    let mut page = format!("- `{title}`\n");
+    let mut page = format!("- {shown}\n");
     let mut known = Vec::new();
     for edit in function.edits(edits) {
         if seen.insert((&edit.place, &edit.name)) {
@@ -113,6 +110,7 @@ fn of_function<'a>(
     if !known.is_empty() {
         page += &wrapped("  - ", "    ", &format!("as above: {}", quoted(known)));
     }
+    let title = function.title();
     for beside in BESIDE.iter().filter(|one| one.function == title) {
         let said = format!("those of {} ({})", quoted(beside.others), beside.why);
         page += &wrapped("  - ", "    ", &said);
@@ -148,8 +146,9 @@ fn of_definitions_in(project: &Project, edits: &[Edit]) -> String {
     page
 }
 
-/// What is wrong with the edits: a function with a contract of its own and fewer than two, or a
-/// line of the table above that is not needed or not true.
+/// What is wrong with the edits: a function with a contract of its own and fewer than two, or with
+/// those of other public functions alone; or a line of the table above that is not needed or not
+/// true.
 pub fn faults(project: &Project, edits: &[Edit]) -> Vec<String> {
     let all = project.crates.iter();
     let all: Vec<Function> = all.flat_map(|place| public(project, place)).collect();
@@ -163,7 +162,8 @@ pub fn faults(project: &Project, edits: &[Edit]) -> Vec<String> {
 
 fn fault(project: &Project, all: &[Function], one: &Function, edits: &[Edit]) -> Option<String> {
     let title = one.title();
-    let own = one.edits(edits).len();
+    let all_edits = one.edits(edits).len();
+    let own = one.own_edits(edits).len();
     let beside = BESIDE.iter().find(|beside| beside.function == title);
     let has_two = |name: &&str| {
         let mut named = all.iter().filter(|other| other.title() == **name);
@@ -175,10 +175,10 @@ fn fault(project: &Project, all: &[Function], one: &Function, edits: &[Edit]) ->
     let calls = |name: &&str| one.calls(&name.replace(": ", "::"));
     match beside {
         _ if one.forwards_to(project).is_some() => None,
-        None if own >= 2 => None,
-        None => Some(format!("{title} has {}", counted(own, "edit"))),
-        Some(_) if own >= 2 => Some(format!("{title} has two edits of its own")),
-        Some(_) if own == 0 => Some(format!("{title} has no edit of its own")),
+        None if all_edits < 2 => Some(format!("{title} has {}", counted(all_edits, "edit"))),
+        _ if own == 0 => Some(format!("{title} has no edit of its own")),
+        None => None,
+        Some(_) if all_edits >= 2 => Some(format!("{title} has two edits of its own")),
         Some(beside) => {
             let wrong = beside
                 .others

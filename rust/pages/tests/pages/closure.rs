@@ -148,6 +148,19 @@ fn contracts_count_and_bodies_do_not() {
     }
 }
 
+#[test]
+fn a_clause_of_an_impl_counts_as_a_contract() {
+    let a = "asked : N\ngiven : N\nother : N\n";
+    let lib = "ghost use Rattle.one.specs.A.{asked, given, other};\n\n\
+        impl From<Pair> for u8 {\n    ghost from_gives = {\n        λ p n. n ≡ given p\n    };\n\n    \
+        fn from(p: Pair) -> u8 {\n        other\n    }\n}\n\n\
+        pub struct Pair {\n    a: u8,\n}\n";
+    let small = project(&[("one/specs/A", a)], &[("one/src/lib", lib)]);
+    let roots = contract_roots(&small, "one/src/lib", &[]);
+    let found = shown(&small, &Closure::from(&small, roots));
+    assert_eq!(found, ["given", "one::Pair"]);
+}
+
 /// What is not understood is not passed over.
 #[test]
 fn a_form_that_is_not_known_is_reported() {

@@ -5,5 +5,6 @@ mod closure;
 mod current;
 mod faults;
 mod layout;
+mod methods;
 mod small;
 mod wrong;

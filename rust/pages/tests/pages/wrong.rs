@@ -12,6 +12,49 @@ fn every_public_contract_has_two_edits() {
     assert_eq!(faults(&project, &edits(&project)), [""; 0]);
 }
 
+/// Contracts that are clauses of an `impl`, and functions of one name in one crate.
+const ALIKE: [&str; 9] = [
+    "refusal: from of From<Refusal> for u32",
+    "tree: default of Default for Measures",
+    "instruction: from of From<Opcode> for u8",
+    "machine_state: refused of Machine",
+    "machine_state: refused of Answer",
+    "frames: from of From<Action> for u16",
+    "frames: from of From<u16> for Action",
+    "frames: from of From<Role> for u16",
+    "frames: from of From<u16> for Role",
+];
+
+/// The edits of others do not stand for those of a function of an `impl`.
+#[test]
+fn a_method_without_its_own_edits_is_found() {
+    let project = Project::here();
+    let all = edits(&project);
+    let places = project.crates.iter();
+    let mut methods: Vec<_> = places.flat_map(|place| public(&project, place)).collect();
+    methods.retain(|one| one.declaration.block.is_some() && one.declaration.has_contract());
+    let titles: Vec<String> = methods.iter().map(|one| one.title()).collect();
+    for title in ALIKE {
+        assert!(titles.iter().any(|one| one == title), "{title}");
+    }
+    for (method, title) in methods.iter().zip(&titles) {
+        let own: Vec<_> = method
+            .own_edits(&all)
+            .iter()
+            .map(|one| (&one.place, &one.name))
+            .collect();
+        let mut others = all.clone();
+        others.retain(|edit| !own.contains(&(&edit.place, &edit.name)));
+        assert!(others.len() + 2 <= all.len(), "{title}");
+        let faults = faults(&project, &others);
+        let start = format!("{title} has ");
+        assert!(
+            faults.iter().any(|fault| fault.starts_with(&start)),
+            "{title}"
+        );
+    }
+}
+
 /// Every edit is on the page, with its sentence.
 #[test]
 fn every_edit_is_shown() {
@@ -63,7 +106,12 @@ fn an_edit_counts_for_the_functions_that_use_what_it_changes() {
         (functions.len(), found),
         (1, vec!["MOST", "second", "first"])
     );
-    assert!(functions[0].uses().contains("second"));
+    let used: Vec<&str> = functions[0]
+        .uses()
+        .iter()
+        .map(|one| &one.name[..])
+        .collect();
+    assert_eq!(used, ["first", "second", "MOST"]);
 }
 
 #[test]

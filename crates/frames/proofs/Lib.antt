@@ -1,2 +1,3 @@
--- Laws of the numbers of actions and roles.
+-- Laws of words read and put, and of the numbers of actions and roles.
+pub mod Laws
 pub mod Named

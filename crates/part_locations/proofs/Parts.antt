@@ -1,14 +1,16 @@
 -- Where parts stand: a law for each way out of the functions. Where counts are small, no sum is
 -- cut.
-use Prim.Native.Nat.{ℕ, suc, ◌+◌, ◌-◌, ◌%◌}
+use Prim.Native.Nat.{ℕ, suc, ◌+◌, ◌-◌, ◌%◌, ◌≤◌, ◌<◌}
 use mathlib.Core.Bool.{Bool, true, false}
 use mathlib.Core.List.{List}
 use mathlib.Core.Logic.{◌≢◌, ◌⊎◌, inl, inr}
-use mathlib.Core.Path.{◌≡◌, refl, ap, ap₂}
+use mathlib.Core.Path.{◌≡◌, refl, sym, ap, ap₂, ◌∙◌}
 use native.Mathlib.Omega.{arith}
 use borrow.Author.Rules.{rules}
-use borrow.Author.Tests.{eq-eqb, ne_eqb}
-use lib.ListN.{set}
+use borrow.Author.Tests.{eq-eqb, ne_eqb, eqb-true, eqb-false}
+use lib.Dec.{eqb}
+use lib.ListN.{length, set}
+use lib.Seq.{set_out}
 use Rattle.records.specs.Inner.Read.{meant, part_of}
 use Rattle.records.specs.declared.Part.{Part}
 use Rattle.records.specs.declared.Part.TheVariants.{Number, Tree, Whole, UnderNumber, UnderTrees}
@@ -20,7 +22,68 @@ use Rattle.frames.specs.declared.Role.TheVariants.{Kept, Added, Tested, Passed, 
 use Rattle.frames.specs.Inner.Named.{role_of_number}
 use Rattle.stepwise.specs.Inner.Rows.{kept, second_of, last_argument, last_word, role_of, slot_of}
 use Rattle.part_locations.specs.declared.Location.{Location}
-use Rattle.part_locations.specs.Inner.Locations.{capped, names_inside, keeps_inside, depth_inside, used_in, part_in, noted}
+use Rattle.part_locations.specs.Inner.Locations.{largest, capped, names_inside, keeps_inside, depth_inside, used_in, part_in, noted}
+
+-- ---- sums that stop at the largest number
+
+pub cap_low : (n : ℕ) → n ≤ largest → capped n ≡ n
+cap_low n low = omega arith
+
+pub cap_high : (n : ℕ) → largest < n → capped n ≡ largest
+cap_high n high = omega arith
+
+pub sum_high : (x y : ℕ) → largest - x < y → largest ≡ capped (x + y)
+sum_high x y high = sym (cap_high (x + y) (omega arith))
+
+pub sum_low : (x y : ℕ) → y ≤ largest - x → x ≤ largest → x + y ≡ capped (x + y)
+sum_low x y low small = sym (cap_low (x + y) (omega arith))
+
+pub ruleset sums = (sum_high, sum_low, rules)
+
+-- ---- whether part i is the last
+
+pub last_none : (i count : ℕ) → count ≡ 0 → false ≡ eqb (suc i) count
+last_none i count none = sym (ne_eqb (suc i) count (λ e. absurd (omega arith)))
+
+pub last_is : (i count : ℕ) → count ≢ 0 → eqb i (count - 1) ≡ eqb (suc i) count
+last_is i count some = by (eqb i (count - 1)) refl
+  where
+    by : (b : Bool) → eqb i (count - 1) ≡ b → b ≡ eqb (suc i) count
+    by true e = let same = eqb-true i (count - 1) e in sym (eq-eqb (suc i) count (omega arith))
+    by false e = let unlike = eqb-false i (count - 1) e in sym (ne_eqb (suc i) count (λ f. unlike (omega arith)))
+
+pub ruleset lasts = (last_none, last_is)
+
+-- ---- what is named in a part
+
+module _ (part : Part) (n : ℕ) where
+  pub names_more : (m : ℕ) → part ≡ UnderNumber → m ≡ capped (n + 1) → m ≡ names_inside (part_of part) n
+  unfolding names_inside
+  names_more m case e = rw case e
+
+  pub depth_more : (m : ℕ) → part ≡ UnderTrees → m ≡ capped (n + 1) → m ≡ depth_inside (part_of part) n
+  unfolding depth_inside
+  depth_more m case e = rw case e
+
+-- parts in which no number is named ..
+pub names_same : (part : Part) (n : ℕ) → (part ≡ UnderNumber → ⊥) → n ≡ names_inside (part_of part) n
+unfolding names_inside
+names_same Number n h = refl
+names_same Tree n h = refl
+names_same Whole n h = refl
+names_same UnderNumber n h = absurd (h refl)
+names_same UnderTrees n h = refl
+
+-- .. and parts in which no tree is named
+pub depth_same : (part : Part) (n : ℕ) → (part ≡ UnderTrees → ⊥) → n ≡ depth_inside (part_of part) n
+unfolding depth_inside
+depth_same Number n h = refl
+depth_same Tree n h = refl
+depth_same Whole n h = refl
+depth_same UnderNumber n h = refl
+depth_same UnderTrees n h = absurd (h refl)
+
+pub ruleset namings = (names_more, depth_more, names_same, depth_same)
 
 -- ---- `used`
 
@@ -127,9 +190,65 @@ module _ (part : Part) (parent : Record) (r i count : ℕ) (p : Location) (u : R
 
 pub ruleset insides = (inside_same, inside_number, inside_trees)
 
+-- The same for each kind of record, whatever the part is.
+
+-- kinds of record whose parts have the record's value, or that have no parts
+passed_part : (part : Part) (node : Record) (r i count : ℕ) (p : Location) → (node ≡ Add → ⊥) → (node ≡ IfZero → ⊥) → (node ≡ Let → ⊥) → (node ≡ Leaf → ⊥) → (node ≡ Node → ⊥) → ((x : Called) → node ≡ Call x → ⊥)
+    → placed Passed r 0 (names_inside (part_of part) p.names) p.keeps (depth_inside (part_of part) p.depth) ≡ part_in (part_of part) (meant node) r i count p
+passed_part part node r i count p no_add no_if_zero no_let no_leaf no_node no_call =
+    placed_in part node r i count p (Passed, 0, p.keeps) (sym (used_passed node i count p no_add no_if_zero no_let no_leaf no_node no_call)) _ _ refl refl
+
+module _ (part : Part) (node : Record) (r i count : ℕ) (p q : Location) (names depth : ℕ) (en : names ≡ names_inside (part_of part) p.names)
+    (ed : depth ≡ depth_inside (part_of part) p.depth) where
+  -- by the role, the word and how many numbers are kept
+  by_used : (role : Role) (slot keeps : ℕ) → used_in (meant node) i count p ≡ (role, slot, keeps) → q ≡ placed role r slot names keeps depth
+      → q ≡ part_in (part_of part) (meant node) r i count p
+  by_used role slot keeps used own = own ∙ placed_in part node r i count p (role, slot, keeps) (sym used) names depth en ed
+
+  pub inside_add_first : (slot : ℕ) → node ≡ Add → i ≡ 0 → slot ≡ last_word - p.keeps → q ≡ placed Kept r slot names p.keeps depth
+      → q ≡ part_in (part_of part) (meant node) r i count p
+  inside_add_first slot case first es = by_used Kept slot p.keeps (used_add_first node i count p case first ∙ ap (λ n. (Kept, n, p.keeps)) (sym es))
+
+  pub inside_add_second : (slot more : ℕ) → node ≡ Add → i ≢ 0 → slot ≡ last_word - p.keeps → more ≡ capped (p.keeps + 1)
+      → q ≡ placed Added r slot names more depth
+      → q ≡ part_in (part_of part) (meant node) r i count p
+  inside_add_second slot more case other es em =
+      by_used Added slot more (used_add_second node i count p case other ∙ ap₂ (λ n m. (Added, n, m)) (sym es) (sym em))
+
+  pub inside_if_test : node ≡ IfZero → i ≡ 0 → q ≡ placed Tested r 0 names p.keeps depth → q ≡ part_in (part_of part) (meant node) r i count p
+  inside_if_test case first = by_used Tested 0 p.keeps (used_if_test node i count p case first)
+
+  pub inside_if_part : node ≡ IfZero → i ≢ 0 → q ≡ placed Passed r 0 names p.keeps depth → q ≡ part_in (part_of part) (meant node) r i count p
+  inside_if_part case other = by_used Passed 0 p.keeps (used_if_part node i count p case other)
+
+  pub inside_let_first : node ≡ Let → i ≡ 0 → q ≡ placed Kept r p.names names p.keeps depth → q ≡ part_in (part_of part) (meant node) r i count p
+  inside_let_first case first = by_used Kept p.names p.keeps (used_let_first node i count p case first)
+
+  pub inside_let_body : node ≡ Let → i ≢ 0 → q ≡ placed Passed r p.names names p.keeps depth → q ≡ part_in (part_of part) (meant node) r i count p
+  inside_let_body case other = by_used Passed p.names p.keeps (used_let_body node i count p case other)
+
+  pub inside_leaf : node ≡ Leaf → q ≡ placed Labelled r 0 names p.keeps depth → q ≡ part_in (part_of part) (meant node) r i count p
+  inside_leaf case = by_used Labelled 0 p.keeps (used_leaf node i count p case)
+
+  pub inside_node_left : node ≡ Node → i ≡ 0 → q ≡ placed Followed r 0 names p.keeps depth → q ≡ part_in (part_of part) (meant node) r i count p
+  inside_node_left case first = by_used Followed 0 p.keeps (used_node_left node i count p case first)
+
+  pub inside_node_right : node ≡ Node → i ≢ 0 → q ≡ placed Passed r 0 names p.keeps depth → q ≡ part_in (part_of part) (meant node) r i count p
+  inside_node_right case other = by_used Passed 0 p.keeps (used_node_right node i count p case other)
+
+  -- the value of a Case's part is the Case's; a Const and a Var have no parts
+  pub inside_passed : (node ≡ Add → ⊥) → (node ≡ IfZero → ⊥) → (node ≡ Let → ⊥) → (node ≡ Leaf → ⊥) → (node ≡ Node → ⊥) → ((x : Called) → node ≡ Call x → ⊥) → q ≡ placed Passed r 0 names p.keeps depth
+      → q ≡ part_in (part_of part) (meant node) r i count p
+  inside_passed no_add no_if_zero no_let no_leaf no_node no_call =
+      by_used Passed 0 p.keeps (used_passed node i count p no_add no_if_zero no_let no_leaf no_node no_call)
+
 -- ---- `note_case`
 
 module _ (part : Part) (r depth : ℕ) (cases : List ℕ) where
+  pub note_full : part ≡ UnderTrees → length cases ≤ depth → cases ≡ noted (part_of part) r depth cases
+  unfolding noted
+  note_full case full = rw case (sym (set_out cases depth (r % 65536) full))
+
   pub note_node : part ≡ UnderTrees → set cases depth (r % 65536) ≡ noted (part_of part) r depth cases
   unfolding noted
   note_node case = rw case

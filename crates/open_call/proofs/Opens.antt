@@ -7,7 +7,7 @@ use native.Mathlib.Numerals.{add-one}
 use native.Mathlib.Omega.{arith}
 use borrow.Author.Tests.{lt-ltb, le-ltb}
 use lib.Dec.{leb, ltb}
-use lib.ListN.{get_or, set, length-set}
+use lib.ListN.{length, get_or, set, length-set}
 use Rattle.stepwise.specs.Inner.Steps.{State, begin, deep, stuck, operand_at, tree_at, more_at, slot_at, frame_words, record_limit, most_waiting, Found, copied, opening}
 use Rattle.stepwise.proofs.Steps.{opens_deep, opens_frame}
 use Rattle.stepwise.proofs.Words.{copied_length}
@@ -40,6 +40,12 @@ module _ (values₀ : List ℕ) (calls slot count : ℕ) where
   copy_more values values' n d x more c down is put =
       let there : frame_words * (calls + 1) + n ≡ frame_words * calls + frame_words + n = omega arith in
       record { so_far = rw (add-one n, put, there, is, down, c.so_far); few = omega arith }
+
+  pub copy_done : (values : List ℕ) (n : ℕ) → count ≤ n → Copying values₀ calls slot count values n → values ≡ copied values₀ (frame_words * calls) slot count
+  copy_done values n over c = let all : n ≡ count = omega (arith, c.few) in rw (← all) c.so_far
+
+  pub copy_long : (values : List ℕ) (n : ℕ) → Copying values₀ calls slot count values n → length values ≡ length values₀
+  copy_long values n c = ap length c.so_far ∙ copied_length values₀ (frame_words * calls) slot n
 
 pub ruleset copying = (copy_first, copy_more)
 

@@ -4,7 +4,8 @@ use mathlib.Core.List.{List}
 use mathlib.Core.Logic.{◌≢◌, ◌⊎◌, inl, inr}
 use mathlib.Core.Path.{◌≡◌, refl, sym, ap, ◌∙◌}
 use native.Mathlib.Omega.{arith}
-use lib.ListN.{get_or}
+use lib.ListN.{length, get_or, take, length-take, get_or-eq_default}
+use lib.Seq.{get_or-take}
 use Rattle.formats.specs.Numbers.{Bytes}
 use Rattle.formats.specs.Records.{record_at}
 use Rattle.formats.specs.Inner.Fields.{header_in, arity_in, count_in}
@@ -47,6 +48,20 @@ functions_low s bytes = (ranged_at s 0 bytes).1
 pub first_low : (s : List ℕ) (b : ℕ) → Bytes s → b < 65536 → first_in s b < 2 ^ 64
 unfolding first_in
 first_low s b bytes low = omega (arith, counts_low s b 0 bytes, functions_low s bytes)
+
+-- ---- an entry of the Cases around a record
+
+module _ (cases : List ℕ) (depth n : ℕ) where
+  pub case_above : depth ≤ n → 0 ≡ get_or (take depth cases) n 0
+  case_above over = sym (get_or-eq_default (take depth cases) 0 (omega (arith, length-take depth cases)))
+
+  pub case_past : length cases ≤ n → 0 ≡ get_or (take depth cases) n 0
+  case_past over = sym (get_or-eq_default (take depth cases) 0 (omega (arith, length-take depth cases)))
+
+  pub case_there : n < depth → get_or cases n 0 ≡ get_or (take depth cases) n 0
+  case_there below = sym (get_or-take depth cases n 0 below)
+
+pub ruleset cases_at = (case_above, case_past, case_there)
 
 -- ---- `code_of`
 

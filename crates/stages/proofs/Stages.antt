@@ -66,6 +66,26 @@ module _ (m : Missing) (values returns : List ℕ) (s : Stage) where
   unfolding turn_of
   turn_stuck e = rw (turn_of, e)
 
+  -- the same of what is next and none of the others
+  pub turn_none :
+      ((r : ℕ) → s.next ≢ Begin r)
+      → ((r x : ℕ) → s.next ≢ Finished r x)
+      → ((r : ℕ) → s.next ≢ Open r)
+      → ((x : ℕ) → s.next ≢ Ended x)
+      → ((r : ℕ) → s.next ≢ Deep r)
+      → ((r : ℕ) → s.next ≢ Broken r)
+      → turn_of m values returns s ≡ stuck
+  turn_none a b c d e f = by s.next refl
+    where
+      by : (n : Next) → s.next ≡ n → turn_of m values returns s ≡ stuck
+      by (Begin r) is = absurd (a r is)
+      by (Finished r x) is = absurd (b r x is)
+      by (Open r) is = absurd (c r is)
+      by (Ended x) is = absurd (d x is)
+      by (Deep r) is = absurd (e r is)
+      by Stuck is = turn_stuck is
+      by (Broken r) is = absurd (f r is)
+
   pub turn_broken : (r : ℕ) → s.next ≡ Broken r → turn_of m values returns s ≡ broken m.op m.i m.j r
   unfolding turn_of
   turn_broken r e = rw (turn_of, e)

@@ -1,10 +1,13 @@
 -- The answer of a run that stops: a law for each way out of its functions.
-use Rattle.std.proofs.Common.{◌≡◌, ℕ, suc, ◌+◌, ◌-◌, ◌%◌, ◌^◌, ◌<◌, ◌≤◌, ◌≢◌, Bool, true, false, List, ◌∷◌, get_or, Ok, Err, sym, refl, ap, ◌∙◌, arith}
+use Rattle.std.proofs.Common.{◌≡◌, ℕ, suc, ◌+◌, ◌-◌, ◌%◌, ◌^◌, ◌<◌, ◌≤◌, ◌≢◌, Bool, true, false, List, ◌∷◌, length, get_or, Ok, Err, sym, refl, ap, ◌∙◌, arith}
 use mathlib.Core.Logic.{◌⊎◌, inl, inr}
+use lib.ListN.{get_or-eq_default}
 use Rattle.std.proofs.lemmas.Option.{unwrap_or-slice_get}
 use Rattle.refusal.specs.declared.Refusal.{Refusal}
-use Rattle.refusal.specs.declared.Refusal.TheVariants.{CannotPerform}
+use Rattle.refusal.specs.declared.Refusal.TheVariants.{CannotPerform, FuelUsedUp}
 use Rattle.refusal.specs.declared.Refused.{Refused}
+use Rattle.formats.specs.Refusals.{fuel_used_up}
+use Rattle.formats.specs.Results.{refusal}
 use Rattle.meaning.specs.Performing.{number_kept}
 use Rattle.machine_state.specs.declared.Machine.{Machine}
 use Rattle.machine_state.specs.declared.Answer.{Answer}
@@ -55,6 +58,10 @@ module _ (values : List ℕ) (s : Machine) where
   unfolding number_kept
   kept_top some = sym (ap number_kept (words_top values s.base s.top some))
 
+  -- past the end of the words there is 0
+  pub kept_past : s.base < s.top → length values < s.top → 0 ≡ number_kept (frame_of values s)
+  kept_past some few = sym (get_or-eq_default values 0 {n = s.top - 1} (omega arith)) ∙ kept_top some
+
 pub ruleset kept = (kept_none, kept_top, unwrap_or-slice_get)
 
 -- ---- `report`
@@ -104,3 +111,18 @@ module _ (values : List ℕ) (units : ℕ) (s : Machine) where
   reports_whole r is wide = record { reports = is ∙ due_fits wide }
 
 pub ruleset reported = (wrapped_ended, wrapped_refused, wrapped_going, reports_whole)
+
+-- ---- what a loop takes from it
+
+module _ (values : List ℕ) (units : ℕ) (s : Machine) (r : Answer) (t : run_answer r ≡ in_64_bits (due_at values units s)) where
+  -- no fuel is left
+  pub unfuelled_is :
+      s.stop ≡ RefusedWith FuelUsedUp
+      → units < 2 ^ 64
+      → run_answer r ≡ record { outcome = refusal fuel_used_up s.read; units = units; bytes_read = s.read; bytes_written = s.written; number = 0 }
+  unfolding due_at
+  unfuelled_is e wide = let fits : units % 2 ^ 64 ≡ units = omega arith in t ∙ rw (due_at, e, e, fits) refl
+
+  -- every other stop is answered as that of any code
+  pub stop_is : s.stop ≢ RefusedWith FuelUsedUp → units + 1 < 2 ^ 64 → Reports values units s r
+  stop_is h wide = reports_whole values units s r t wide

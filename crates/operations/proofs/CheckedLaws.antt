@@ -10,24 +10,27 @@ use mathlib.Core.Option.{some}
 use mathlib.Core.Path.{◌≡◌, refl, sym, ap, ◌∙◌}
 use native.Mathlib.Decide.{dec_le}
 use native.Mathlib.Omega.{arith}
+use borrow.Author.Tests.{leb-true}
+use lib.Dec.{leb}
 use lib.ListN.{length, get_or}
 use Rattle.formats.specs.Numbers.{number_at}
 use Rattle.formats.specs.Records.{fields, record_at, nth}
+use Rattle.formats.specs.Tokens.{leaf_tag, node_tag, label_bytes}
 use Rattle.formats.proofs.Records.{but}
 use Rattle.meaning.specs.Instructions.{Instruction, Operation, operations, operation_of}
-use Rattle.meaning.specs.Instructions.{Push, Get, Add, Ifnot, Slide, Drop, WriteNumber, ReadNumber, Call, Return}
+use Rattle.meaning.specs.Instructions.{Push, Get, Add, Ifnot, Slide, Drop, WriteNumber, ReadTag, ReadNumber, Call, Return}
 use Rattle.meaning.specs.Performing.{State}
 use Rattle.meaning.specs.Running.{value_words}
 use Rattle.meaning.specs.CannotPerform.{last_opcode, words_needed, words_added, fetched, CannotPerform, no_operation, return_byte, missing_words, surplus_words}
 use Rattle.meaning.proofs.Steps.{one_step}
 use Rattle.machine_state.specs.declared.Machine.{Machine}
 use Rattle.refusal.specs.declared.Refusal.TheVariants.{FuelUsedUp}
-use Rattle.machine_state.specs.Inner.States.{state_of, refused_by}
-use Rattle.operations.specs.Inner.Effects.{OnValues, Performs}
+use Rattle.machine_state.specs.Inner.States.{state_of, Sound, refused_by, jump_to}
+use Rattle.operations.specs.Inner.Effects.{OnNumbers, OnValues, WritesTag, OnOutput, FromInput, OnInput, OnReturns, FromReturns, Performs}
 use Rattle.operations.specs.Inner.Checked.{Able, Words, Room, ReturnByte, Turns}
 use Rattle.operations.proofs.Frames.{length_words, all_standing}
 use Rattle.operations.proofs.StackLaws.{pushes}
-use Rattle.operations.proofs.StepLaws.{placed, gets, adds, performed_so}
+use Rattle.operations.proofs.StepLaws.{placed, gets, adds, pushes as named_push, ifnots, jumps, slides, drops, writes_leaf, writes_node, writes_number, reads_tag, reads_number, calls, returned_so, performed_so}
 
 -- ---- the fuel
 
@@ -38,6 +41,18 @@ pub with_fuel :
     → Performs i input values returns output values' returns' output' s r
     → Turns fuel i input values returns output values' returns' output' s r
 with_fuel fuel i input values returns output values' returns' output' s r more d = record { used_up = λ e. absurd (more e); performed = λ h. d }
+
+-- .. or none is, and nothing is done
+pub fuel_none :
+    (fuel : ℕ) (i : Instruction) (input values returns output : List ℕ) (s r : Machine)
+    → fuel ≡ 0
+    → r ≡ refused_by FuelUsedUp s
+    → Turns fuel i input values returns output values returns output s r
+fuel_none fuel i input values returns output s r none_left is =
+    record {
+      used_up = λ e. (is, refl, refl, refl);
+      performed = λ some_left. absurd (some_left none_left);
+    }
 
 -- ---- what a test says
 
@@ -71,6 +86,15 @@ module _ (s : Machine) where
   pub some_word : 1 ≤ s.top - s.base → s.base < s.top
   some_word there = omega arith
 
+  pub words_many : (n : ℕ) → Words n s → n ≤ s.top - s.base
+  words_many n words = omega (arith, words.there)
+
+  pub words_some : Words 1 s → s.base < s.top
+  words_some words = omega (arith, words.there)
+
+  pub kept_some : (k : ℕ) → k ≢ 0 → Words k s → s.base < s.top
+  kept_some k some_kept words = omega (arith, words.there)
+
 module _ (a k : ℕ) where
   pub at_most : a < k + 1 → a ≤ k
   at_most h = omega arith
@@ -92,6 +116,13 @@ module _ (k : ℕ) where
   kept_words s some_kept words = record { there = omega (arith, words.there) }
 
 pub ruleset keeping = (kept_more, kept_one)
+
+-- ---- `read_number`
+
+-- Where fewer bytes are left than a test asks for, which asks for no more than a label has, no
+-- label is whole.
+pub no_label : (n asked : ℕ) → n < asked → leb asked label_bytes ≡ true → n < label_bytes
+no_label n asked fewer e = omega (arith, fewer, leb-true asked label_bytes e)
 
 -- ---- what an instruction has that is not refused with 19
 
@@ -267,6 +298,144 @@ module _ (i input values returns output : List ℕ) (s r : Machine) (a : Able (r
       → (fuel ≢ 0 → OnValues Add values values' s r)
       → Turned values' returns output
   add_turned values' e unfuelled done = on_values values' unfuelled done (adds i input values returns output s r values' (masked 2 e))
+
+  -- .. to the return words, to the output, and to no buffer
+  on_returns :
+      {Done : Type 0} (returns' : List ℕ)
+      → (fuel ≡ 0 → (r ≡ refused_by FuelUsedUp s) × (returns' ≡ returns))
+      → (fuel ≢ 0 → Done)
+      → (Done → Performs (record_at i 0) input values returns output values returns' output s r)
+      → Turned values returns' output
+  on_returns returns' unfuelled done did =
+      record {
+        used_up = λ e. ((unfuelled e).0, refl, (unfuelled e).1, refl);
+        performed = λ h. did (done h);
+      }
+
+  on_output :
+      {Done : Type 0} (output' : List ℕ)
+      → (fuel ≡ 0 → (r ≡ refused_by FuelUsedUp s) × (output' ≡ output))
+      → (fuel ≢ 0 → Done)
+      → (Done → Performs (record_at i 0) input values returns output values returns output' s r)
+      → Turned values returns output'
+  on_output output' unfuelled done did =
+      record {
+        used_up = λ e. ((unfuelled e).0, refl, refl, (unfuelled e).1);
+        performed = λ h. did (done h);
+      }
+
+  on_none :
+      {Done : Type 0}
+      → (fuel ≡ 0 → r ≡ refused_by FuelUsedUp s)
+      → (fuel ≢ 0 → Done)
+      → (Done → Performs (record_at i 0) input values returns output values returns output s r)
+      → Turned values returns output
+  on_none unfuelled done did =
+      record {
+        used_up = λ e. (unfuelled e, refl, refl, refl);
+        performed = λ h. did (done h);
+      }
+
+  pub push_turned :
+      (n : ℕ) (values' : List ℕ)
+      → get_or i 0 0 % 16 ≡ 0
+      → n ≡ number_at 4 i 4
+      → (fuel ≡ 0 → (r ≡ refused_by FuelUsedUp s) × (values' ≡ values))
+      → (fuel ≢ 0 → OnValues (Push n) values values' s r)
+      → Turned values' returns output
+  push_turned n values' e is unfuelled done = on_values values' unfuelled done (named_push i input values returns output s r n values' (masked 0 e) is)
+
+  pub ifnot_turned :
+      (o : ℕ)
+      → get_or i 0 0 % 16 ≡ 3
+      → o ≡ number_at 2 i 2
+      → (fuel ≡ 0 → r ≡ refused_by FuelUsedUp s)
+      → (fuel ≢ 0 → OnValues (Ifnot o) values values s r)
+      → Turned values returns output
+  ifnot_turned o e is unfuelled done = on_none unfuelled done (ifnots i input values returns output s r o (masked 3 e) is)
+
+  pub jump_turned :
+      (o : ℕ)
+      → get_or i 0 0 % 16 ≡ 4
+      → o ≡ number_at 2 i 2
+      → Sound s
+      → (fuel ≡ 0 → r ≡ refused_by FuelUsedUp s)
+      → (fuel ≢ 0 → r ≡ jump_to o s)
+      → Turned values returns output
+  jump_turned o e is sound unfuelled done = on_none unfuelled done (jumps i input values returns output s r o (masked 4 e) is sound)
+
+  pub slide_turned :
+      (values' : List ℕ)
+      → get_or i 0 0 % 16 ≡ 5
+      → (fuel ≡ 0 → (r ≡ refused_by FuelUsedUp s) × (values' ≡ values))
+      → (fuel ≢ 0 → OnValues Slide values values' s r)
+      → Turned values' returns output
+  slide_turned values' e unfuelled done = on_values values' unfuelled done (slides i input values returns output s r values' (masked 5 e))
+
+  pub drop_turned :
+      get_or i 0 0 % 16 ≡ 6
+      → (fuel ≡ 0 → r ≡ refused_by FuelUsedUp s)
+      → (fuel ≢ 0 → OnNumbers Drop s r)
+      → Turned values returns output
+  drop_turned e unfuelled done = on_none unfuelled done (drops i input values returns output s r (masked 6 e))
+
+  pub leaf_turned :
+      (output' : List ℕ)
+      → get_or i 0 0 % 16 ≡ 7
+      → (fuel ≡ 0 → (r ≡ refused_by FuelUsedUp s) × (output' ≡ output))
+      → (fuel ≢ 0 → WritesTag leaf_tag output output' s r)
+      → Turned values returns output'
+  leaf_turned output' e unfuelled done = on_output output' unfuelled done (writes_leaf i input values returns output s r output' (masked 7 e))
+
+  pub node_turned :
+      (output' : List ℕ)
+      → get_or i 0 0 % 16 ≡ 8
+      → (fuel ≡ 0 → (r ≡ refused_by FuelUsedUp s) × (output' ≡ output))
+      → (fuel ≢ 0 → WritesTag node_tag output output' s r)
+      → Turned values returns output'
+  node_turned output' e unfuelled done = on_output output' unfuelled done (writes_node i input values returns output s r output' (masked 8 e))
+
+  pub written_turned :
+      (output' : List ℕ)
+      → get_or i 0 0 % 16 ≡ 9
+      → (fuel ≡ 0 → (r ≡ refused_by FuelUsedUp s) × (output' ≡ output))
+      → (fuel ≢ 0 → OnOutput WriteNumber values output output' s r)
+      → Turned values returns output'
+  written_turned output' e unfuelled done = on_output output' unfuelled done (writes_number i input values returns output s r output' (masked 9 e))
+
+  pub tag_turned :
+      (o : ℕ)
+      → get_or i 0 0 % 16 ≡ 10
+      → o ≡ number_at 2 i 2
+      → (fuel ≡ 0 → r ≡ refused_by FuelUsedUp s)
+      → (fuel ≢ 0 → OnInput (ReadTag o) input s r)
+      → Turned values returns output
+  tag_turned o e is unfuelled done = on_none unfuelled done (reads_tag i input values returns output s r o (masked 10 e) is)
+
+  pub label_turned :
+      (values' : List ℕ)
+      → get_or i 0 0 % 16 ≡ 11
+      → (fuel ≡ 0 → (r ≡ refused_by FuelUsedUp s) × (values' ≡ values))
+      → (fuel ≢ 0 → FromInput ReadNumber input values values' s r)
+      → Turned values' returns output
+  label_turned values' e unfuelled done = on_values values' unfuelled done (reads_number i input values returns output s r values' (masked 11 e))
+
+  pub call_turned :
+      (o : ℕ) (returns' : List ℕ)
+      → get_or i 0 0 % 16 ≡ 12
+      → o ≡ number_at 2 i 2
+      → (fuel ≡ 0 → (r ≡ refused_by FuelUsedUp s) × (returns' ≡ returns))
+      → (fuel ≢ 0 → OnReturns (Call o (get_or i 1 0)) returns returns' s r)
+      → Turned values returns' output
+  call_turned o returns' e is unfuelled done = on_returns returns' unfuelled done (calls i input values returns output s r o returns' (masked 12 e) is)
+
+  pub return_turned :
+      (values' : List ℕ)
+      → get_or i 0 0 % 16 ≡ 13
+      → (fuel ≡ 0 → (r ≡ refused_by FuelUsedUp s) × (values' ≡ values))
+      → (fuel ≢ 0 → FromReturns (Return (get_or i 1 0)) returns values values' s r)
+      → Turned values' returns output
+  return_turned values' e unfuelled done = on_values values' unfuelled done (returned_so i input values returns output s r values' (masked 13 e))
 
   -- there is no opcode above 13
   pub none_14 : (values' returns' output' : List ℕ) → get_or i 0 0 % 16 ≡ 14 → Turned values' returns' output'

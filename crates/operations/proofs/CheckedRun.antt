@@ -47,6 +47,12 @@ module _ (code input : List ℕ) (fuel : ℕ) (output₀ values₀ returns₀ ou
   did more = (d.performed more).does (of_code code input (length output₀)) refl h.held
 
   -- the buffers keep their lengths
+  pub checked_output : length output' ≡ length output₀
+  checked_output = elim (either (fuel - units)) [
+    | inl none ↦ ap length (d.used_up none).3 ∙ h.same_output
+    | inr more ↦ (did more).same_output ∙ h.same_output
+  ]
+
   checked_values : length values' ≡ length values₀
   checked_values = elim (either (fuel - units)) [
     | inl none ↦ ap length (d.used_up none).1 ∙ h.same_values

@@ -236,6 +236,23 @@ module _ (part : Part) (node : Record) (r i count : ℕ) (p q : Location) (names
   pub inside_node_right : node ≡ Node → i ≢ 0 → q ≡ placed Passed r 0 names p.keeps depth → q ≡ part_in (part_of part) (meant node) r i count p
   inside_node_right case other = by_used Passed 0 p.keeps (used_node_right node i count p case other)
 
+  -- an argument, the last one or not
+  pub inside_call : (c : Called) (more : ℕ) (last : Bool) → node ≡ Call c → more ≡ capped (p.keeps + i) → last ≡ eqb (suc i) count
+      → q ≡ placed (elim last [ true ↦ LastArgument | false ↦ Kept ]) r (last_word - more) names more depth
+      → q ≡ part_in (part_of part) (meant node) r i count p
+  inside_call c more last case em el = by last el
+    where
+      by : (b : Bool) → b ≡ eqb (suc i) count → q ≡ placed (elim b [ true ↦ LastArgument | false ↦ Kept ]) r (last_word - more) names more depth
+          → q ≡ part_in (part_of part) (meant node) r i count p
+      by true e =
+          let same = eqb-true (suc i) count (sym e) in
+          let one : count - i ≡ 1 = omega arith in
+          by_used LastArgument (last_word - more) more (used_call_last node i count p c case one ∙ ap (λ n. (LastArgument, last_word - n, n)) (sym em))
+      by false e =
+          let unlike = eqb-false (suc i) count (sym e) in
+          by_used Kept (last_word - more) more
+          (used_call_other node i count p c case (λ one. unlike (omega arith)) ∙ ap (λ n. (Kept, last_word - n, n)) (sym em))
+
   -- the value of a Case's part is the Case's; a Const and a Var have no parts
   pub inside_passed : (node ≡ Add → ⊥) → (node ≡ IfZero → ⊥) → (node ≡ Let → ⊥) → (node ≡ Leaf → ⊥) → (node ≡ Node → ⊥) → ((x : Called) → node ≡ Call x → ⊥) → q ≡ placed Passed r 0 names p.keeps depth
       → q ≡ part_in (part_of part) (meant node) r i count p

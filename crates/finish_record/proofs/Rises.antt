@@ -1,5 +1,5 @@
 -- A record is finished: a law for each way out of the functions.
-use Prim.Native.Nat.{ℕ, suc, ◌+◌, ◌-◌, ◌*◌, ◌%◌}
+use Prim.Native.Nat.{ℕ, suc, ◌+◌, ◌-◌, ◌*◌, ◌/◌, ◌%◌, ◌≤◌, ◌<◌}
 use mathlib.Core.Bool.{Bool, true, false, ◌&&◌}
 use mathlib.Core.List.{List}
 use mathlib.Core.Logic.{◌≢◌}
@@ -7,12 +7,13 @@ use mathlib.Core.Path.{◌≡◌, refl, sym, ap, ◌∙◌}
 use native.Mathlib.Numerals.{add-one}
 use native.Mathlib.Decide.{dec_le}
 use native.Mathlib.Omega.{arith}
-use borrow.Author.Tests.{eq-eqb, ne_eqb}
-use lib.Dec.{eqb}
-use lib.ListN.{get_or, set}
+use borrow.Author.Tests.{eq-eqb, ne_eqb, lt-ltb, le-ltb}
+use lib.Dec.{eqb, ltb}
+use lib.ListN.{length, get_or, set}
 use Rattle.formats.specs.Arithmetic.{plus, result_of}
+use Rattle.formats.specs.Tokens.{node_tag}
 use Rattle.stepwise.specs.Inner.Rows.{tested}
-use Rattle.stepwise.specs.Inner.Steps.{role_at, parent_at, slot_at, after_at, frame_words, on_right, known_after}
+use Rattle.stepwise.specs.Inner.Steps.{tree_at, role_at, parent_at, slot_at, after_at, frame_words, on_right, known_after}
 use Rattle.stepwise.proofs.Steps.{closes_first, closes_waiting, computes_result, computes_none, rises_whole, rises_kept, rises_added, rises_zero, rises_other, rises_passed, rises_labelled, rises_followed, rises_on, follows_last}
 use Rattle.std.specs.Prelude.{Option, Some, None}
 use Rattle.numbers.specs.Inner.Sums.{word_in}
@@ -26,7 +27,7 @@ use Rattle.stages.specs.Inner.Stages.{state_of, staged, stage_of, words_of, retu
 use Rattle.stages.proofs.Stages.{reach_begin, reach_finished, reach_ended, reach_broken, put_begin, put_open}
 use Rattle.finish_record.specs.Inner.Rises.{Knows, Closes, Adds, Picks, Rises}
 
--- ---- `known_after`
+-- ---- `on_right`, `known_after`
 
 -- both tests hold, or one does not
 both_true : {a b : Bool} → a ≡ true → b ≡ true → (a && b) ≡ true
@@ -38,6 +39,46 @@ first_false a b e = rw e
 then_false : (a b : Bool) → b ≡ false → (a && b) ≡ false
 then_false true b e = e
 then_false false b e = refl
+
+module _ (T input : List ℕ) (r own code : ℕ) (is : code ≡ tree_at T r) where
+  -- the tests after the first and the second
+  abbrev deeper : Bool
+  deeper = ltb own (length input) && eqb (get_or input own 0) node_tag
+
+  pub right_odd : code % 2 ≢ 0 → false ≡ on_right T input r own
+  unfolding on_right
+  right_odd h = sym (rw (on_right, ← is) (first_false (eqb (code % 2) 0) _ (ne_eqb _ _ h)))
+
+  pub right_own : code ≡ 0 → false ≡ on_right T input r own
+  unfolding on_right
+  right_own e =
+      sym (rw (on_right, ← is) (then_false (eqb (code % 2) 0) _ (first_false (ltb 0 code) _ (le-ltb 0 code (omega arith)))))
+
+  module _ (outer : ℕ) (inner : outer ≡ tree_at T ((code - 1) / 2)) where
+    pub right_deeper : outer ≢ 0 → false ≡ on_right T input r own
+    unfolding on_right
+    right_deeper h =
+        sym
+        (rw (on_right, ← is, ← inner)
+        (then_false (eqb (code % 2) 0) _ (then_false (ltb 0 code) _ (first_false (eqb outer 0) deeper (ne_eqb _ _ h)))))
+
+    pub right_past : length input ≤ own → false ≡ on_right T input r own
+    unfolding on_right
+    right_past h =
+        sym
+        (rw (on_right, ← is, ← inner)
+        (then_false (eqb (code % 2) 0) _ (then_false (ltb 0 code) _ (then_false (eqb outer 0) deeper (first_false (ltb own (length input)) _ (le-ltb _ _ h))))))
+
+    pub right_tag : code % 2 ≡ 0 → code ≢ 0 → outer ≡ 0 → own < length input → eqb (get_or input own 0) node_tag ≡ on_right T input r own
+    unfolding on_right
+    right_tag even some none there =
+        let first : eqb (code % 2) 0 ≡ true = eq-eqb _ _ even in
+        let second : ltb 0 code ≡ true = lt-ltb 0 code (omega arith) in
+        let third : eqb outer 0 ≡ true = eq-eqb _ _ none in
+        let fourth : ltb own (length input) ≡ true = lt-ltb _ _ there in
+        sym (rw (on_right, ← is, ← inner, first, second, third, fourth))
+
+pub ruleset rights = (right_odd, right_own, right_deeper, right_past, right_tag)
 
 module _ (T input : List ℕ) (r own : ℕ) (s : Stage) where
   pub knows_other : s.known ≢ s.tree → Knows T input r own s s.known

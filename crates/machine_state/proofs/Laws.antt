@@ -4,10 +4,8 @@ use mathlib.Core.Logic.{◌⊎◌, inl, inr}
 use lib.ListN.{get_or-eq_default}
 use Rattle.std.proofs.lemmas.Option.{unwrap_or-slice_get}
 use Rattle.refusal.specs.declared.Refusal.{Refusal}
-use Rattle.refusal.specs.declared.Refusal.TheVariants.{CannotPerform, FuelUsedUp}
+use Rattle.refusal.specs.declared.Refusal.TheVariants.{CannotPerform}
 use Rattle.refusal.specs.declared.Refused.{Refused}
-use Rattle.formats.specs.Refusals.{fuel_used_up}
-use Rattle.formats.specs.Results.{refusal}
 use Rattle.meaning.specs.Performing.{number_kept}
 use Rattle.machine_state.specs.declared.Machine.{Machine}
 use Rattle.machine_state.specs.declared.Answer.{Answer}
@@ -111,18 +109,3 @@ module _ (values : List ℕ) (units : ℕ) (s : Machine) where
   reports_whole r is wide = record { reports = is ∙ due_fits wide }
 
 pub ruleset reported = (wrapped_ended, wrapped_refused, wrapped_going, reports_whole)
-
--- ---- what a loop takes from it
-
-module _ (values : List ℕ) (units : ℕ) (s : Machine) (r : Answer) (t : run_answer r ≡ in_64_bits (due_at values units s)) where
-  -- no fuel is left
-  pub unfuelled_is :
-      s.stop ≡ RefusedWith FuelUsedUp
-      → units < 2 ^ 64
-      → run_answer r ≡ record { outcome = refusal fuel_used_up s.read; units = units; bytes_read = s.read; bytes_written = s.written; number = 0 }
-  unfolding due_at
-  unfuelled_is e wide = let fits : units % 2 ^ 64 ≡ units = omega arith in t ∙ rw (due_at, e, e, fits) refl
-
-  -- every other stop is answered as that of any code
-  pub stop_is : s.stop ≢ RefusedWith FuelUsedUp → units + 1 < 2 ^ 64 → Reports values units s r
-  stop_is h wide = reports_whole values units s r t wide

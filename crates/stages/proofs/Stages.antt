@@ -75,6 +75,7 @@ module _ (m : Missing) (values returns : List ℕ) (s : Stage) where
       → ((r : ℕ) → s.next ≢ Deep r)
       → ((r : ℕ) → s.next ≢ Broken r)
       → turn_of m values returns s ≡ stuck
+  unfolding turn_of
   turn_none a b c d e f = by s.next refl
     where
       by : (n : Next) → s.next ≡ n → turn_of m values returns s ≡ stuck
@@ -83,8 +84,8 @@ module _ (m : Missing) (values returns : List ℕ) (s : Stage) where
       by (Open r) is = absurd (c r is)
       by (Ended x) is = absurd (d x is)
       by (Deep r) is = absurd (e r is)
-      by Stuck is = turn_stuck is
       by (Broken r) is = absurd (f r is)
+      by _ is = rw (turn_of, is)
 
   pub turn_broken : (r : ℕ) → s.next ≡ Broken r → turn_of m values returns s ≡ broken m.op m.i m.j r
   unfolding turn_of

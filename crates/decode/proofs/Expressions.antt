@@ -137,7 +137,7 @@ module _ (s table cases : List ℕ) (k end : ℕ) (p : Location) where
         }
 
       -- its own row, before the parts' rows
-      fill_read : (own : Own) (there after cases' : List ℕ) (next : ℕ) → Small k end p → k < end → own ≡ own_in s (take p.depth cases) p.names (meant node)
+      pub fill_read : (own : Own) (there after cases' : List ℕ) (next : ℕ) → Small k end p → k < end → own ≡ own_in s (take p.depth cases) p.names (meant node)
           → FillsParts s table there cases cases' node parts k 0 count (k + 1) end p next
           → after ≡ written there (row_words * k) (row_in own p next)
           → FillsRows s table after cases cases' k end p (Some next)
@@ -170,7 +170,7 @@ module _ (s table cases : List ℕ) (k end : ℕ) (p : Location) where
 
 module _ (s table cases : List ℕ) (node : Record) (parts : Parts) (r i count k end : ℕ) (p : Location) (small : SmallParts r i k end p) where
   -- the parts are finished
-  parts_done : count ≤ i → FillsParts s table table cases cases node parts r i count k end p k
+  pub parts_done : count ≤ i → FillsParts s table table cases cases node parts r i count k end p k
   unfolding rows_of_parts
   parts_done over = record {
     went = record { on = le_refl k; inside = small.inside.before_end };
@@ -239,7 +239,7 @@ module _ (s table cases : List ℕ) (node : Record) (parts : Parts) (r i count k
       same_length = ap length own_written ∙ (wrote table (row_words * k) own_rows).same_length
 
     -- where no record is given, no part is entered
-    parts_stuck : found ≡ None → {entry arity : ℕ → ℕ} {ps : List Placed} {m : ℕ} → EnteringParts s table cases entry arity node parts i count k end p ps m → ⊥
+    pub parts_stuck : found ≡ None → {entry arity : ℕ → ℕ} {ps : List Placed} {m : ℕ} → EnteringParts s table cases entry arity node parts i count k end p ps m → ⊥
     parts_stuck none h = none-some _ (sym none ∙ (filled h).after)
 
     module _ (next : ℕ) (is : found ≡ Some next) where
@@ -265,7 +265,7 @@ module _ (s table cases : List ℕ) (node : Record) (parts : Parts) (r i count k
           }
 
       -- the part's rows, and after them those of the others
-      parts_more : (table' cases' : List ℕ) (n : ℕ) → FillsParts s between table' cases₁ cases' node parts r (i + 1) count next end p n
+      pub parts_more : (table' cases' : List ℕ) (n : ℕ) → FillsParts s between table' cases₁ cases' node parts r (i + 1) count next end p n
           → FillsParts s table table' cases cases' node parts r i count k end p n
       unfolding rows_of_parts
       parts_more table' cases' n l = record {
@@ -296,7 +296,7 @@ module _ (s table cases : List ℕ) (node : Record) (parts : Parts) (r i count k
 -- ---- the loop over the parts
 
 -- the parts of a record
-few_parts : (k end : ℕ) (p : Location) → Small k end p → k < end → SmallParts k 0 (k + 1) end p
+pub few_parts : (k end : ℕ) (p : Location) → Small k end p → k < end → SmallParts k 0 (k + 1) end p
 few_parts k end p small more = record {
   inside = record { before_end = omega arith; few = small.inside.few };
   parent = omega (arith, small.inside.few);
@@ -306,7 +306,7 @@ few_parts k end p small more = record {
 }
 
 -- the parts after one
-few_rest : (r i k end : ℕ) (p : Location) (next : ℕ) → SmallParts r i k end p → Went (suc k) end next → SmallParts r (i + 1) next end p
+pub few_rest : (r i k end : ℕ) (p : Location) (next : ℕ) → SmallParts r i k end p → Went (suc k) end next → SmallParts r (i + 1) next end p
 few_rest r i k end p next small went = record {
   inside = record { before_end = went.inside; few = small.inside.few };
   parent = small.parent;

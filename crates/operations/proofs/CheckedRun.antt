@@ -53,13 +53,13 @@ module _ (code input : List ℕ) (fuel : ℕ) (output₀ values₀ returns₀ ou
     | inr more ↦ (did more).same_output ∙ h.same_output
   ]
 
-  checked_values : length values' ≡ length values₀
+  pub checked_values : length values' ≡ length values₀
   checked_values = elim (either (fuel - units)) [
     | inl none ↦ ap length (d.used_up none).1 ∙ h.same_values
     | inr more ↦ (did more).same_values ∙ h.same_values
   ]
 
-  checked_returns : length returns' ≡ length returns₀
+  pub checked_returns : length returns' ≡ length returns₀
   checked_returns = elim (either (fuel - units)) [
     | inl none ↦ ap length (d.used_up none).2 ∙ h.same_returns
     | inr more ↦ (did more).same_returns ∙ h.same_returns

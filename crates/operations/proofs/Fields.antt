@@ -54,7 +54,7 @@ module _ (code : List ℕ) (address : ℕ) (whole : instruction_bytes * address 
       number-of width own k (omega arith) ∙ ap number_of (bytes_there width k 0 (omega arith)) ∙ sym (number-of width code (p + k) (omega arith))
 
   -- they hold the record at the address
-  record_there : record_at own 0 ≡ record_at code address
+  pub record_there : record_at own 0 ≡ record_at code address
   unfolding record_at
   record_there =
       let opcode : get_or own 0 0 ≡ get_or code p 0 = byte_there 0 (omega arith) ∙ ap (λ q. get_or code q 0) (add-zero p) in

@@ -218,11 +218,11 @@ module _ (s : List ℕ) (c : Scope) (node : Record) (t : Bool) (reported : WordT
   unfolding has_room
   roomy_tested e = record { is = λ gs known low. sym (rw (sym (reported.is gs known low) ∙ not-false t e, has_room)) }
 
-pub ruleset roomy = (roomy_untested, roomy_tested)
-
 -- the kinds whose words are not tested
 pub roomy_other : (s : List ℕ) (c : Scope) (node : Record) → ((x : Constant) → node ≡ Const x → ⊥) → ((x : NumberName) → node ≡ Var x → ⊥) → ((x : TreeName) → node ≡ Case x → ⊥) → ((x : Called) → node ≡ Call x → ⊥) → Roomy s c node true
 roomy_other s c node no_const no_var no_case no_call = roomy_untested s c node false (tested_other s node no_const no_var no_case no_call) refl
+
+pub ruleset roomy = (roomy_untested, roomy_tested)
 
 -- ---- `tests`
 

@@ -27,7 +27,7 @@ use Rattle.meaning.specs.WorkWords.{WorkWords, before_stream}
 use Rattle.meaning.proofs.WorkWords.{untouched, run_refused, ended as words_ended}
 use Rattle.machine_state.specs.declared.Machine.{Machine}
 use Rattle.refusal.specs.declared.Refusal.TheVariants.{FuelUsedUp}
-use Rattle.machine_state.specs.declared.Stop.TheVariants.{GoesOn, Ended, Refused as RefusedWith}
+use Rattle.machine_state.specs.declared.Stop.TheVariants.{GoesOn, Ended}
 use Rattle.machine_state.specs.declared.Answer.{Answer}
 use Rattle.machine_state.specs.Inner.States.{words_from, waiting, frame_of, state_of, step_of, refusal_number, refused_by, first, Going, Held, Lent}
 use Rattle.operations.specs.Inner.Effects.{Does, Steps}
@@ -48,15 +48,6 @@ module _ (values returns output : List ℕ) (r : Machine) where
   step_refuses : r.stop ≢ GoesOn → r.stop ≢ Ended → step_of values returns output r ≡ refuses (refusal_number r.stop)
   unfolding step_of
   step_refuses h g = rw (step_of, stops _ h, not_ended _ g)
-
--- a step's refusal is not 14, which is that of a run whose fuel is used up
-not_14 : (n : ℕ) → StepRefusal n → n ≢ fuel_used_up
-not_14 n ended_there e = absurd (omega arith)
-not_14 n not-a-tag e = absurd (omega arith)
-not_14 n full e = absurd (omega arith)
-not_14 n too_many e = absurd (omega arith)
-not_14 n cannot e = absurd (omega arith)
-not_14 n out-of-range e = absurd (omega arith)
 
 -- a step's refusal comes after 13
 not_before : (n : ℕ) → StepRefusal n → before_stream n ≡ false
@@ -104,6 +95,15 @@ output_is output output₀ w same fits rest =
     let room : 0 + length front ≤ length output₀ = omega arith in
     let after : drop (0 + length front) output₀ ≡ drop w output = ap (λ k. drop k output₀) end ∙ sym rest in
     sym (written_fits output₀ 0 front room ∙ ap (λ (l : List ℕ). front ++ l) after ∙ take-append-drop w output)
+
+-- a step's refusal is not 14, which is that of a run whose fuel is used up
+not_14 : (n : ℕ) → StepRefusal n → n ≢ fuel_used_up
+not_14 n ended_there e = absurd (omega arith)
+not_14 n not-a-tag e = absurd (omega arith)
+not_14 n full e = absurd (omega arith)
+not_14 n too_many e = absurd (omega arith)
+not_14 n cannot e = absurd (omega arith)
+not_14 n out-of-range e = absurd (omega arith)
 
 -- a buffer that is untouched after fewer bytes is untouched after more
 drop_more : (few many : ℕ) (l k : List ℕ) → few ≤ many → drop few l ≡ drop few k → drop many l ≡ drop many k
@@ -270,12 +270,12 @@ module _ (code input : List ℕ) (fuel : ℕ) (output₀ values₀ returns₀ : 
               }
 
           -- a step never stops with 14
-          pub turned_not_14 : r.stop ≢ RefusedWith FuelUsedUp
+          pub turned_not_14 : refusal_number r.stop ≢ fuel_used_up
           turned_not_14 is_14 =
-              let on : r.stop ≢ GoesOn = λ z. let wrong : GoesOn ≡ RefusedWith FuelUsedUp = sym z ∙ is_14 in cc in
-              let ended : r.stop ≢ Ended = λ z. let wrong : Ended ≡ RefusedWith FuelUsedUp = sym z ∙ is_14 in cc in
+              let on : r.stop ≢ GoesOn = λ z. let other : refusal_number r.stop ≡ 19 = ap refusal_number z in absurd (omega arith) in
+              let ended : r.stop ≢ Ended = λ z. let other : refusal_number r.stop ≡ 19 = ap refusal_number z in absurd (omega arith) in
               let e : step m state ≡ refuses (refusal_number r.stop) = sym did.reported ∙ step_refuses values' returns' output' r on ended in
-              not_14 (refusal_number r.stop) ((one_step m state).refusals (refusal_number r.stop) e) (ap refusal_number is_14)
+              not_14 (refusal_number r.stop) ((one_step m state).refusals (refusal_number r.stop) e) is_14
 
           -- it stops
           pub turned_stops :

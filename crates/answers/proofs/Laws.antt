@@ -1,7 +1,7 @@
 -- Answers of two slots: a law for each way out of the functions that report them.
 use Prim.Native.Nat.{ℕ, ◌<◌}
 use mathlib.Core.List.{List, [], ◌∷◌}
-use mathlib.Core.Path.{◌≡◌, refl}
+use mathlib.Core.Path.{◌≡◌, refl, sym, subst}
 use lib.ListN.{length}
 use Rattle.std.specs.Prelude.{Result as Answer, Ok, Err}
 use Rattle.std.specs.Result.{result_unwrap_or}
@@ -19,6 +19,16 @@ use Rattle.answers.proofs.Slots.{reported_short, stored_reported}
 -- too few slots
 pub too_few : (due : Result ℕ) (before : List ℕ) (r : ℕ) → length before < answer_slots → r ≡ space_too_short → Answers due before before r
 too_few due before r h e = reported_short answer_slots (λ position. position ∷ byte_count due ∷ []) (outcome_of due) before r refl h e
+
+-- all is done, or a refusal
+module _ (before after : List ℕ) (r : ℕ) where
+  pub all_done : (due : Result ℕ) (bytes : ℕ) → due ≡ done bytes → Stores 0 0 bytes before after r → Answers due before after r
+  unfolding refusal_of position_of byte_count
+  all_done due bytes e s = subst (λ (d : Result ℕ). Answers d before after r) (sym e) (record { number = s.given; slots = s.slots })
+
+  pub a_refusal : (due : Result ℕ) (n position : ℕ) → due ≡ refusal n position → Stores n position 0 before after r → Answers due before after r
+  unfolding refusal_of position_of byte_count
+  a_refusal due n position e s = subst (λ (d : Result ℕ). Answers d before after r) (sym e) (record { number = s.given; slots = s.slots })
 
 -- what was filled, or why not
 pub filled_reported : (filled : Answer ℕ Refused) (n position bytes : ℕ) (before after : List ℕ) (r : ℕ)

@@ -12,6 +12,10 @@ use Rattle.formats.specs.Refusals.{space_too_short}
 use Rattle.formats.specs.Results.{Result}
 use Rattle.formats.specs.Written.{written}
 use Rattle.formats.proofs.Written.{written_fits, written_short}
+use Rattle.std.specs.Prelude.{Result as Answer, Ok, Err}
+use Rattle.refusal.specs.Inner.Numbers.{number}
+use Rattle.refusal.specs.Inner.Verdicts.{verdict_result}
+use Rattle.refusal.specs.declared.Refused.{Refused}
 use Rattle.answers.specs.Slots.{refusal_of, position_of, Answered}
 use Rattle.answers.specs.Inner.Stores.{Stored}
 
@@ -46,3 +50,15 @@ module _ (count : ℕ) (row : ℕ → List ℕ) (long : (position : ℕ) → len
         number = (rw (long position) at s.given) ∙ ap (λ k. elim (ltb (length before) count) [ true ↦ space_too_short | false ↦ k ]) is;
         slots = s.slots ∙ ap (λ p. written before 0 (row p)) there;
       }
+
+  -- of a check: passed, or refused
+  module _ (v : Answer (Unit {0}) Refused) where
+    pub reported_ended : v ≡ Ok tt → Stored (row 0) 0 before after r → Answered count row (verdict_result v) before after r
+    unfolding refusal_of position_of
+    reported_ended case = stored_reported (verdict_result v) 0 0 (sym (ap (λ w. refusal_of (verdict_result w)) case)) (sym (ap (λ w. position_of (verdict_result w)) case))
+
+    pub reported_refused : (e : Refused) (n : ℕ) → v ≡ Err e → n ≡ number e.why → Stored (row e.position) n before after r
+        → Answered count row (verdict_result v) before after r
+    unfolding refusal_of position_of
+    reported_refused e n case is =
+        stored_reported (verdict_result v) n e.position (is ∙ sym (ap (λ w. refusal_of (verdict_result w)) case)) (sym (ap (λ w. position_of (verdict_result w)) case))

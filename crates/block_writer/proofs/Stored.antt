@@ -8,7 +8,7 @@ use native.Mathlib.Nat.{add-mul-div_left, add-mul-mod_self_left, zero-add, add-z
 use native.Mathlib.Numerals.{add-one}
 use native.Mathlib.Decide.{dec_le}
 use native.Mathlib.Omega.{arith}
-use lib.ListN.{length, take, drop, replicate, length-append, length-drop, length-replicate, drop_of_length-le, replicate-append-replicate}
+use lib.ListN.{length, take, drop, replicate, length-append, length-drop, length-take, length-replicate, drop_of_length-le, replicate-append-replicate}
 use lib.Seq.{length-take-le, take_all, drop_at, drop-drop, take-append_seam}
 use Rattle.formats.specs.Numbers.{bytes_of}
 use Rattle.formats.specs.Written.{written}
@@ -60,8 +60,8 @@ drop_blank n m h =
     ∙ drop_at (blank n) (blank (m - n)) n (length_blank n)
 
 -- a part written over zeros is followed by zeros
-records_written : (t part : List ℕ) → length part ≤ records_bytes → t ≡ written (blank block_bytes) 0 part → t ≡ written (blank block_bytes) 0 (padded part)
-records_written t part short first =
+over_zeros : (t part : List ℕ) → length part ≤ records_bytes → t ≡ written (blank block_bytes) 0 part → t ≡ written (blank block_bytes) 0 (padded part)
+over_zeros t part short first =
     let S : List ℕ = blank block_bytes in
     let size : length S ≡ block_bytes = length_blank block_bytes in
     let rest : ℕ = records_bytes - length part in
@@ -79,6 +79,20 @@ records_written t part short first =
     ∙ sym (append_assoc part (blank rest) (blank (block_bytes - records_bytes)))
     ∙ ap (λ (l : List ℕ). padded part ++ l) (sym end)
     ∙ sym (written_fits S 0 (padded part) (omega arith))
+
+-- .. and so is one after which zeros are written, in any buffer
+pub records_written : (s t u part : List ℕ) (start : ℕ)
+    → start + block_bytes ≤ length s
+    → length part ≤ records_bytes
+    → t ≡ written s start part
+    → u ≡ written t (start + length part) (take (records_bytes - length part) (drop (length part) (blank records_bytes)))
+    → u ≡ written s start (padded part)
+records_written s t u part start room short first second =
+    let n : ℕ = records_bytes - length part in
+    let left : take n (drop (length part) (blank records_bytes)) ≡ blank n =
+    ap (take n) (drop_blank (length part) records_bytes short) ∙ take_all n (blank n) (omega (arith, length_blank n)) in
+    let zeros : u ≡ written t (start + length part) (blank n) = second ∙ ap (written t (start + length part)) left in
+    write_later s t u start (start + length part) part (blank n) first zeros refl (omega (arith, length_padded part short))
 
 pub body_written : (s s1 s2 s3 s4 part : List ℕ) (start j blocks : ℕ)
     → start + block_bytes ≤ length s
@@ -162,7 +176,7 @@ block_made s1 s2 s3 s4 s5 part j blocks sum short w1 w2 w3 w4 added w5 =
     let S : List ℕ = blank block_bytes in
     let size : length S ≡ block_bytes = length_blank block_bytes in
     let room : 0 + block_bytes ≤ length S = omega arith in
-    let body = body_written S s1 s2 s3 s4 part 0 j blocks room short (records_written s1 part short w1) w2 w3 w4 in
+    let body = body_written S s1 s2 s3 s4 part 0 j blocks room short (over_zeros s1 part short w1) w2 w3 w4 in
     let all : length (block_of part j blocks) ≡ block_bytes = length_block part j blocks short in
     check_written S s4 s5 part 0 j blocks sum room short body added w5
     ∙ written_fits S 0 (block_of part j blocks) (omega arith)
@@ -192,11 +206,22 @@ pub record Stored (s before after : List ℕ) (blocks j : ℕ) : Type 0 where
   pub same_length : length after ≡ length before
   pub so_far : after ≡ written before 0 (blocks_from blocks j 0 s)
 
-stored_none : (s before : List ℕ) (blocks : ℕ) → Stored s before before blocks 0
+pub stored_none : (s before : List ℕ) (blocks : ℕ) → Stored s before before blocks 0
 unfolding blocks_from
 stored_none s before blocks = record { few = omega arith; same_length = refl; so_far = sym (written_none before 0) }
 
-stored_more : (s before after next part made : List ℕ) (blocks j : ℕ)
+pub stored_part : (s : List ℕ) (blocks j : ℕ) → blocks ≡ blocks_for (length s) → j < blocks → records_bytes * j ≤ length s
+unfolding blocks_for
+stored_part s blocks j count more = omega arith
+
+pub stored_room : (s before after : List ℕ) (blocks j : ℕ) → block_bytes * blocks ≤ length before → j < blocks → Stored s before after blocks j
+    → block_bytes * j + block_bytes ≤ length after
+stored_room s before after blocks j room more c = omega (arith, c.same_length)
+
+pub stored_short : (s part : List ℕ) (j : ℕ) → part ≡ take records_bytes (drop (records_bytes * j) s) → length part ≤ records_bytes
+stored_short s part j is = rw (is, length-take) (omega arith)
+
+pub stored_more : (s before after next part made : List ℕ) (blocks j : ℕ)
     → block_bytes * blocks ≤ length before
     → j < blocks
     → Stored s before after blocks j
@@ -220,10 +245,10 @@ stored_more s before after next part made blocks j room more c is makes second =
           ∙ ap (written before 0) (sym both));
     }
 
-stored_length : (s before after : List ℕ) (blocks j : ℕ) → Stored s before after blocks j → length after ≡ length before
+pub stored_length : (s before after : List ℕ) (blocks j : ℕ) → Stored s before after blocks j → length after ≡ length before
 stored_length s before after blocks j c = c.same_length
 
-stored_all : (s before after : List ℕ) (blocks j : ℕ) → blocks ≡ blocks_for (length s) → blocks ≤ j → Stored s before after blocks j → after ≡ written before 0 (file_of s)
+pub stored_all : (s before after : List ℕ) (blocks j : ℕ) → blocks ≡ blocks_for (length s) → blocks ≤ j → Stored s before after blocks j → after ≡ written before 0 (file_of s)
 unfolding file_of
 stored_all s before after blocks j count all c =
     let done_all : j ≡ blocks = omega (arith, c.few) in

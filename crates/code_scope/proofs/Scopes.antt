@@ -50,6 +50,17 @@ word_read c n a w counted is = elim (dec_le n a) [
       is ∙ here ∙ sym (rw (some_there c.words (min c.names most_names) a (omega arith), word_of))
 ]
 
+module _ (c : Scope) (n a : ℕ) (counted : n ≡ min c.names most_names) where
+  pub word_none : n ≤ a → 0 ≡ word_of (words_in c) a
+  unfolding word_of words_in
+  word_none over = sym (rw (none_there c.words (min c.names most_names) a (omega arith), word_of))
+
+  pub word_found : a < n → get_or c.words a 0 ≡ word_of (words_in c) a
+  unfolding word_of words_in
+  word_found below = sym (rw (some_there c.words (min c.names most_names) a (omega arith), word_of))
+
+pub ruleset words_found = (word_none, word_found)
+
 -- ---- `under_number`
 
 module _ (c : Scope) (n : ℕ) (counted : n ≡ min c.names most_names) where

@@ -1,13 +1,13 @@
 -- The row "functions": a law for each way out of its functions.
-use Prim.Native.Nat.{ℕ, zero, suc, ◌+◌, ◌*◌, ◌≤◌, ◌<◌, ◌^◌}
-use mathlib.Core.Bool.{Bool, true, false, not, ◌&&◌}
+use Prim.Native.Nat.{ℕ, zero, suc, ◌+◌, ◌-◌, ◌*◌, ◌≤◌, ◌<◌, ◌^◌}
+use mathlib.Core.Bool.{Bool, true, false, not, ◌&&◌, and-false}
 use mathlib.Core.List.{List}
 use mathlib.Core.Logic.{◌≢◌}
 use mathlib.Core.Path.{◌≡◌, refl, sym, ap, ap₂, ◌∙◌}
-use native.Mathlib.Nat.{add-zero, zero-add, sub-zero}
+use native.Mathlib.Nat.{add_assoc, add-zero, zero-add, sub-zero}
 use native.Mathlib.Numerals.{add-one}
 use native.Mathlib.Omega.{arith}
-use borrow.Author.Tests.{leb-true, leb-false, not-true, not-false, eq-eqb, ne_eqb}
+use borrow.Author.Tests.{leb-true, leb-false, not-true, not-false, le-leb, lt-leb, eq-eqb, ne_eqb}
 use lib.Dec.{leb, eqb}
 use Rattle.formats.specs.Numbers.{number_at}
 use Rattle.formats.specs.Refusals.{function_field}
@@ -97,6 +97,40 @@ module _ (s : List ℕ) (j : ℕ) where
       by_sort true h = own fits (simp (e, h) (right_sort _ j (sort_in s j) _ _ _ (leb-true _ _ h)))
       by_sort false h = own fits (simp (e, h) (wrong_sort_from _ j (sort_in s j) _ _ _ (leb-false _ _ h)))
 
+  -- what its fields say, one test after the other
+  module _ (x : ℕ) (ex : x ≡ sort_in s j) where
+    pub wrong_sort : 1 < x → Says false
+    wrong_sort h = wrong_sort_from _ j x _ _ _ h ∙ sym (ap verdict (function_is x _ _ _ ex refl refl refl))
+
+    module _ (a : ℕ) (ea : a ≡ arity_in s j) (right : x ≤ 1) where
+      -- where the sort is right, the other fields decide
+      others_decide :
+          (n i : ℕ) (test : Bool)
+          → n ≡ count_in s j
+          → i ≡ number_at 4 s (record_bytes * (1 + j) + 4)
+          → (leb a (most_parameters j) && (leb 1 n && eqb i 0)) ≡ test
+          → Says test
+      others_decide n i test en ei e =
+          ap (λ t. value_if t function_field (suc j) tt) (sym e) ∙ right_sort _ j x a n i right ∙ sym (ap verdict (function_is x a n i ex ea en ei))
+
+      pub many_parameters : (most : ℕ) → most ≡ most_parameters j → most < a → Says false
+      many_parameters most em h = others_decide _ _ false refl refl (simp (← em, lt-leb _ _ h))
+
+      module _ (n : ℕ) (en : n ≡ count_in s j) where
+        pub no_count : n ≡ 0 → Says false
+        no_count z = others_decide n _ false en refl (simp (lt-leb 1 n (omega arith), and-false))
+
+        pub rest_decides :
+            (i most : ℕ)
+            → i ≡ number_at 4 s (record_bytes * (1 + j) + 4)
+            → most ≡ most_parameters j
+            → a ≤ most
+            → n ≢ 0
+            → Says (eqb i 0)
+        rest_decides i most ei em few h = others_decide n i (eqb i 0) en ei (simp (← em, le-leb _ _ few, le-leb 1 n (omega arith)))
+
+pub ruleset function_fields = (wrong_sort, many_parameters, no_count, rest_decides)
+
 -- ---- `count_sum`
 
 -- the counts from function j on, added one after the other
@@ -123,6 +157,42 @@ counts_small s (suc n) j bytes = omega (arith, count_small s j bytes, counts_sma
 
 pub counts_fit : (s : List ℕ) (n : ℕ) → Bytes s → n < 2 ^ 16 → sum_by (count_in s) (range_with_len 0 n) < 2 ^ 64
 counts_fit s n bytes few = rw (counts_are s n) (omega (arith, counts_small s n 0 bytes))
+
+-- the counts summed one by one: of the first j functions, which the others make whole
+pub record Summed (s : List ℕ) (functions sum j : ℕ) : Type 0 where
+  pub small : sum ≤ 65535 * j
+  pub left : counts_from functions s 0 ≡ sum + counts_from (functions - j) s j
+
+pub sum_none : (s : List ℕ) (functions : ℕ) → Summed s functions 0 0
+sum_none s functions = record { small = omega arith; left = simp (zero-add, sub-zero) }
+
+pub sum_more :
+    (s : List ℕ) (functions sum j n : ℕ)
+    → j < functions
+    → Summed s functions sum j
+    → n ≡ count_in s j
+    → n < 65536
+    → Summed s functions (sum + n) (j + 1)
+unfolding counts_from
+sum_more s functions sum j n more c e small =
+    let next : functions - j ≡ suc (functions - (j + 1)) = omega arith in
+    record {
+      small = omega (arith, c.small);
+      left =
+          c.left
+          ∙ ap (λ m. sum + counts_from m s j) next
+          ∙ ap (λ m. sum + (m + counts_from (functions - (j + 1)) s (suc j))) (sym e)
+          ∙ sym (add_assoc sum n _)
+          ∙ ap (λ m. sum + n + counts_from (functions - (j + 1)) s m) (sym (add-one j));
+    }
+
+pub sum_all : (s : List ℕ) (functions sum j : ℕ) → functions ≤ j → Summed s functions sum j → sum ≡ counts_from functions s 0
+unfolding counts_from
+sum_all s functions sum j all c =
+    let none : functions - j ≡ 0 = omega arith in
+    sym (c.left ∙ ap (λ m. sum + counts_from m s j) none ∙ add-zero sum)
+
+pub ruleset summed = (sum_none, sum_more, sum_all)
 
 -- ---- `function_fields`
 

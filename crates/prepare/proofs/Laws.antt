@@ -1,7 +1,10 @@
 -- A law for each way through what comes before a run.
-use Prim.Native.Nat.{ℕ, ◌≤◌}
+use Prim.Native.Nat.{ℕ, ◌≤◌, ◌<◌}
+use mathlib.Core.Bool.{◌&&◌, and-false}
 use mathlib.Core.List.{List}
 use mathlib.Core.Path.{◌≡◌, sym, ap, ◌∙◌}
+use borrow.Author.Tests.{lt-leb}
+use lib.Dec.{leb}
 use lib.ListN.{length}
 use Rattle.formats.proofs.Results.{by_result}
 use Rattle.refusal.specs.Inner.Numbers.{number}
@@ -14,6 +17,7 @@ use Rattle.std.specs.Result.{IsErrAnd}
 use Rattle.refusal.specs.declared.Refusal.TheVariants.{SpaceTooShort}
 use Rattle.refusal.specs.declared.Refused.{Refused}
 use Rattle.rules.specs.PassTwo.{check_file}
+use Rattle.meaning.specs.Running.{value_words, return_words}
 use Rattle.translation.specs.TranslateAndRun.{prepared, translate_file}
 use Rattle.translation.proofs.Calls.{not_translated, prepared_refused, prepared_short, prepared_code}
 use Rattle.prepare.specs.Inner.Words.{TooFewWords}
@@ -39,7 +43,16 @@ pub ruleset words_ways = (words_refused, words_short)
 -- ---- `prepare`
 
 module _ (file code : List ℕ) (values returns : ℕ) (r : Answer ℕ Refused) where
+  pub values_missing : values < 16384 → TooFewWords file r → FilledBuffer (prepared (length code) values returns file) code code r
+  values_missing missing few = few.is code values returns (rw (lt-leb value_words values missing))
+
+  pub returns_missing : returns < 2048 → TooFewWords file r → FilledBuffer (prepared (length code) values returns file) code code r
+  returns_missing missing few =
+      few.is code values returns (ap (λ b. leb value_words values && b) (lt-leb return_words returns missing) ∙ and-false (leb value_words values))
+
   pub words_lent : (after : List ℕ) → 16384 ≤ values → 2048 ≤ returns → FilledBuffer (translate_file (length code) file) code after r → FilledBuffer (prepared (length code) values returns file) code after r
   words_lent after hv hp put = by_result (translate_file (length code) file)
       (λ bytes e. rw (prepared_code (length code) values returns file bytes e hv hp, ← e) put)
       (λ n q e. rw (prepared_refused (length code) values returns file n q e, ← e) put)
+
+pub ruleset prepare_ways = (values_missing, returns_missing, words_lent)

@@ -1,7 +1,7 @@
 -- A law for each way out of the functions over node records. A record read is that of its kind
 -- number: its fields that the kind does not use pass their test exactly where the record is the one
 -- that its kind has.
-use Prim.Native.Nat.{ℕ, zero, suc, ◌+◌, ◌*◌, ◌≤◌, ◌<◌, min}
+use Prim.Native.Nat.{ℕ, zero, suc, ◌+◌, ◌*◌, ◌/◌, ◌≤◌, ◌<◌, min}
 use mathlib.Core.Bool.{Bool, true, false, ◌&&◌, and-true, and_comm}
 use mathlib.Core.List.{List, [], ◌∷◌}
 use mathlib.Core.Logic.{◌≢◌}
@@ -9,12 +9,12 @@ use mathlib.Core.Option.{some}
 use mathlib.Core.Path.{◌≡◌, refl, sym, ap, ap₂, ◌∙◌}
 use native.Mathlib.Nat.{le_refl}
 use native.Mathlib.Omega.{arith}
-use borrow.Author.Tests.{ltb-true, ltb-false, eq-eqb}
+use borrow.Author.Tests.{lt-ltb, le-ltb, ltb-true, ltb-false, eq-eqb, ne_eqb}
 use lib.Dec.{eqb, ltb, eqb-zero-suc, eqb-suc-zero}
 use lib.ListN.{length, get_or, get_or-eq_default}
 use Rattle.formats.specs.Numbers.{number_at}
 use Rattle.formats.specs.Refusals.{node_field}
-use Rattle.formats.specs.Results.{value_if, on_value}
+use Rattle.formats.specs.Results.{done, refusal, value_if, on_value}
 use Rattle.formats.specs.Records.{Kind, Parts, fields, record_bytes, record_at, kinds, kind_of, nth, same_fields, function_below, fields_of, node_record, parts_of}
 use Rattle.formats.specs.Records.{a_number, a_tree, as_whole, under_number, under_trees, these, arguments_of, Const, Var, Add, IfZero, Let, Leaf, Node, Case, Call}
 use Rattle.formats.specs.Inner.CodeColumn.{template_of}
@@ -31,7 +31,7 @@ use Rattle.records.specs.declared.Template.{Template}
 use Rattle.refusal.specs.declared.Refused.{Refused}
 use Rattle.std.specs.Prelude.{Result as Answer, Err}
 use Rattle.records.specs.declared.Described.{Described}
-use Rattle.records.specs.Inner.Read.{OfKind, StandsAt, column_of, described, shape_of}
+use Rattle.records.specs.Inner.Read.{OfKind, StandsAt, Shape, column_of, described, shape_of}
 
 -- ---- templates
 
@@ -161,6 +161,18 @@ pub ruleset arms =
 
 -- ---- the other functions
 
+pub row_zero : (sum position : ℕ) (x : Shape) → sum ≡ 0 → done x ≡ value_if (eqb sum 0) node_field position x
+row_zero sum position x h = rw (eq-eqb _ _ h)
+
+pub row_other : (sum position : ℕ) (x : Shape) → sum ≢ 0 → refusal node_field position ≡ value_if (eqb sum 0) node_field position x
+row_other sum position x h = rw (ne_eqb _ _ h)
+
+pub call_below : (b i functions : ℕ) → b < functions → eqb i 0 ≡ (ltb b functions && eqb i 0)
+call_below b i functions h = rw (lt-ltb _ _ h)
+
+pub call_above : (b i functions : ℕ) → functions ≤ b → eqb 1 0 ≡ (ltb b functions && eqb i 0)
+call_above b i functions h = rw (le-ltb _ _ h)
+
 -- past the end all fields read as 0, at every offset
 past_end : (s : List ℕ) (k : ℕ) → length s < record_bytes * k → StandsAt s k (length s)
 past_end s k past = record {
@@ -173,6 +185,12 @@ past_end s k past = record {
 
 there : (s : List ℕ) (k : ℕ) → record_bytes * k ≤ length s → StandsAt s k (record_bytes * k)
 there s k within = record { within = within; byte_0 = refl; byte_1 = refl; bytes_2 = refl; bytes_4 = refl }
+
+pub stands_past : (s : List ℕ) (k : ℕ) → length s / record_bytes < k → StandsAt s k (length s)
+stands_past s k h = past_end s k (omega arith)
+
+pub stands_there : (s : List ℕ) (k : ℕ) → k ≤ length s / record_bytes → StandsAt s k (record_bytes * k)
+stands_there s k h = there s k (omega arith)
 
 -- the lesser of both, where a product that is too large is the largest number
 pub stands :

@@ -204,4 +204,7 @@ module _ (width : ℕ) (s marks : List ℕ) (above above_next deepest at : ℕ) 
               ∙ leaf_done;
         })
 
+  pub mark_small : above_next ≢ 0 → get_or marks (above_next - 1) 0 < most_depth
+  mark_small some = let n = one_comes w.marked some in omega (arith, n.low, w.inside, w.shallow)
+
 pub ruleset walks = (walk_node, walk_leaf, walk_past, walk_deep, walk_other, walk_cut, walk_ends)

@@ -3,9 +3,9 @@ use Prim.Native.Nat.{ℕ, zero, suc}
 use mathlib.Core.Bool.{Bool, true, false, not, beq, false≢true}
 use mathlib.Core.List.{List}
 use mathlib.Core.Logic.{◌⊎◌, inl, inr}
-use mathlib.Core.Path.{◌≡◌, refl, sym, ap, ◌∙◌}
+use mathlib.Core.Path.{◌≡◌, refl, sym, ap, subst, ◌∙◌}
 use native.Mathlib.Omega.{arith}
-use borrow.Author.Tests.{ltb-true, ne_eqb, not-true, not-false}
+use borrow.Author.Tests.{ltb-true, eq-eqb, ne_eqb, not-true, not-false}
 use lib.Dec.{ltb, eqb}
 use Rattle.formats.specs.Refusals.{wrong_type, not_bound, too_many_words}
 use Rattle.formats.specs.Results.{Result, and_then}
@@ -74,6 +74,14 @@ tree_expected true = refl
 tree_expected false = refl
 
 -- the sort's number decides which type the function's value has
+as_tree : (tree : Bool) → beq tree true ≡ tree
+as_tree true = refl
+as_tree false = refl
+
+as_number : (tree : Bool) → beq tree false ≡ not tree
+as_number true = refl
+as_number false = refl
+
 sort_fits : (sort : Sort) (n : ℕ) (tree : Bool) → sort_number sort ≡ n → beq tree (eqb n 1) ≡ has_type sort (expected tree)
 unfolding sort_number has_type is_int is_output_tree
 sort_fits number_valued n true e = rw (← e)
@@ -130,6 +138,14 @@ module _ (s : List ℕ) (c : Scope) (node : Record) where
         ∙ sort_fits g.signature.sort (sort_in s v.b) c.tree g.its_fields.sort
         ∙ sym (ap (λ n. type_fits gs (scope_of c) (meant n)) case ∙ rw (g.there, type_fits));
   }
+
+  module _ (v : Called) (n : ℕ) (case : node ≡ Call v) (is : n ≡ sort_in s v.b) where
+    pub typed_tree_call : n ≡ 1 → Typed s c node c.tree
+    typed_tree_call one = subst (Typed s c node) (as_tree c.tree) (typed_call v true case (sym (eq-eqb (sort_in s v.b) 1 (sym is ∙ one))))
+
+    pub typed_number_call : (n ≡ 1 → ⊥) → Typed s c node (not c.tree)
+    typed_number_call other =
+        subst (Typed s c node) (as_number c.tree) (typed_call v false case (sym (ne_eqb (sort_in s v.b) 1 (λ one. other (is ∙ one)))))
 
 pub typed_other : (s : List ℕ) (c : Scope) (node : Record) → ((x : Constant) → node ≡ Const x → ⊥) → ((x : NumberName) → node ≡ Var x → ⊥) → (node ≡ Add → ⊥) → (node ≡ Leaf → ⊥) → (node ≡ Node → ⊥) → ((x : Called) → node ≡ Call x → ⊥) → Typed s c node true
 unfolding type_fits
@@ -223,6 +239,24 @@ pub roomy_other : (s : List ℕ) (c : Scope) (node : Record) → ((x : Constant)
 roomy_other s c node no_const no_var no_case no_call = roomy_untested s c node false (tested_other s node no_const no_var no_case no_call) refl
 
 pub ruleset roomy = (roomy_untested, roomy_tested)
+
+-- kind by kind
+module _ (s : List ℕ) (c : Scope) (node : Record) where
+  pub roomy_const : (i : Constant) → node ≡ Const i → Roomy s c node (ltb c.words most_frame_words)
+  roomy_const i case = roomy_tested s c node true (tested_kinds s node (inl (i, case))) refl
+
+  pub roomy_var : (v : NumberName) → node ≡ Var v → Roomy s c node (ltb c.words most_frame_words)
+  roomy_var v case = roomy_tested s c node true (tested_kinds s node (inr (inl (v, case)))) refl
+
+  pub roomy_case : (v : TreeName) → node ≡ Case v → Roomy s c node (ltb c.words most_frame_words)
+  roomy_case v case = roomy_tested s c node true (tested_kinds s node (inr (inr (v, case)))) refl
+
+  module _ (v : Called) (r : Bool) (case : node ≡ Call v) (reported : Bare s v.b r) where
+    pub roomy_bare_call : r ≡ true → Roomy s c node (ltb c.words most_frame_words)
+    roomy_bare_call e = roomy_tested s c node r (tested_call s node v r case reported) (ap not e)
+
+    pub roomy_call : r ≡ false → Roomy s c node true
+    roomy_call e = subst (Roomy s c node) (ap not e) (roomy_untested s c node r (tested_call s node v r case reported) (ap not e))
 
 -- ---- `tests`
 

@@ -117,7 +117,7 @@ module _ (s : List ℕ) (k end : ℕ) (c : Scope) where
 -- ---- the parts
 
 module _ (s : List ℕ) (parts : Parts) (i count k end : ℕ) (c : Scope) where
-  parts_none : count ≤ i → k ≤ end → EnteredParts s parts i count k end c (Ok k)
+  pub parts_none : count ≤ i → k ≤ end → EnteredParts s parts i count k end c (Ok k)
   unfolding pass_parts
   parts_none none upto = record {
     went = λ next e. let same : k ≡ next = cc in record { on = omega arith; inside = omega arith };
@@ -155,7 +155,7 @@ module _ (s : List ℕ) (parts : Parts) (i count k end : ℕ) (c : Scope) where
           split = ap (pass_parts h.signed kind i (scope_of c)) f.both;
         }
 
-    parts_refused : (r : Refused) → walked ≡ Err r → EnteredParts s parts i count k end c (Err r)
+    pub parts_refused : (r : Refused) → walked ≡ Err r → EnteredParts s parts i count k end c (Err r)
     parts_refused r case = record {
       went = λ next e. stopped e;
       is = λ kind ps m h from.
@@ -163,7 +163,7 @@ module _ (s : List ℕ) (parts : Parts) (i count k end : ℕ) (c : Scope) where
           sym (ap (on_value (λ u. m)) (t.split ∙ then_refused _ (value_refused (λ u. k + size t.first.expr) t.over (number r.why) r.position (sym t.here ∙ ap reported case))));
     }
 
-    parts_more : (next : ℕ) (r : Answer ℕ Refused) → walked ≡ Ok next → EnteredParts s parts (i + 1) count next end c r → EnteredParts s parts i count k end c r
+    pub parts_more : (next : ℕ) (r : Answer ℕ Refused) → walked ≡ Ok next → EnteredParts s parts (i + 1) count next end c r → EnteredParts s parts i count k end c r
     parts_more next r case others = record {
       went = λ last e.
           let rest = others.went last e in
@@ -177,7 +177,7 @@ module _ (s : List ℕ) (parts : Parts) (i count k end : ℕ) (c : Scope) where
           ∙ ap (on_value (λ u. m)) (ap (λ j. pass_parts h.signed kind j (scope_of c) f.others) (add-one i) ∙ sym (t.split ∙ then_done _ v.first));
     }
 
-    again : (next : ℕ) → walked ≡ Ok next → FitsParts i k end (scope_of c) → FitsParts (i + 1) next end (scope_of c)
+    pub again : (next : ℕ) → walked ≡ Ok next → FitsParts i k end (scope_of c) → FitsParts (i + 1) next end (scope_of c)
     again next case fits =
         let o = w.went next case in
         record {

@@ -28,7 +28,7 @@ use Rattle.records.specs.declared.TreeName.{TreeName}
 use Rattle.records.specs.declared.Called.{Called}
 use Rattle.rules.specs.PassTwo.{walk, none_left}
 use Rattle.walks.specs.Inner.Standing.{Known, head_of, Row, walk_parts, end as no_part, next as a_part}
-use Rattle.walks.specs.Inner.Walks.{Here, HereRow}
+use Rattle.walks.specs.Inner.Walks.{Inside, Here, HereRow}
 use Rattle.walks.proofs.Walks.{node_held, parts_counted}
 use Rattle.walks.proofs.Here.{parts_here, first_here, rest_here}
 use Rattle.walks.proofs.Lists.{walk_call, Plain, walk-parts, Shaped, shaped as shaped_of, plain, an_if, a-case, a-call}
@@ -36,7 +36,7 @@ use Rattle.pending.specs.Inner.List.{list_of, Took}
 use Rattle.pending.specs.declared.Pending.{Pending}
 use Rattle.pending.proofs.Laws.{counted_list, by_head, not_taken, is_taken}
 use Rattle.pass_two.specs.declared.Checked.{Checked}
-use Rattle.pass_two.specs.Inner.Walk.{Small, Reports, Ordered, OrderedCall, OrderedCase, OrderedIf, OrderedList, OrderedFunction}
+use Rattle.pass_two.specs.Inner.Walk.{Small, Reports, WentOn, Ordered, OrderedCall, OrderedCase, OrderedIf, OrderedList, OrderedFunction}
 use Rattle.pass_two.proofs.Answers.{is_there, is_absent, its_refusal, came, follows, stays, refuses, passes, stopped}
 
 -- ---- `order_list`
@@ -54,7 +54,7 @@ split {s} {last} {k} h = by h.row h.known h.fits
     by (a_part e more) known fits = some (record { signed = _; known = known; row = a_part e more; fits = fits })
 
 module _ (s : List ℕ) (count k last n : ℕ) (p : Pending) where
-  list_done : Small k last n → count ≡ 0 → OrderedList s count k last n p (Ok (record { pending = p; next = k }))
+  pub list_done : Small k last n → count ≡ 0 → OrderedList s count k last n p (Ok (record { pending = p; next = k }))
   unfolding walk_parts
   list_done small none-left = record {
     went_on = record { went = λ c e. let same : k ≡ c.next = cc in record { on = omega arith; inside = omega (arith, small.inside.before_end) } };
@@ -67,7 +67,7 @@ module _ (s : List ℕ) (count k last n : ℕ) (p : Pending) where
       reported (some h) e = absurd (omega arith)
 
   module _ (first' : Answer Checked Refused) (of : Ordered s k last n p first') (more : 0 < count) where
-    list_stops : (x : Refused) → first' ≡ Err x → OrderedList s count k last n p (Err x)
+    pub list_stops : (x : Refused) → first' ≡ Err x → OrderedList s count k last n p (Err x)
     unfolding walk_parts
     list_stops x refused = record { went_on = stopped k last x; reports = λ ps m h e. reported (split h) e }
       where
@@ -75,7 +75,7 @@ module _ (s : List ℕ) (count k last n : ℕ) (p : Pending) where
         reported none e = absurd (omega arith)
         reported (some h) e = stays _ _ (of.reports _ (first_here h)) refused
 
-    list_more : (first : Checked) (r : Answer Checked Refused) → first' ≡ Ok first → OrderedList s (count - 1) first.next last n first.pending r → OrderedList s count k last n p r
+    pub list_more : (first : Checked) (r : Answer Checked Refused) → first' ≡ Ok first → OrderedList s (count - 1) first.next last n first.pending r → OrderedList s count k last n p r
     unfolding walk_parts
     list_more first r passed o = record {
       went_on = record {
@@ -263,3 +263,28 @@ module _ (s : List ℕ) (k last : ℕ) (start : Pending) (alone : list_of start 
     }
 
 pub ruleset functions = (function_stops, function_left, function_none)
+
+-- ---- what the calls ask: names stay few, and the records left fall
+
+module _ (k last : ℕ) (c' : Answer Checked Refused) (went_on : WentOn (suc k) last c') (c : Checked) (passed : c' ≡ Ok c) where
+  on_inside : (n : ℕ) → Small k last n → Inside c.next last
+  on_inside n small = record { before_end = (went_on.went c passed).inside; few = small.inside.few }
+
+  pub few_on : (n : ℕ) → Small k last n → Small c.next last n
+  few_on n small = record { inside = on_inside n small; trees = omega (arith, small.trees, (went_on.went c passed).on) }
+
+  pub few_inside : (n : ℕ) → Small k last n → Small c.next last (n + 2)
+  few_inside n small = record { inside = on_inside n small; trees = omega (arith, small.trees, (went_on.went c passed).on, (went_on.went c passed).inside) }
+
+  pub fall_list : (t : ℕ) → 3 * (last - k) + 2 ≡ t → 3 * (last - c.next) + 2 < t
+  fall_list t h = omega (arith, (went_on.went c passed).on, (went_on.went c passed).inside)
+
+module _ (t k last : ℕ) (is : 3 * (last - k) ≡ t) (c' : Answer Checked Refused) (went_on : WentOn (suc (k + 1)) last c') (c : Checked) (passed : c' ≡ Ok c) where
+  pub fall_second : 3 * (last - c.next) + 1 < t
+  fall_second = omega (arith, (went_on.went c passed).on, (went_on.went c passed).inside)
+
+  pub fall_third : (d' : Answer Checked Refused) → WentOn (suc c.next) last d' → (d : Checked) → d' ≡ Ok d → 3 * (last - d.next) + 1 < t
+  fall_third d' further d passed' =
+      omega (arith, (went_on.went c passed).on, (further.went d passed').on, (further.went d passed').inside)
+
+pub ruleset asked = (few_on, few_inside, fall_list, fall_second, fall_third)

@@ -7,6 +7,7 @@ use lib.ListN.{length, take}
 use Rattle.formats.specs.Records.{record_bytes}
 use Rattle.formats.specs.Results.{done, verdict, refusal}
 use Rattle.formats.specs.Blocks.{flat_in, in_room}
+use Rattle.formats.specs.Programs.{Program}
 use Rattle.formats.specs.Inner.Blocks.{most_bytes}
 use Rattle.formats.proofs.Results.{Value, passed_is, refused_is, then_done, then_refused}
 use Rattle.formats.proofs.Files.{within_room, within_short}
@@ -24,7 +25,7 @@ use Rattle.translation.specs.Templates.{operations_of, code_of}
 use Rattle.translation.specs.TranslateAndRun.{checked_records, translate_records, translate_file}
 use Rattle.translation.proofs.Calls.{as_checked}
 use Rattle.translate.specs.declared.Table.{Table}
-use Rattle.translate.specs.Inner.Walk.{EmitsAll}
+use Rattle.translate.specs.Inner.Walk.{HasEntries, EmitsAll}
 use Rattle.translate.proofs.Written.{length_bytes}
 
 -- ---- `translate_records`
@@ -55,6 +56,10 @@ module _ (s code' : List ℕ) (checks : Answer (Unit {0}) Refused) (reported : v
 
       pub records_short : length code' < record_bytes * t.instructions → (r : Refused) → r ≡ record { why = SpaceTooShort; position = 0 } → FilledBuffer (translate_records (length code') s) code' code' (Err r)
       records_short short r is = put_refused _ code' r (into ∙ within_short (length code') _ (omega (arith, long)) ∙ ap (λ (x : Refused). refusal (number x.why) x.position) (sym is))
+
+      pub records_ready : record_bytes * t.instructions ≤ length code' → (program : Program) → checked_records s ≡ done program
+          → HasEntries t.entries program × (record_bytes * length (operations_of program) ≤ length code')
+      records_ready room program e = (measured.entries_found program e, omega (arith, measured.counted program e))
 
       pub records_emitted : (after : List ℕ) (again : Table) → record_bytes * t.instructions ≤ length code' → EmitsAll s t.entries code' after again
           → FilledBuffer (translate_records (length code') s) code' after (Ok (record_bytes * t.instructions))

@@ -160,3 +160,7 @@ module _ (s entries code' : List ℕ) (entry j k end : ℕ) (c : Scope) (starts 
       }
 
 pub ruleset function_ways = (function_stuck, function_sum, function_emitted)
+
+-- what its body asks
+pub body_asked : (k end entry : ℕ) → Small k end entry 0 1 → Small k end entry 0 0
+body_asked k end entry small = record { inside = small.inside; base_small = small.base_small; small = omega (arith, small.small) }

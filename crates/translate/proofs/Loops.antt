@@ -163,6 +163,29 @@ module _ (s entries : List ℕ) (functions end : ℕ) (code₀ code : List ℕ) 
       all : (program : Program) (e : checked_records s ≡ done program) → (l.standing program e).before ≡ program.functions
       all program e = none-left s end program _ k j (l.standing program e).left (omega (arith, l.counts.functions_are program e))
 
+  -- with the program's entries, and where its code has room
+  module _ (program : Program) (e : checked_records s ≡ done program) (has : HasEntries entries program) (fits : record_bytes * length (operations_of program) ≤ length code₀) where
+    -- the buffer keeps its length
+    pub all_length : length code ≡ length code₀
+    all_length = ap length (l.emitted program e has fits) ∙ length_emitted code₀ 0 _
+
+    -- the code before function j has room, and so has what follows
+    pub all_room : (entry : ℕ) → entry ≡ entries_in entries j → j < functions → record_bytes * entry ≤ length code
+    unfolding operations_of
+    all_room entry is more =
+        let st = l.standing program e in
+        let begins : entry ≡ beyond_all st.before 0 =
+        is ∙ has j (omega (arith, l.counts.functions_are program e)) ∙ entry_here s end program _ k j st.left in
+        omega (
+          arith,
+          fits,
+          length_all (entry_of program) 0 program.functions,
+          ap (λ gs. beyond_all gs 0) st.left.split,
+          beyond_front st.before st.left.others 0,
+          begins,
+          all_length,
+        )
+
   module _ (more : j < functions) where
     pub all_index : (place : ℕ) → place ≡ j → place < most_functions
     all_index place is = omega (arith, l.counts.few)

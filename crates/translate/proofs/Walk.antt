@@ -37,7 +37,7 @@ use Rattle.template.proofs.Items.{few_items}
 use Rattle.translate.specs.declared.Emitted.{Emitted}
 use Rattle.translate.specs.declared.Shape.{Shape}
 use Rattle.translate.specs.Inner.Emitting.{emitted_at, past, parts_code, last_part, beyond_parts}
-use Rattle.translate.specs.Inner.Walk.{Small, SmallParts, SmallAddresses, Entering, Came, EmittedHere, Emits, EnteringParts, CameParts, EmittedParts, EmitsParts}
+use Rattle.translate.specs.Inner.Walk.{due_from, Small, SmallParts, SmallAddresses, WentOn, Entering, Came, EmittedHere, Emits, EnteringParts, CameParts, EmittedParts, EmitsParts}
 use Rattle.translate.proofs.Written.{length_emitted, emitted_beyond, emitted_front, emitted_each}
 use Rattle.translate.proofs.Column.{past_length, length_parts, by_column, beyond_column}
 use Rattle.translate.proofs.Entering.{own_parts, own_template, own_count, parts_entered, around_part, first_entered, rest_entered}
@@ -300,6 +300,9 @@ module _ (k end base at last i : ℕ) (small : SmallParts i k end base at last) 
   pub sum_items : Fits w64 (at + n)
   sum_items = record { fits = omega (arith, small.small.small, few_items items) }
 
+  pub sum_base : Fits w64 (base + (at + n))
+  sum_base = record { fits = omega (arith, small.small.small, small.small.base_small, few_items items) }
+
   pub few_last : SmallAddresses base last (at + n)
   few_last = record { base_small = small.small.base_small; last_small = small.last_small; beyond_small = omega (arith, small.small.small, few_items items) }
 
@@ -342,6 +345,16 @@ pub fall_on : (s entries code' between : List ℕ) (base at k end t : ℕ) (inne
     → Emits s entries code' between base at k end inner found → 2 * (end - part.next) + 1 < t
 fall_on s entries code' between base at k end t inner found part is there p =
     let here = p.is part there in omega (arith, here.past, here.went_on.went.inside)
+
+-- sums of the addresses after the other parts
+module _ (k end base at i last : ℕ) (small : SmallParts i k end base at last) where
+  pub sum_rest_last : (j from due : ℕ) (rest : Emitted) → WentOn j end from due rest → Fits w64 (base + rest.last)
+  sum_rest_last j from due rest went_on = record { fits = omega (arith, small.small.base_small, went_on.last_small) }
+
+  pub sum_rest_at : (shape : Shape) (items : Items) (n : ℕ) (part rest : Emitted) → ItemsBefore shape.read.template i items → n ≡ length (row items) → WentOn k end (at + n) 0 part
+      → WentOn part.next end part.at (due_from (i + 1)) rest → Fits w64 (base + rest.at)
+  sum_rest_at shape items n part rest before_it many went on =
+      record { fits = omega (arith, small.small.small, small.small.base_small, before_it.few, went.small, on.small) }
 
 -- sums of the addresses that items refer to
 module _ (base last beyond : ℕ) (small : SmallAddresses base last beyond) where

@@ -2,6 +2,7 @@
 -- their tests, and for each step of the loop.
 use Prim.Native.Nat.{ℕ, zero, suc, ◌+◌, ◌*◌, ◌/◌, ◌≤◌, ◌<◌}
 use mathlib.Core.List.{List, []}
+use mathlib.Core.Logic.{◌≢◌}
 use mathlib.Core.Path.{◌≡◌, refl, sym, ap, ◌∙◌}
 use native.Mathlib.Nat.{sub-zero, mul-zero}
 use native.Mathlib.Omega.{arith}
@@ -9,6 +10,8 @@ use lib.Seq.{drop-drop}
 use Rattle.std.specs.Prelude.{slice_index_or}
 use Rattle.std.specs.Simd.{first_chunks}
 use lib.ListN.{length, take, drop}
+use borrow.Author.Tests.{eq-eqb, ne_eqb, le-leb, lt-leb}
+use Rattle.formats.specs.Refusals.{file_length}
 use Rattle.formats.specs.Results.{Result, done, refusal, on_value, verdict, each}
 use Rattle.formats.specs.Blocks.{block_bytes, most_blocks, length_row, used_of, block_at, block_row, concatenated, flat_in}
 use Rattle.formats.proofs.Results.{then_done, Passing, pass_more, pass_refused, pass_all}
@@ -75,6 +78,19 @@ pub ruleset rows_reported = (raised, rows_none, rows_more, rows_refused, rows_al
 
 -- ---- both rows
 
+pub whole_not : (s : List ℕ) → length s ≢ block_bytes * (length s / block_bytes) → refusal file_length 0 ≡ verdict (flat_in s)
+unfolding flat_in length_row
+whole_not s wrong = simp (flat_in, length_row, ne_eqb _ _ wrong)
+
+pub whole_none : (s : List ℕ) → length s ≡ block_bytes * (length s / block_bytes) → length s / block_bytes < 1 → refusal file_length 0 ≡ verdict (flat_in s)
+unfolding flat_in length_row
+whole_none s whole none = simp (flat_in, length_row, eq-eqb _ _ whole, lt-leb _ _ none)
+
+pub whole_many : (s : List ℕ) → length s ≡ block_bytes * (length s / block_bytes) → 1 ≤ length s / block_bytes → most_blocks < length s / block_bytes
+    → refusal file_length 0 ≡ verdict (flat_in s)
+unfolding flat_in length_row
+whole_many s whole some many = simp (flat_in, length_row, eq-eqb _ _ whole, le-leb _ _ some, lt-leb _ _ many)
+
 -- for a file of 1 to 17 blocks the row "each block" decides
 pub whole_rows : (s : List ℕ) (row : Answer (Unit {0}) Refused) → length s ≡ block_bytes * (length s / block_bytes) → 1 ≤ length s / block_bytes → length s / block_bytes ≤ most_blocks
     → verdict_result row ≡ verdict (block_row (length s / block_bytes) s) → verdict_result row ≡ verdict (flat_in s)
@@ -87,3 +103,5 @@ whole_rows s row whole some few reported =
     same : (r : Result (List (List ℕ))) → verdict r ≡ verdict (on_value concatenated r)
     same (done parts) = refl
     same (refusal number position) = refl
+
+pub ruleset whole_reported = (whole_not, whole_none, whole_many, whole_rows)

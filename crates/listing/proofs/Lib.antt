@@ -2,3 +2,5 @@
 pub mod Fields
 pub mod Lines
 pub mod Texts
+pub mod Digits
+pub mod Signs

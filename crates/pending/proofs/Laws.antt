@@ -7,7 +7,7 @@ use mathlib.Core.Path.{◌≡◌, refl, sym, ap, ap₂, ◌∙◌}
 use native.Mathlib.Decide.{dec_le}
 use native.Mathlib.Omega.{arith}
 use native.Mathlib.Numerals.{towards_suc}
-use borrow.Author.Tests.{eq-eqb, ne_eqb, le-leb, lt-leb}
+use borrow.Author.Tests.{eq-eqb, ne_eqb, eqb-true, eqb-false, le-leb, lt-leb}
 use lib.Dec.{leb, eqb}
 use lib.ListN.{length, get_or, take, replicate, set, length-set}
 use lib.Seq.{get_or-take}
@@ -173,6 +173,46 @@ module _ (one other : Pending) (l m : ℕ) (counted : l ≡ length_of one) (coun
       ∙ sym (ap₂ same_names (counted_list one l counted) (counted_list other l (e ∙ counted')))
 
 pub ruleset compared = (same_lengths, same_told)
+
+-- name by name
+module _ (these those : List ℕ) where
+  -- the first i names of both are the same
+  pub record Alike (l i : ℕ) : Type 0 where
+    pub within : i ≤ l
+    pub same : same_names (from_last these i) (from_last those i) ≡ true
+
+  pub same_none : (l : ℕ) → Alike l 0
+  unfolding from_last same_names
+  same_none l = record { within = omega arith; same = refl }
+
+  pub same_more : (l i : ℕ) → i < l → get_or these i 0 ≡ get_or those i 0 → Alike l i → Alike l (i + 1)
+  unfolding from_last same_names
+  same_more l i more e a = record { within = omega arith; same = simp towards_suc (ap₂ ◌&&◌ (eq-eqb _ _ e) a.same) }
+
+  -- lists that differ in one name are not the same
+  differ : (l i : ℕ) → i < l → get_or these i 0 ≢ get_or those i 0 → same_names (from_last these l) (from_last those l) ≡ false
+  unfolding from_last same_names
+  differ zero i h ne = absurd (omega arith)
+  differ (suc l) i h ne = here (eqb i l) refl (λ below. differ l i below ne)
+    where
+      here : (t : Bool) → eqb i l ≡ t → (i < l → same_names (from_last these l) (from_last those l) ≡ false)
+          → (eqb (get_or these l 0) (get_or those l 0) && same_names (from_last these l) (from_last those l)) ≡ false
+      here true e later = let is : i ≡ l = eqb-true i l e in rw (ne_eqb _ _ (rw is at ne))
+      here false e later =
+          let other : i ≢ l = eqb-false i l e in
+          simp (later (omega arith), and-false)
+
+module _ (one other : Pending) (l m : ℕ) (counted : l ≡ length_of one) (counted' : m ≡ length_of other) where
+  module _ (e : l ≡ m) (i : ℕ) where
+    -- both lists have l names
+    both : same_names (from_last one.names l) (from_last other.names l) ≡ same_names (list_of one) (list_of other)
+    both = sym (ap₂ same_names (counted_list one l counted) (counted_list other l (e ∙ counted')))
+
+    pub same_differ : i < l → get_or one.names i 0 ≢ get_or other.names i 0 → false ≡ same_names (list_of one) (list_of other)
+    same_differ h ne = sym (differ one.names other.names l i h ne) ∙ both
+
+    pub same_all : l ≤ i → Alike one.names other.names l i → true ≡ same_names (list_of one) (list_of other)
+    same_all over a = let all : i ≡ l = omega arith in sym (rw all at a.same) ∙ both
 
 -- ---- for callers: what taking the head gives; and two names fit after it, if the list was not
 -- full

@@ -3,7 +3,7 @@
 #![tactic(auto)]
 
 ghost use Rattle.std.specs.Prelude.{◌*◌, ◌≡◌};
-ghost use Rattle.formats.specs.Records.{record_bytes, bytes_of_record};
+ghost use Rattle.formats.specs.Records.{record_bytes, fields, bytes_of_record};
 ghost use Rattle.formats.specs.Written.{written};
 ghost use Rattle.instruction.specs.Inner.Opcodes.{number_of, fields_in};
 
@@ -65,18 +65,34 @@ impl Opcode {
     }
 }
 
+// Writes an instruction at an address, or nothing where the buffer has no 8 bytes there. (An offset
+// that has no number of 64 bits is past every buffer's end, as the largest number is.) Any byte is
+// written as the opcode. Of the operand the low 16 bits are written: a cast may lose none, so it is
+// cut before it.
+pub fn write_instruction(
+    code: &mut [u8],
+    address: usize,
+    opcode: u8,
+    byte1: u8,
+    operand: usize,
+    number: u32,
+)
+    ensures { code.new ≡ written code.old (record_bytes * address)
+        (bytes_of_record (fields opcode byte1 operand number)) }
+{
+    let [o0, o1] = ((operand % 65536) as u16).to_le_bytes();
+    let [n0, n1, n2, n3] = number.to_le_bytes();
+    let bytes = [opcode, byte1, o0, o1, n0, n1, n2, n3];
+    writing::write_bytes(code, INSTRUCTION_BYTES.saturating_mul(address), &bytes);
+}
+
 impl Instruction {
-    // Writes this instruction at an address, or nothing where the buffer has no 8 bytes there. (An
-    // offset that has no number of 64 bits is past every buffer's end, as the largest number is.)
-    // Of the operand the low 16 bits are written: a cast may lose none, so it is cut before it.
+    // Writes this instruction at an address, as `write_instruction` does.
     pub fn write_at(self, code: &mut [u8], address: usize)
         ensures { code.new ≡ written code.old (record_bytes * address)
             (bytes_of_record (fields_in self)) }
     {
         let opcode = u8::from(self.opcode);
-        let [o0, o1] = ((self.operand % 65536) as u16).to_le_bytes();
-        let [n0, n1, n2, n3] = self.number.to_le_bytes();
-        let bytes = [opcode, self.byte1, o0, o1, n0, n1, n2, n3];
-        writing::write_bytes(code, INSTRUCTION_BYTES.saturating_mul(address), &bytes);
+        write_instruction(code, address, opcode, self.byte1, self.operand, self.number);
     }
 }

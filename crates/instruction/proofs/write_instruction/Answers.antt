@@ -1,11 +1,11 @@
--- `Instruction::write_at` meets its contract: the bytes written are the record's. An address whose
+-- `instruction::write_instruction` meets its contract: the bytes written are the record's. An address whose
 -- offset is cut is past the buffer's end.
 use Rattle.std.proofs.Common.{◌≡◌, ℕ, ◌*◌, ◌/◌, ◌%◌, [], ◌∷◌, ap, ◌∙◌, arith}
 use Rattle.formats.specs.Numbers.{bytes_of}
 use Rattle.formats.specs.Records.{fields, bytes_of_record}
 use Rattle.formats.specs.Written.{written}
 use Rattle.writing.proofs.Placed.{written_cut}
-use Rattle.instruction.proofs.Instruction.write_at.Goals as goal
+use Rattle.instruction.proofs.write_instruction.Goals as goal
 
 -- the bytes of the words are those of the record
 same_bytes : (opcode byte1 operand number : ℕ)
@@ -23,9 +23,8 @@ pub returns : goal.returns
 returns c =
     let low = c.to_le_bytes.ensures in
     let number = c.to_le_bytes-2.ensures in
-    let opcode = c.from-opcode.ensures in
     let s = c.args.code.now in
     let at = 8 * c.args.address in
-    (rw (c.saturating_mul.ensures, low, number, opcode) at c.write_bytes.ensures)
+    (rw (c.saturating_mul.ensures, low, number) at c.write_bytes.ensures)
     ∙ written_cut s at _ _ (omega arith)
     ∙ ap (written s at) (same_bytes _ _ _ _)

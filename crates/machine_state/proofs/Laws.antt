@@ -3,8 +3,11 @@ use Rattle.std.proofs.Common.{◌≡◌, ℕ, suc, ◌+◌, ◌-◌, ◌%◌, �
 use mathlib.Core.Logic.{◌⊎◌, inl, inr}
 use lib.ListN.{get_or-eq_default}
 use Rattle.std.proofs.lemmas.Option.{unwrap_or-slice_get}
+use Rattle.formats.specs.Refusals.{fuel_used_up, too_deep}
+use Rattle.refusal.specs.Inner.Numbers.{number}
 use Rattle.refusal.specs.declared.Refusal.{Refusal}
-use Rattle.refusal.specs.declared.Refusal.TheVariants.{CannotPerform}
+use Rattle.refusal.specs.declared.Refusal.TheVariants.{FileLength, BlockCheck, BlockField, HeaderField, FunctionField, NodeField, PrefixForm, WrongType, NotBound, TooManyWords}
+use Rattle.refusal.specs.declared.Refusal.TheVariants.{OutOfOrder, TooManyPending, SpaceTooShort, FuelUsedUp, InputEnded, NotATag, OutputFull, TooManyCalls, CannotPerform, TooDeep, OutOfRange}
 use Rattle.refusal.specs.declared.Refused.{Refused}
 use Rattle.meaning.specs.Performing.{number_kept}
 use Rattle.machine_state.specs.declared.Machine.{Machine}
@@ -12,7 +15,7 @@ use Rattle.machine_state.specs.declared.Answer.{Answer}
 use Rattle.machine_state.specs.declared.Stop.{Stop}
 use Rattle.machine_state.specs.declared.Stop.TheVariants.{GoesOn, Ended, Refused as RefusedWith}
 use Rattle.machine_state.specs.Inner.States.{words_from, frame_of, goes_on, has_ended}
-use Rattle.machine_state.specs.Inner.Answers.{run_answer, due_at, Reports, in_64_bits}
+use Rattle.machine_state.specs.Inner.Answers.{run_answer, reported_refusal, counted, due_at, Reports, in_64_bits}
 
 -- ---- what a stop is not
 
@@ -64,34 +67,65 @@ pub ruleset kept = (kept_none, kept_top, unwrap_or-slice_get)
 
 -- ---- `report`
 
+-- a refusal of a run is reported as it is
+pub own_reported : (why : Refusal) → fuel_used_up ≤ number why → number why ≢ too_deep → reported_refusal why ≡ why
+own_reported FileLength late h = absurd (omega arith)
+own_reported BlockCheck late h = absurd (omega arith)
+own_reported BlockField late h = absurd (omega arith)
+own_reported HeaderField late h = absurd (omega arith)
+own_reported FunctionField late h = absurd (omega arith)
+own_reported NodeField late h = absurd (omega arith)
+own_reported PrefixForm late h = absurd (omega arith)
+own_reported WrongType late h = absurd (omega arith)
+own_reported NotBound late h = absurd (omega arith)
+own_reported TooManyWords late h = absurd (omega arith)
+own_reported OutOfOrder late h = absurd (omega arith)
+own_reported TooManyPending late h = absurd (omega arith)
+own_reported SpaceTooShort late h = absurd (omega arith)
+own_reported FuelUsedUp late h = refl
+own_reported InputEnded late h = refl
+own_reported NotATag late h = refl
+own_reported OutputFull late h = refl
+own_reported TooManyCalls late h = refl
+own_reported CannotPerform late h = refl
+own_reported TooDeep late h = absurd (h refl)
+own_reported OutOfRange late h = refl
+
 module _ (values : List ℕ) (units : ℕ) (s : Machine) where
   pub wrapped_ended :
       (number more : ℕ)
       → s.stop ≡ Ended
       → number ≡ number_kept (frame_of values s)
-      → more ≡ (units + 1) % 2 ^ 64
+      → more ≡ counted units s.stop
       → run_answer (record { outcome = Ok number; units = more; read = s.read; written = s.written }) ≡ in_64_bits (due_at values units s)
   unfolding due_at
-  wrapped_ended number more e is counted = rw (due_at, e, is, counted) refl
+  wrapped_ended number more e is given = rw (due_at, e, is, given, e) refl
 
-  -- the refusal is the machine's own, or 19 where it goes on
+  -- the refusal is the one reported, or 19 where the machine goes on
   pub wrapped_refused :
-      (r : Refused) (why : Refusal)
+      (r : Refused) (why own : Refusal) (same : ℕ)
       → s.stop ≡ RefusedWith why
       → units < 2 ^ 64
-      → r ≡ record { why = why; position = s.read }
-      → run_answer (record { outcome = Err r; units = units; read = s.read; written = s.written }) ≡ in_64_bits (due_at values units s)
+      → own ≡ reported_refusal why
+      → r ≡ record { why = own; position = s.read }
+      → same ≡ counted units s.stop
+      → run_answer (record { outcome = Err r; units = same; read = s.read; written = s.written }) ≡ in_64_bits (due_at values units s)
   unfolding due_at
-  wrapped_refused r why e wide at = let fits : units % 2 ^ 64 ≡ units = omega arith in rw (due_at, e, e, at, fits) refl
+  wrapped_refused r why own same e wide is at given =
+      let fits : units % 2 ^ 64 ≡ units = omega arith in
+      rw (due_at, e, e, at, is, given, e, fits) refl
 
   pub wrapped_going :
-      (r : Refused)
+      (r : Refused) (same : ℕ)
       → s.stop ≡ GoesOn
       → units < 2 ^ 64
       → r ≡ record { why = CannotPerform; position = s.read }
-      → run_answer (record { outcome = Err r; units = units; read = s.read; written = s.written }) ≡ in_64_bits (due_at values units s)
+      → same ≡ counted units s.stop
+      → run_answer (record { outcome = Err r; units = same; read = s.read; written = s.written }) ≡ in_64_bits (due_at values units s)
   unfolding due_at
-  wrapped_going r e wide at = let fits : units % 2 ^ 64 ≡ units = omega arith in rw (due_at, e, e, at, fits) refl
+  wrapped_going r same e wide at given =
+      let fits : units % 2 ^ 64 ≡ units = omega arith in
+      rw (due_at, e, e, at, given, e, fits) refl
 
   -- where the unit of the last return does not wrap, nothing is cut off
   due_fits : units + 1 < 2 ^ 64 → in_64_bits (due_at values units s) ≡ due_at values units s

@@ -1,2 +1,3 @@
 -- Laws for the answer of a run that stops.
 pub mod Laws
+pub mod InNumbers

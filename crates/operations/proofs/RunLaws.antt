@@ -10,11 +10,13 @@ use native.Mathlib.Omega.{arith}
 use borrow.Author.Tests.{le-leb, lt-leb}
 use mir.Syntax.{w64}
 use mir.Val.{Fits}
+use lib.Dec.{lit≤}
 use lib.ListN.{length, take, drop, length-append, take-append-drop}
 use lib.Seq.{length-take-le, drop-drop}
-use Rattle.formats.specs.Refusals.{fuel_used_up}
+use Rattle.formats.specs.Refusals.{fuel_used_up, too_deep}
 use Rattle.formats.specs.Written.{written}
 use Rattle.formats.proofs.Written.{written_fits}
+use Rattle.refusal.specs.Inner.Numbers.{number}
 use Rattle.refusal.specs.declared.Refused.{Refused}
 use Rattle.refusal.specs.declared.Refusal.TheVariants.{SpaceTooShort}
 use Rattle.meaning.specs.Performing.{Setting, State, start, goes, ends, refuses, step, number_kept}
@@ -27,12 +29,13 @@ use Rattle.meaning.specs.WorkWords.{WorkWords, before_stream}
 use Rattle.meaning.proofs.WorkWords.{untouched, run_refused, ended as words_ended}
 use Rattle.machine_state.specs.declared.Machine.{Machine}
 use Rattle.refusal.specs.declared.Refusal.TheVariants.{FuelUsedUp}
-use Rattle.machine_state.specs.declared.Stop.TheVariants.{GoesOn, Ended}
+use Rattle.machine_state.specs.declared.Stop.{Stop as Why}
+use Rattle.machine_state.specs.declared.Stop.TheVariants.{GoesOn, Ended, Refused as RefusedWith}
 use Rattle.machine_state.specs.declared.Answer.{Answer}
 use Rattle.machine_state.specs.Inner.States.{words_from, waiting, frame_of, state_of, step_of, refusal_number, refused_by, first, Going, Held, Lent}
 use Rattle.operations.specs.Inner.Effects.{Does, Steps}
-use Rattle.machine_state.specs.Inner.Answers.{run_answer, nothing_done, in_64_bits, due_at, Reports, Performed}
-use Rattle.machine_state.proofs.Laws.{stops, not_ended, ended_or}
+use Rattle.machine_state.specs.Inner.Answers.{run_answer, nothing_done, reported_number, in_64_bits, due_at, Reports, Performed}
+use Rattle.machine_state.proofs.Laws.{stops, not_ended, ended_or, own_reported}
 
 -- ---- what a stop says of the step
 
@@ -48,6 +51,21 @@ module _ (values returns output : List ℕ) (r : Machine) where
   step_refuses : r.stop ≢ GoesOn → r.stop ≢ Ended → step_of values returns output r ≡ refuses (refusal_number r.stop)
   unfolding step_of
   step_refuses h g = rw (step_of, stops _ h, not_ended _ g)
+
+-- a step's refusal is one that a run reports: 14 or later, and not 20
+step_range : (n : ℕ) → StepRefusal n → (fuel_used_up ≤ n) × (n ≢ too_deep)
+step_range n ended_there = (lit≤ tt, λ e. absurd (omega arith))
+step_range n not-a-tag = (lit≤ tt, λ e. absurd (omega arith))
+step_range n full = (lit≤ tt, λ e. absurd (omega arith))
+step_range n too_many = (lit≤ tt, λ e. absurd (omega arith))
+step_range n cannot = (lit≤ tt, λ e. absurd (omega arith))
+step_range n out-of-range = (lit≤ tt, λ e. absurd (omega arith))
+
+-- so it is reported as it is
+names_itself : (k : Why) → StepRefusal (refusal_number k) → reported_number k ≡ refusal_number k
+names_itself GoesOn own = refl
+names_itself Ended own = refl
+names_itself (RefusedWith why) own = let range = step_range (number why) own in ap number (own_reported why range.0 range.1)
 
 -- a step's refusal comes after 13
 not_before : (n : ℕ) → StepRefusal n → before_stream n ≡ false
@@ -301,7 +319,7 @@ module _ (code input : List ℕ) (fuel : ℕ) (output₀ values₀ returns₀ : 
                     let e : step m state ≡ refuses number = sym did.reported ∙ step_refuses values' returns' output' r stops no_end in
                     let own_refusal = (one_step m state).refusals number e in
                     stops_here _ _ output' values' returns' a (stuck h.led fuel_left e)
-                    (t.reports ∙ rw (due_at, not_ended _ no_end, still.read, still.written, h.counted) refl)
+                    (t.reports ∙ rw (due_at, not_ended _ no_end, names_itself _ own_refusal, still.read, still.written, h.counted) refl)
                     still.same
                     (run_refused before_stream _ _ _ _ _ turned_values turned_returns number s.read refl (not_before number own_refusal))
               ]

@@ -18,12 +18,20 @@ use Rattle.frames.specs.declared.Action.TheVariants.{GivesConstant, GivesNamed, 
 use Rattle.frames.specs.Inner.Named.{action_of_number}
 use Rattle.frames.proofs.Named.{ActionSays, action_says}
 use Rattle.stages.specs.declared.Stage.{Stage}
+use Rattle.stages.specs.declared.StageInNumbers.{StageInNumbers}
 use Rattle.stages.specs.declared.Next.TheVariants.{Begin, Finished, Open, Stuck}
 use Rattle.stages.specs.Inner.Stages.{state_of, staged, stage_of, words_of, returns_of}
+use Rattle.stages.specs.Inner.InNumbers.{numbers_of, with_next}
+use Rattle.stages.proofs.InNumbers.{same_step}
 use Rattle.stages.proofs.Stages.{reach_begin, reach_finished, reach_open, reach_stuck}
 use Rattle.named_trees.specs.Inner.Offsets.{tree_offset, named_by}
 use Rattle.named_trees.proofs.Offsets.{found_offset}
 use Rattle.begin_record.specs.Inner.Begins.{begun_turn, Begins, Looks}
+use Rattle.begin_record.specs.Inner.InNumbers.{Begins as BeginsInNumbers}
+
+-- the stage whose record r is to begin
+abbrev from_begin : Stage → ℕ → Stage
+from_begin s r = staged s (Begin r)
 
 -- ---- `put_label`, `named_number`
 
@@ -51,9 +59,9 @@ module _ (T input values : List ℕ) (r : ℕ) (s : Stage) (q : ℕ) (found : q 
         written = s.written;
       }
 
-  pub look_past : (t : Stage) → length input ≤ q → t ≡ staged s Stuck → Looks T input values values r s t
+  pub look_past : (t : Stage) → length input ≤ q → t ≡ staged s (Stuck r) → Looks T input values values r s t
   look_past t past e =
-      rw e (record { is = λ returns. rw (← found, looks_past T input q r (state_of values returns s) past) (reach_stuck values returns s) })
+      rw e (record { is = λ returns. rw (← found, looks_past T input q r (state_of values returns s) past) (reach_stuck values returns (from_begin s r)) })
 
   pub look_leaf :
       (values' : List ℕ)
@@ -88,7 +96,7 @@ module _ (T input values : List ℕ) (r : ℕ) (s : Stage) (q : ℕ) (found : q 
       (record {
         is = λ returns.
             rw (← found, looks_node T input q r (state_of values returns s) there tag)
-            (reach_begin values returns s (after_at T (suc r)));
+            (reach_begin values returns (from_begin s r) (after_at T (suc r)));
       })
 
 pub ruleset looks = (look_past, look_leaf, look_node)
@@ -105,9 +113,9 @@ module _ (T input : List ℕ) (r : ℕ) (s : State) where
   begun_past past = simp (begun_turn, le-ltb _ _ past)
 
 module _ (T input values : List ℕ) (r : ℕ) (s : Stage) where
-  pub begin_past : (t : Stage) → record_limit ≤ r → t ≡ staged s Stuck → Begins T input values values r s t
+  pub begin_past : (t : Stage) → record_limit ≤ r → t ≡ staged s (Stuck r) → Begins T input values values r s t
   begin_past t past e =
-      rw e (record { is = λ returns. rw (begun_past T input r (state_of values returns s) past) (reach_stuck values returns s) })
+      rw e (record { is = λ returns. rw (begun_past T input r (state_of values returns s) past) (reach_stuck values returns (from_begin s r)) })
 
   module _ (few : r < record_limit) (a : Action) (action : a ≡ action_of_number (action_at T r)) where
     says : (b : Action) → a ≡ b → ActionSays b (action_at T r)
@@ -128,7 +136,7 @@ module _ (T input values : List ℕ) (r : ℕ) (s : Stage) where
         (record {
           is = λ returns.
               rw (begun_in T input r (state_of values returns s) few, begins_const T input (at returns) r (state_of values returns s) (says GivesConstant is))
-              (reach_finished values returns s r (operand_at T r + 65536 * more_at T r));
+              (reach_finished values returns (from_begin s r) r (operand_at T r + 65536 * more_at T r));
         })
 
     pub begin_var :
@@ -142,7 +150,7 @@ module _ (T input values : List ℕ) (r : ℕ) (s : Stage) where
         (record {
           is = λ returns.
               rw (begun_in T input r (state_of values returns s) few, begins_var T input (at returns) r (state_of values returns s) (says GivesNamed is))
-              (reach_finished values returns s r (get_or values (frame_words * s.calls + operand_at T r) 0));
+              (reach_finished values returns (from_begin s r) r (get_or values (frame_words * s.calls + operand_at T r) 0));
         })
 
     pub begin_case : (values' : List ℕ) (t : Stage) → a ≡ LooksAtTree → Looks T input values values' r s t → Begins T input values values' r s t
@@ -168,7 +176,7 @@ module _ (T input values : List ℕ) (r : ℕ) (s : Stage) where
                 begun_in T input r (state_of values returns s) few,
                 begins_bare T input (at returns) r (state_of values returns s) (says CallsFunction is) (sym em ∙ none),
               )
-              (reach_open values returns s r);
+              (reach_open values returns (from_begin s r) r);
         })
 
     -- the first part begins
@@ -180,7 +188,7 @@ module _ (T input values : List ℕ) (r : ℕ) (s : Stage) where
         rw (e, add-one r)
         (record {
           is = λ returns.
-              rw (begun_in T input r (state_of values returns s) few, begins returns) (reach_begin values returns s (suc r));
+              rw (begun_in T input r (state_of values returns s) few, begins returns) (reach_begin values returns (from_begin s r) (suc r));
         })
 
     pub begin_args :
@@ -208,6 +216,16 @@ module _ (T input values : List ℕ) (r : ℕ) (s : Stage) where
         e
 
 pub ruleset beginnings = (begin_past, begin_const, begin_var, begin_case, begin_bare, begin_args, begin_first)
+
+-- ---- `begin_in_numbers`
+
+module _ (T input values values' : List ℕ) (s : StageInNumbers) where
+  pub numbers_begun : (t : Stage) (b : StageInNumbers) → Begins T input values values' s.node (with_next s (Begin s.node)) t → b ≡ numbers_of t
+      → BeginsInNumbers T input values values' s b
+  numbers_begun t b begun e =
+      rw e (record { is = λ returns. same_step _ values values' returns returns s (Begin s.node) t refl (begun.is returns) })
+
+pub ruleset begin_numbers = (numbers_begun)
 
 -- ---- the steps
 

@@ -5,9 +5,10 @@ ghost use Rattle.std.specs.Prelude.{◌+◌, ◌*◌, ◌<◌, ◌≡◌, get_or
 ghost use Rattle.formats.specs.Numbers.{number_at};
 ghost use Rattle.stepwise.specs.Inner.Steps.{operand_at, more_at, frame_words, record_limit};
 ghost use Rattle.begin_record.specs.Inner.Begins.{Looks, Begins};
+ghost use Rattle.begin_record.specs.Inner.InNumbers.{Begins as BeginsInNumbers};
 
 use frames::{AFTER, Action, MORE, OPERAND};
-use stages::{Next, RECORD_LIMIT, Stage};
+use stages::{Next, RECORD_LIMIT, Stage, StageInNumbers};
 use tree::{LEAF_BYTES, LEAF_TAG};
 
 // The number of a Const, put together from its two halves. (The library has no method for halves.)
@@ -39,7 +40,7 @@ fn look(table: &[u16], input: &[u8], values: &mut [u32], r: u16, s: Stage) -> St
 {
     let p = named_trees::named_offset(table, input, r, s);
     match input.get(p) {
-        None => s.at(Next::Stuck),
+        None => s.at(Next::Stuck(r)),
         Some(&LEAF_TAG) => {
             put_label(table, input, p + 1, values, r, s);
             Stage {
@@ -69,7 +70,7 @@ pub fn begin(table: &[u16], input: &[u8], values: &mut [u32], r: u16, s: Stage) 
         values.new r s result }
 {
     if RECORD_LIMIT <= r {
-        return s.at(Next::Stuck);
+        return s.at(Next::Stuck(r));
     }
     match frames::action_of(table, r) {
         Action::GivesConstant => s.at(Next::Finished(r, constant(table, r))),
@@ -84,4 +85,19 @@ pub fn begin(table: &[u16], input: &[u8], values: &mut [u32], r: u16, s: Stage) 
         }
         Action::EntersPart | Action::TagsNode => s.at(Next::Begin(r + 1)),
     }
+}
+
+// The same over a stage in numbers, whose record begins, whatever its mode is.
+#[tactic(auto, using(crate::proofs::Begins::begin_numbers))]
+pub fn begin_in_numbers(
+    table: &[u16],
+    input: &[u8],
+    values: &mut [u32],
+    s: StageInNumbers,
+) -> StageInNumbers
+    ensures { BeginsInNumbers table.now input.now
+        values.old values.new s result }
+{
+    let begun = stages::with_next(s, Next::Begin(s.node));
+    begin(table, input, values, s.node, begun).in_numbers()
 }

@@ -22,10 +22,14 @@ use Rattle.frames.specs.declared.Role.TheVariants.{Whole, Kept, Added, Tested, P
 use Rattle.frames.specs.Inner.Named.{role_of_number}
 use Rattle.frames.proofs.Named.{RoleSays, role_says}
 use Rattle.stages.specs.declared.Stage.{Stage}
+use Rattle.stages.specs.declared.StageInNumbers.{StageInNumbers}
 use Rattle.stages.specs.declared.Next.TheVariants.{Begin, Finished, Open, Ended, Broken}
 use Rattle.stages.specs.Inner.Stages.{state_of, staged, stage_of, words_of, returns_of}
+use Rattle.stages.specs.Inner.InNumbers.{numbers_of, with_next}
+use Rattle.stages.proofs.InNumbers.{same_step}
 use Rattle.stages.proofs.Stages.{reach_begin, reach_finished, reach_ended, reach_broken, put_begin, put_open}
 use Rattle.finish_record.specs.Inner.Rises.{Knows, Closes, Adds, Picks, Rises}
+use Rattle.finish_record.specs.Inner.InNumbers.{Rises as RisesInNumbers}
 
 -- ---- `on_right`, `known_after`
 
@@ -304,3 +308,18 @@ pub ruleset risings = (
   rise_labelled,
   rise_last,
 )
+
+-- ---- `rise_in_numbers`
+
+module _ (T input values values' returns : List ℕ) (s : StageInNumbers) where
+  pub numbers_risen :
+      (f t : Stage) (b : StageInNumbers)
+      → f ≡ with_next s (Finished s.node s.number)
+      → Rises T input values values' returns s.node s.number f t
+      → b ≡ numbers_of t
+      → RisesInNumbers T input values values' returns s b
+  numbers_risen f t b from risen e =
+      let there : Rises T input values values' returns s.node s.number (with_next s (Finished s.node s.number)) t = rw (← from) risen in
+      rw e (record { is = same_step _ values values' returns returns s (Finished s.node s.number) t refl there.is })
+
+pub ruleset rise_numbers = (numbers_risen)

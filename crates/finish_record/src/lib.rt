@@ -4,9 +4,10 @@
 ghost use Rattle.std.specs.Prelude.{◌+◌, ◌*◌, ◌≡◌, get_or, set};
 ghost use Rattle.stepwise.specs.Inner.Steps.{slot_at, frame_words, on_right};
 ghost use Rattle.finish_record.specs.Inner.Rises.{Knows, Closes, Adds, Picks, Rises};
+ghost use Rattle.finish_record.specs.Inner.InNumbers.{Rises as RisesInNumbers};
 
 use frames::{AFTER, PARENT, Role, SLOT, TREE};
-use stages::{Next, Stage};
+use stages::{Next, Stage, StageInNumbers};
 use tree::NODE_TAG;
 
 // Whether the Call at record r is on the right tree of a node that is its frame's own tree, at
@@ -128,4 +129,20 @@ pub fn rise(
             s.at(Next::Open(parent))
         }
     }
+}
+
+// The same over a stage in numbers, whose record is finished with its number, whatever its mode is.
+#[tactic(auto, using(crate::proofs::Rises::rise_numbers))]
+pub fn rise_in_numbers(
+    table: &[u16],
+    input: &[u8],
+    values: &mut [u32],
+    returns: &[u64],
+    s: StageInNumbers,
+) -> StageInNumbers
+    ensures { RisesInNumbers table.now input.now
+        values.old values.new returns.now s result }
+{
+    let finished = stages::with_next(s, Next::Finished(s.node, s.number));
+    rise(table, input, values, returns, s.node, s.number, finished).in_numbers()
 }

@@ -6,7 +6,7 @@ ghost use Rattle.stepwise.specs.Inner.Steps.{tree_at};
 ghost use Rattle.named_trees.specs.Inner.Offsets.{part_at, tree_offset};
 
 use frames::TREE;
-use stages::Stage;
+use stages::{Next, Stage, StageInNumbers};
 
 // Where a branch of the node at offset `node` begins: the left tree for an even j, else the right
 // one; 0 where there is none. The tree at `known` ends at `end`; the end of any other left tree is
@@ -57,4 +57,13 @@ pub fn named_offset(table: &[u16], input: &[u8], r: u16, s: Stage) -> usize
 {
     let code = frames::field(table, r, TREE);
     offset_of(table, input, s.tree, s.known, s.end, code)
+}
+
+// The same of a stage in numbers, whatever its mode is: of the tree that its record names.
+pub fn named_offset_in_numbers(table: &[u16], input: &[u8], s: StageInNumbers) -> usize
+    ensures { result ≡ tree_offset table.now input.now s.tree s.known
+        s.end (tree_at table.now s.node) }
+{
+    let begun = stages::with_next(s, Next::Begin(s.node));
+    named_offset(table, input, s.node, begun)
 }

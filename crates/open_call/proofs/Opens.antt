@@ -12,12 +12,16 @@ use Rattle.stepwise.specs.Inner.Steps.{State, begin, deep, stuck, operand_at, tr
 use Rattle.stepwise.proofs.Steps.{opens_deep, opens_frame}
 use Rattle.stepwise.proofs.Words.{copied_length}
 use Rattle.stages.specs.declared.Stage.{Stage}
-use Rattle.stages.specs.declared.Next.TheVariants.{Begin, Deep, Stuck}
+use Rattle.stages.specs.declared.StageInNumbers.{StageInNumbers}
+use Rattle.stages.specs.declared.Next.TheVariants.{Begin, Open, Deep, Stuck}
 use Rattle.stages.specs.Inner.Stages.{is_finished, to_open, state_of, staged, stage_of, words_of, returns_of}
+use Rattle.stages.specs.Inner.InNumbers.{numbers_of, with_next}
+use Rattle.stages.proofs.InNumbers.{same_step}
 use Rattle.stages.proofs.Stages.{reach_deep, reach_stuck}
 use Rattle.named_trees.specs.Inner.Offsets.{tree_offset, named_by}
 use Rattle.named_trees.proofs.Offsets.{found_offset}
 use Rattle.open_call.specs.Inner.Opens.{opened_turn, Opens}
+use Rattle.open_call.specs.Inner.InNumbers.{Opens as OpensInNumbers}
 
 -- ---- `copy`
 
@@ -74,8 +78,8 @@ module _ (T input : List ℕ) (r : ℕ) (s : State) where
   opened_past past = simp (opened_turn, le-ltb _ _ past)
 
 module _ (T input values returns : List ℕ) (r : ℕ) (s : Stage) where
-  pub open_past : (t : Stage) → record_limit ≤ r → t ≡ staged s Stuck → Opens T input values values returns returns r s t
-  open_past t past e = rw e (record { is = rw (opened_past T input r (state_of values returns s) past) (reach_stuck values returns s) })
+  pub open_past : (t : Stage) → record_limit ≤ r → t ≡ staged s (Stuck r) → Opens T input values values returns returns r s t
+  open_past t past e = rw e (record { is = rw (opened_past T input r (state_of values returns s) past) (reach_stuck values returns (staged s (Open r))) })
 
   module _ (few : r < record_limit) where
     pub open_deep : (t : Stage) → most_waiting ≤ s.calls → t ≡ staged s (Deep r) → Opens T input values values returns returns r s t
@@ -87,7 +91,7 @@ module _ (T input values returns : List ℕ) (r : ℕ) (s : Stage) where
                 opened_in T input r (state_of values returns s) few,
                 opens_deep T (named_by T input r (state_of values returns s)) r (state_of values returns s) full,
               )
-              (reach_deep values returns s r);
+              (reach_deep values returns (staged s (Open r)) r);
         })
 
     pub open_frame :
@@ -116,6 +120,21 @@ module _ (T input values returns : List ℕ) (r : ℕ) (s : Stage) where
         })
 
 pub ruleset opening_ways = (open_past, open_deep, open_frame)
+
+-- ---- `open_in_numbers`
+
+module _ (T input values values' returns returns' : List ℕ) (s : StageInNumbers) where
+  pub numbers_opened :
+      (f t : Stage) (b : StageInNumbers)
+      → f ≡ with_next s (Open s.node)
+      → Opens T input values values' returns returns' s.node f t
+      → b ≡ numbers_of t
+      → OpensInNumbers T input values values' returns returns' s b
+  numbers_opened f t b from opened e =
+      let there : Opens T input values values' returns returns' s.node (with_next s (Open s.node)) t = rw (← from) opened in
+      rw e (record { is = same_step _ values values' returns returns' s (Open s.node) t refl there.is })
+
+pub ruleset open_numbers = (numbers_opened)
 
 -- ---- the steps
 

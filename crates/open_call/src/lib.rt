@@ -4,9 +4,10 @@
 ghost use Rattle.std.specs.Prelude.{suc, ◌-◌, ◌*◌, ◌<◌, ◌≡◌, set};
 ghost use Rattle.stepwise.specs.Inner.Steps.{slot_at, more_at, frame_words, record_limit, most_waiting, copied};
 ghost use Rattle.open_call.specs.Inner.Opens.{Opens};
+ghost use Rattle.open_call.specs.Inner.InNumbers.{Opens as OpensInNumbers};
 
 use frames::{MORE, OPERAND, SLOT};
-use stages::{Next, RECORD_LIMIT, Stage};
+use stages::{Next, RECORD_LIMIT, Stage, StageInNumbers};
 
 // The most calls that may wait: with the one that goes on, 1,024 are open.
 const MOST_WAITING: u16 = 1023;
@@ -59,7 +60,7 @@ pub fn open(
         values.new returns.old returns.new r s result }
 {
     if RECORD_LIMIT <= r {
-        return s.at(Next::Stuck);
+        return s.at(Next::Stuck(r));
     }
     if MOST_WAITING <= s.calls {
         return s.at(Next::Deep(r));
@@ -72,4 +73,21 @@ pub fn open(
         tree: p,
         ..s.at(Next::Begin(frames::field(table, r, OPERAND)))
     }
+}
+
+// The same over a stage in numbers, the call at whose record opens, whatever its mode is.
+#[tactic(auto, using(crate::proofs::Opens::open_numbers))]
+pub fn open_in_numbers(
+    table: &[u16],
+    input: &[u8],
+    values: &mut [u32],
+    returns: &mut [u64],
+    s: StageInNumbers,
+) -> StageInNumbers
+    ensures { OpensInNumbers table.now input.now
+        values.old values.new returns.old returns.new s
+        result }
+{
+    let opened = stages::with_next(s, Next::Open(s.node));
+    open(table, input, values, returns, s.node, opened).in_numbers()
 }

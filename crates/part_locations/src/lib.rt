@@ -4,6 +4,7 @@
 ghost use Rattle.std.specs.Prelude.{◌≡◌};
 ghost use Rattle.records.specs.Inner.Read.{meant, part_of};
 ghost use Rattle.part_locations.specs.Inner.Locations.{used_in, part_in, noted};
+ghost use Rattle.part_locations.specs.Inner.InNumbers.{part_in as part_in_numbers};
 
 use frames::Role;
 use records::{Part, Record};
@@ -89,6 +90,48 @@ pub fn inside(
             depth: location.depth.saturating_add(1),
             ..inner
         },
+    }
+}
+
+// A location for callers whose role may be any number.
+#[derive(Clone, Copy, Debug, PartialEq, Eq)]
+pub struct LocationInNumbers {
+    pub role: usize,
+    pub parent: usize,
+    pub slot: usize,
+    pub names: usize,
+    pub keeps: usize,
+    pub depth: usize,
+}
+
+// The same of a location in numbers. The role of the location that is given does not matter.
+#[tactic(auto, using(crate::proofs::InNumbers::numbered))]
+pub fn inside_in_numbers(
+    part: Part,
+    node: Record,
+    r: usize,
+    i: usize,
+    count: usize,
+    location: LocationInNumbers,
+) -> LocationInNumbers
+    ensures { result ≡ part_in_numbers (part_of part) (meant node) r i count location }
+{
+    let outer = Location {
+        role: Role::Whole,
+        parent: location.parent,
+        slot: location.slot,
+        names: location.names,
+        keeps: location.keeps,
+        depth: location.depth,
+    };
+    let inner = inside(part, node, r, i, count, outer);
+    LocationInNumbers {
+        role: usize::from(u16::from(inner.role)),
+        parent: inner.parent,
+        slot: inner.slot,
+        names: inner.names,
+        keeps: inner.keeps,
+        depth: inner.depth,
     }
 }
 

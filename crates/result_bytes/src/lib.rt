@@ -8,7 +8,7 @@ ghost use Rattle.stepwise.specs.Inner.Steps.{emitted_first, emitted_last};
 ghost use Rattle.result_bytes.specs.Inner.Bytes.{counted, Says};
 
 use frames::{Action, Role};
-use stages::Stage;
+use stages::{Next, Stage, StageInNumbers};
 use tree::{LEAF_BYTES, LEAF_TAG, NODE_TAG};
 
 // 2^63: no buffer is so long, and from there on bytes are not counted.
@@ -60,4 +60,22 @@ pub fn emit_last(table: &[u16], output: &mut [u8], r: u16, number: u32, s: Stage
     };
     write_leaf(output, s.written, number);
     count(s.written, LEAF_BYTES as u8)
+}
+
+// The same of a stage in numbers, whatever its mode is: its record begins.
+pub fn emit_first_in_numbers(table: &[u16], output: &mut [u8], s: StageInNumbers) -> usize
+    ensures { Says (emitted_first table.now s.node) output.old
+        output.new s.written result }
+{
+    let begun = stages::with_next(s, Next::Begin(s.node));
+    emit_first(table, output, s.node, begun)
+}
+
+// The same of a stage in numbers, whatever its mode is: its record is finished, with its number.
+pub fn emit_last_in_numbers(table: &[u16], output: &mut [u8], s: StageInNumbers) -> usize
+    ensures { Says (emitted_last table.now s.node s.number)
+        output.old output.new s.written result }
+{
+    let finished = stages::with_next(s, Next::Finished(s.node, s.number));
+    emit_last(table, output, s.node, s.number, finished)
 }

@@ -11,7 +11,7 @@ use borrow.Author.Tests.{lt-ltb, le-ltb}
 use lib.ListN.{length}
 use Rattle.formats.specs.Written.{written}
 use Rattle.formats.proofs.Written.{wrote}
-use Rattle.stepwise.specs.Inner.Steps.{Turn, emitted_first, rising, emitted_last}
+use Rattle.stepwise.specs.Inner.Steps.{emitted_first, rising, emitted_last}
 use Rattle.std.specs.Prelude.{Result as Answer, Ok, Err}
 use Rattle.refusal.specs.declared.Refusal.TheVariants.{FuelUsedUp, TooManyCalls, OutOfRange}
 use Rattle.refusal.specs.declared.Refused.{Refused}
@@ -116,7 +116,7 @@ module _ (T input : List ℕ) where
 
   climb_sticks : (n : ℕ) (p : Run) → is_finished p.stage.next ≡ true → weight_of p.stage ≤ weight_of (rise_step T input p).stage
       → climbing T input (suc n) p
-      ≡ run (rise_step T input p).output (rise_step T input p).values (rise_step T input p).returns (staged (rise_step T input p).stage Stuck)
+      ≡ run (rise_step T input p).output (rise_step T input p).values (rise_step T input p).returns (staged (rise_step T input p).stage (Stuck 0))
   unfolding climbing
   climb_sticks n p e stays = simp (climbing, e, le-ltb _ _ stays)
 
@@ -166,7 +166,7 @@ module _ (T input : List ℕ) where
 
   climbed_stuck : (p : Run) → is_finished p.stage.next ≡ true → weight_of p.stage ≤ weight_of (rise_step T input p).stage
       → climbed T input p
-      ≡ run (rise_step T input p).output (rise_step T input p).values (rise_step T input p).returns (staged (rise_step T input p).stage Stuck)
+      ≡ run (rise_step T input p).output (rise_step T input p).values (rise_step T input p).returns (staged (rise_step T input p).stage (Stuck 0))
   climbed_stuck p e stays =
       let some = weight_some p.stage e in
       let next : weight_of p.stage ≡ suc (weight_of p.stage - 1) = omega arith in
@@ -222,7 +222,7 @@ module _ (T input returns : List ℕ) where
               long_values = climb_long_values;
             }
 
-        pub climb_stuck : (t : Stage) → v ≤ w → t ≡ staged (with_written n at) Stuck
+        pub climb_stuck : (t : Stage) → v ≤ w → t ≡ staged (with_written n at) (Stuck 0)
             → Climbs T input returns output₀ output' values₀ values' start t
         climb_stuck t stays e =
             rw e
@@ -230,7 +230,7 @@ module _ (T input returns : List ℕ) where
               moves =
                   record {
                     is =
-                        ap (λ (p : Run). run p.output p.values p.returns (staged p.stage Stuck)) one_step
+                        ap (λ (p : Run). run p.output p.values p.returns (staged p.stage (Stuck 0))) one_step
                         ∙ sym (climbed_stuck T input (run output values returns s) is_so (omega (arith, weight_is)))
                         ∙ c.is;
                     long_output = climb_long_output;
@@ -259,9 +259,11 @@ pub ruleset climbs = (climb_first, climb_more, climb_stuck, climb_done)
 -- ---- `open_one`
 
 module _ (T input values returns : List ℕ) (s : Stage) where
-  -- The run after a call opens.
-  abbrev opened : List ℕ → Turn → Run
-  opened output t = run output (words_of values t) (returns_of returns t) (stage_of s t)
+  -- The run after a call opens, where this is next.
+  abbrev opened : List ℕ → Next → Run
+  opened output next =
+      let t = opened_turn T input (node_of next) (state_of values returns s) in
+      run output (words_of values t) (returns_of returns t) (stage_of (staged s next) t)
 
   pub open_it : (values' returns' : List ℕ) (r : ℕ) (t : Stage) → s.next ≡ Open r → Opens T input values values' returns returns' r s t
       → OpensOne T input values values' returns returns' s t
@@ -272,7 +274,7 @@ module _ (T input values returns : List ℕ) (s : Stage) where
             record {
               is =
                   rw (open_step, ap to_open next)
-                  (same_run refl o.is.words o.is.returns_are o.is.stage ∙ ap (λ k. opened output (opened_turn T input k (state_of values returns s))) (sym (ap node_of next)));
+                  (same_run refl o.is.words o.is.returns_are o.is.stage ∙ ap (opened output) (sym next));
               long_output = refl;
               long_values = o.is.words_long;
               long_returns = o.is.returns_long;

@@ -42,7 +42,7 @@ fn climb(
             ..finish_record::rise(table, input, values, returns, r, number, s)
         };
         if weight_of(s) <= weight_of(next) {
-            return next.at(Next::Stuck);
+            return next.at(Next::Stuck(0));
         }
         s = next;
     }

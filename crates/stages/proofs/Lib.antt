@@ -1,2 +1,3 @@
 -- Laws of stages and their turns.
 pub mod Stages
+pub mod InNumbers

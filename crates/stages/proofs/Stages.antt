@@ -62,9 +62,9 @@ module _ (m : Missing) (values returns : List ℕ) (s : Stage) where
   unfolding turn_of
   turn_deep r e = rw (turn_of, e)
 
-  pub turn_stuck : s.next ≡ Stuck → turn_of m values returns s ≡ stuck
+  pub turn_stuck : (r : ℕ) → s.next ≡ Stuck r → turn_of m values returns s ≡ stuck
   unfolding turn_of
-  turn_stuck e = rw (turn_of, e)
+  turn_stuck r e = rw (turn_of, e)
 
   -- the same of what is next and none of the others
   pub turn_none :
@@ -148,7 +148,7 @@ module _ (values returns : List ℕ) (s : Stage) where
   unfolding stage_of words_of returns_of
   reach_broken op i j r = record { stage = refl; words = refl; returns_are = refl; words_long = refl; returns_long = refl }
 
-  pub reach_stuck : Reaches stuck values values returns returns s (staged s Stuck)
+  pub reach_stuck : Reaches stuck values values returns returns s (staged s (Stuck (node_of s.next)))
   unfolding stage_of words_of returns_of
   reach_stuck = record { stage = refl; words = refl; returns_are = refl; words_long = refl; returns_long = refl }
 

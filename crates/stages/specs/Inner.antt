@@ -1,3 +1,4 @@
 -- What the functions of this crate promise each other and their callers in Rattle. Nobody need
 -- believe it.
 pub mod Stages
+pub mod InNumbers

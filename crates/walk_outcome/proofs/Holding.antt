@@ -148,7 +148,7 @@ module _ (T input output₀ : List ℕ) where
       record {
         rest = b.rest;
         begun = b.begun;
-        holds = held p _ (emitted_first T r) o b.rest h (rw (begun_found T input r b.offset s b.few b.found) b.comes);
+        holds = rw (← begin_next _ going) (held p _ (emitted_first T r) o b.rest h (rw (begun_found T input r b.offset s b.few b.found) b.comes));
       }
 
   -- a record that is finished
@@ -189,7 +189,7 @@ module _ (T input output₀ : List ℕ) where
           → Holding T input output₀
           (elim (ltb (weight_of (rise_step T input p).stage) (weight_of p.stage)) [
             | true ↦ climbing T input n (rise_step T input p)
-            | false ↦ run (rise_step T input p).output (rise_step T input p).values (rise_step T input p).returns (staged (rise_step T input p).stage Stuck)
+            | false ↦ run (rise_step T input p).output (rise_step T input p).values (rise_step T input p).returns (staged (rise_step T input p).stage (Stuck 0))
           ])
           o
       on done next = rw (lt-ltb _ _ (rise_falls p o done h)) (next (rise_holds p o done h))
@@ -200,7 +200,7 @@ module _ (T input output₀ : List ℕ) where
             | true ↦
                 elim (ltb (weight_of (rise_step T input p).stage) (weight_of p.stage)) [
                   | true ↦ climbing T input n (rise_step T input p)
-                  | false ↦ run (rise_step T input p).output (rise_step T input p).values (rise_step T input p).returns (staged (rise_step T input p).stage Stuck)
+                  | false ↦ run (rise_step T input p).output (rise_step T input p).values (rise_step T input p).returns (staged (rise_step T input p).stage (Stuck 0))
                 ]
             | false ↦ p
           ])
@@ -276,7 +276,7 @@ module _ (T input : List ℕ) where
             | true ↦
                 elim c [
                   | true ↦ climbing T input n (rise_step T input p)
-                  | false ↦ run (rise_step T input p).output (rise_step T input p).values (rise_step T input p).returns (staged (rise_step T input p).stage Stuck)
+                  | false ↦ run (rise_step T input p).output (rise_step T input p).values (rise_step T input p).returns (staged (rise_step T input p).stage (Stuck 0))
                 ]
             | false ↦ p
           ])

@@ -79,7 +79,7 @@ module _ (T input : List ℕ) where
         by (Open r) e a b c = cc
         by (Ended x) e a b c = settled_end x e (comes_ended (rw (turn_ended m values returns s x e) at come))
         by (Deep r) e a b c = settled_deep r e (comes_deep (rw (turn_deep m values returns s r e) at come))
-        by Stuck e a b c = comes_stuck (rw (turn_stuck m values returns s e) at come)
+        by (Stuck r) e a b c = comes_stuck (rw (turn_stuck m values returns s r e) at come)
         by (Broken r) e a b c = settled_broken m r e (comes_broken (rw (turn_broken m values returns s r e) at come))
 
 -- ---- the walk

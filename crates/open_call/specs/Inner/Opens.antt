@@ -2,7 +2,8 @@
 use Rattle.std.specs.Prelude.{ℕ, true, false, List, ltb}
 use Rattle.stepwise.specs.Inner.Steps.{State, Turn, stuck, record_limit, opening}
 use Rattle.stages.specs.declared.Stage.{Stage}
-use Rattle.stages.specs.Inner.Stages.{state_of, Reaches}
+use Rattle.stages.specs.declared.Next.TheVariants.{Open}
+use Rattle.stages.specs.Inner.Stages.{state_of, staged, Reaches}
 use Rattle.named_trees.specs.Inner.Offsets.{named_by}
 
 -- The turn after a call opens: `opening`, with the offset of the tree that the call is on.
@@ -11,4 +12,4 @@ opened_turn T input r s = elim (ltb r record_limit) [ true ↦ opening T (named_
 
 -- The step from a stage whose call at record r is to open.
 pub record Opens (T input values values' returns returns' : List ℕ) (r : ℕ) (s t : Stage) : Type 0 where
-  pub is : Reaches (opened_turn T input r (state_of values returns s)) values values' returns returns' s t
+  pub is : Reaches (opened_turn T input r (state_of values returns s)) values values' returns returns' (staged s (Open r)) t

@@ -5,6 +5,7 @@ use Rattle.formats.specs.Written.{written}
 use Rattle.stepwise.specs.Inner.Steps.{Turn, emitted_first, rising, emitted_last}
 use Rattle.refusal.specs.declared.Refusal.TheVariants.{FuelUsedUp, TooManyCalls, OutOfRange}
 use Rattle.refusal.specs.declared.Refused.{Refused}
+use Rattle.stages.specs.declared.Next.{Next}
 use Rattle.stages.specs.declared.Next.TheVariants.{Begin, Ended, Stuck, Broken}
 use Rattle.stages.specs.declared.Stage.{Stage}
 use Rattle.stages.specs.Inner.Stages.{to_begin, is_finished, to_open, node_of, number_of, state_of, staged, with_written, stage_of, words_of, returns_of}
@@ -24,6 +25,10 @@ pub record Run : Type 0 where
 abbrev pub run : (output values returns : List ℕ) → Stage → Run
 run output values returns s = record { output = output; values = values; returns = returns; stage = s }
 
+-- The same run, with something else to be done next.
+abbrev pub run_at : Run → Next → Run
+run_at p next = run p.output p.values p.returns (staged p.stage next)
+
 -- The run after a step to this turn, with these bytes written, where they fit, and counted.
 abbrev pub stepped : Run → Turn → (bytes : List ℕ) → Run
 stepped p t bytes =
@@ -37,7 +42,7 @@ weight_of s = elim (is_finished s.next) [ true ↦ 1 + 65536 * s.calls + node_of
 module _ (T input : List ℕ) where
   -- The record r begins.
   unfoldable pub begin_step : ℕ → Run → Run
-  begin_step r p = stepped p (begun_turn T input r (state_of p.values p.returns p.stage)) (emitted_first T r)
+  begin_step r p = stepped (run_at p (Begin r)) (begun_turn T input r (state_of p.values p.returns p.stage)) (emitted_first T r)
 
   -- The stage's record is finished.
   unfoldable pub rise_step : Run → Run
@@ -64,7 +69,7 @@ module _ (T input : List ℕ) where
         | true ↦
             elim (ltb (weight_of (rise_step p).stage) (weight_of p.stage)) [
               | true ↦ climbing n (rise_step p)
-              | false ↦ run (rise_step p).output (rise_step p).values (rise_step p).returns (staged (rise_step p).stage Stuck)
+              | false ↦ run (rise_step p).output (rise_step p).values (rise_step p).returns (staged (rise_step p).stage (Stuck 0))
             ]
         | false ↦ p
       ]

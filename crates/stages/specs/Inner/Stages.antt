@@ -25,6 +25,7 @@ node_of (Begin r) = r
 node_of (Finished r x) = r
 node_of (Open r) = r
 node_of (Deep r) = r
+node_of (Stuck r) = r
 node_of (Broken r) = r
 node_of _ = 0
 
@@ -54,7 +55,7 @@ turn_of m values returns s =
       | Open r ↦ opens r (state_of values returns s)
       | Ended x ↦ ended x
       | Deep r ↦ deep r
-      | Stuck ↦ stuck
+      | Stuck r ↦ stuck
       | Broken r ↦ broken m.op m.i m.j r
     ]
 
@@ -75,7 +76,8 @@ abbrev pub in_state : State → Next → (written : ℕ) → Stage
 in_state t next written =
     record { next = next; calls = t.calls; tree = t.tree; known = t.known; end = t.end; written = written }
 
--- The stage of a turn that follows the stage s. A turn without a state leaves the frame as it was.
+-- The stage of a turn that follows the stage s. A turn without a state leaves the frame as it was,
+-- and one without a record the record.
 unfoldable pub stage_of : Stage → Turn → Stage
 stage_of s (begin r t) = in_state t (Begin r) s.written
 stage_of s (finished r x t) = in_state t (Finished r x) s.written
@@ -83,7 +85,7 @@ stage_of s (opens r t) = in_state t (Open r) s.written
 stage_of s (ended x) = staged s (Ended x)
 stage_of s (deep r) = staged s (Deep r)
 stage_of s (broken op i j r) = staged s (Broken r)
-stage_of s stuck = staged s Stuck
+stage_of s stuck = staged s (Stuck (node_of s.next))
 
 -- The value words before a turn: those of its state, or where it has none, those that there were.
 unfoldable pub words_of : List ℕ → Turn → List ℕ

@@ -27,9 +27,8 @@ pub fn run(
     match emitted {
         Err(why) => Answer::refused(why),
         Ok(bytes) => {
-            let own = CheckedCode {
-                code: &code[..bytes],
-            };
+            let translated = &code[..bytes];
+            let own = CheckedCode { code: translated };
             machine::run_checked(fuel, output, values, returns, own, input)
         }
     }

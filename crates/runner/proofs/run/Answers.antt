@@ -8,11 +8,11 @@ use Rattle.runner.proofs.Laws.{run_ways, run_safe}
 use Rattle.runner.proofs.run.Goals as goal
 
 -- the code lies in its buffer
-pub slice_bounds-own-end : goal.slice_bounds-own-end
-slice_bounds-own-end c = search (rules, run_ways)
+pub slice_bounds-translated-end : goal.slice_bounds-translated-end
+slice_bounds-translated-end c = search (rules, run_ways)
 
-pub slice_bounds-own-end-in-Ok : goal.slice_bounds-own-end-in-Ok
-slice_bounds-own-end-in-Ok c = search (rules, length-take-le, run_ways)
+pub slice_bounds-translated-end-in-Ok : goal.slice_bounds-translated-end-in-Ok
+slice_bounds-translated-end-in-Ok c = search (rules, length-take-le, run_ways)
 
 -- and is a checked program's
 pub invariant_of-own : goal.invariant_of-own

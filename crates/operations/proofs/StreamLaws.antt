@@ -130,7 +130,23 @@ module _ (values output : List ℕ) (s r : Machine) where
           refused_so m _ values returns output s r OutputFull is (one_taken values s.base s.top _ some ∙ over) h;
     }
 
-    -- they fit
+    -- they fit, and are written after the others
+    pub number_written :
+        (output' : List ℕ)
+        → label_bytes ≤ length output - s.written
+        → output' ≡ written output s.written (bytes_of label_bytes (get_or values (s.top - 1) 0))
+        → Sound s
+        → r ≡ next_to (s.top - 1) s
+        → OnOutput WriteNumber values output output' s (moved r.address r.top r.read (s.written + label_bytes) r)
+    unfolding operate bytes_of
+    number_written output' fits out sound is = record {
+      does = λ m returns h.
+          rw (is, out)
+          (writes_so m _ values returns output (bytes_of label_bytes (get_or values (s.top - 1) 0)) s (s.top - 1)
+          (one_taken values s.base s.top _ some) h sound.going (omega arith) (omega arith) (omega arith));
+    }
+
+    -- so they are where they are put in place of four bytes there
     pub number_fits :
         (bytes placed : List ℕ)
         → label_bytes ≤ length output - s.written
@@ -140,21 +156,14 @@ module _ (values output : List ℕ) (s r : Machine) where
         → r ≡ next_to (s.top - 1) s
         → OnOutput WriteNumber values output (put_mid s.written (s.written + label_bytes - s.written) output placed) s
         (moved r.address r.top r.read (s.written + label_bytes) r)
-    unfolding operate bytes_of
-    number_fits bytes placed fits own put sound is = record {
-      does = λ m returns h.
-          let four : length bytes ≡ label_bytes = ap length own in
-          let there = h.written_there in
-          let out : put_mid s.written (s.written + label_bytes - s.written) output placed
-          ≡ written output s.written (bytes_of label_bytes (get_or values (s.top - 1) 0)) =
-          four_bytes_of output _ bytes s.written (get_or values (s.top - 1) 0)
-          (place output s.written bytes _ placed (omega arith) (omega arith) (omega arith) put ∙ as_bytes output s.written bytes) own in
-          rw (is, out)
-          (writes_so m _ values returns output (bytes_of label_bytes (get_or values (s.top - 1) 0)) s (s.top - 1)
-          (one_taken values s.base s.top _ some) h sound.going (omega arith) (omega arith) (omega arith));
-    }
+    number_fits bytes placed fits own put sound is =
+        let four : length bytes ≡ label_bytes = ap length own in
+        number_written _ fits
+        (four_bytes_of output _ bytes s.written (get_or values (s.top - 1) 0)
+        (place output s.written bytes _ placed (omega arith) (omega arith) (omega arith) put ∙ as_bytes output s.written bytes) own)
+        sound is
 
-pub ruleset numbers_out = (number_missing, number_full, number_fits)
+pub ruleset numbers_out = (number_missing, number_full, number_written, number_fits)
 
 -- ---- bytes from the input
 

@@ -58,4 +58,11 @@ pub four_bytes_of : (s t vs : List ℕ) (p n : ℕ) → t ≡ written s p vs →
 unfolding bytes_of
 four_bytes_of s t vs p n wrote is = wrote ∙ ap (written s p) (is ∙ ap₂ (λ (x y : ℕ). n % 256 ∷ n / 256 % 256 ∷ x ∷ y ∷ []) (omega arith) (omega arith))
 
+-- the same where the offset, and the number whose bytes the library has, are equal to those meant
+pub two_bytes_at : (s t vs : List ℕ) (p q n m : ℕ) → t ≡ written s q vs → vs ≡ to_le_bytes w16 m → q ≡ p → m ≡ n → t ≡ written s p (bytes_of 2 n)
+two_bytes_at s t vs p q n m wrote is there same = two_bytes_of s t vs p n (wrote ∙ ap (λ (o : ℕ). written s o vs) there) (is ∙ ap (to_le_bytes w16) same)
+
+pub four_bytes_at : (s t vs : List ℕ) (p q n m : ℕ) → t ≡ written s q vs → vs ≡ to_le_bytes w32 m → q ≡ p → m ≡ n → t ≡ written s p (bytes_of 4 n)
+four_bytes_at s t vs p q n m wrote is there same = four_bytes_of s t vs p n (wrote ∙ ap (λ (o : ℕ). written s o vs) there) (is ∙ ap (to_le_bytes w32) same)
+
 pub ruleset placed = (place_long, place_far, place)

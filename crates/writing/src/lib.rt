@@ -17,7 +17,7 @@ pub fn write16(s: &mut [u8], at: usize, n: u16)
 }
 
 // Writes bytes at an offset, or nothing where they do not all fit.
-#[tactic(auto, using(crate::proofs::Placed::as_bytes))]
+#[tactic(auto, using(crate::proofs::Placed::as_bytes, crate::proofs::Placed::placed))]
 pub fn write_bytes(s: &mut [u8], at: usize, from: &[u8])
     ensures { s.new ≡ written s.old at from.now }
 {

@@ -1,6 +1,8 @@
 -- The laws of the iterators that check one block: what a sum over pairs of bytes is, and a test of
 -- every byte.
-use Rattle.std.proofs.Common.{◌≡◌, ℕ, ◌+◌, ◌%◌, ◌<◌, Bool, ◌&&◌, eqb, List, [], ◌∷◌, ◌++◌, length, refl, ap, ◌∙◌, fold, zero-add, arith}
+use Rattle.std.proofs.Common.{◌≡◌, ℕ, ◌+◌, ◌-◌, ◌%◌, ◌<◌, Bool, ◌&&◌, eqb, List, [], ◌∷◌, ◌++◌, length, take, drop, refl, sym, ap, ◌∙◌, fold, zero-add, arith}
+use Prim.Native.Nat.{min}
+use Rattle.std.proofs.lemmas.List.{drop_min, take_min, drop-take, length-take}
 use Rattle.std.specs.List.{list_all}
 use Rattle.std.specs.Slice.Iter.{chunks_exact_rest, chunks_exact_size, chunks_exact_steps}
 use Rattle.std.specs.declared.slice.ChunksExact.{ChunksExact}
@@ -73,3 +75,15 @@ pub zeros_is : (s : List ℕ) → list_all (λ byte. eqb byte 0) s ≡ zeros s
 unfolding zeros
 zeros_is [] = refl
 zeros_is (b ∷ s) = ap (λ (rest : Bool). eqb b 0 && rest) (zeros_is s)
+
+-- both offsets may be past the end: what is between them is the part that is cut out
+pub part_is : (s part : List ℕ) (from to start end : ℕ) → end ≡ min to (length s) → start ≡ min from end → part ≡ take (end - start) (drop start s) → part ≡ drop from (take to s)
+part_is s part from to start end ends starts is =
+    let whole : start + (end - start) ≡ end = omega (arith, starts) in
+    let size : length (take to s) ≡ end = length-take to s ∙ sym ends in
+    is
+    ∙ sym (drop-take start (end - start) s)
+    ∙ ap (λ (n : ℕ). drop start (take n s)) (whole ∙ ends)
+    ∙ ap (drop start) (take_min to s)
+    ∙ ap (λ (n : ℕ). drop n (take to s)) (starts ∙ ap (min from) (sym size))
+    ∙ drop_min from (take to s)

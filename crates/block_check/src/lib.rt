@@ -38,7 +38,8 @@ pub fn word_sum(s: &[u8]) -> u16
 fn zero_between(s: &[u8], from: usize, to: usize) -> bool
     ensures { result ≡ zeros (drop from (take to s.now)) }
 {
-    s.iter().take(to).skip(from).all(|byte| *byte == 0)
+    let end = to.min(s.len());
+    s[from.min(end)..end].iter().all(|byte| *byte == 0)
 }
 
 // Whether block j of a file of `blocks` blocks may use `used` records.

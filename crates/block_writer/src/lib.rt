@@ -16,12 +16,14 @@ const CHECK_OFFSET: usize = 510;
 // How many values a 16-bit word has.
 const WORD_LIMIT: usize = 65536;
 
-// Block j: the records of its part, zeros for those that it does not use, its fields, and the check
-// word that makes its words sum to 65,535. (A cast may lose no bits, so what is above 16 of them is
-// cut off before it.)
-fn block_of(part: &[u8], blocks: usize, j: usize) -> [u8; BLOCK_BYTES]
+// Writes block j at an offset: the records of its part, zeros for those that it does not use, its
+// fields, and the check word that makes its words sum to 65,535. (A cast may lose no bits, so what
+// is above 16 of them is cut off before it. With a function that gives the block back, it is on the
+// stack twice.)
+fn write_block(file: &mut [u8], at: usize, part: &[u8], blocks: usize, j: usize)
     requires { length part.now ≤ records_bytes }
-    ensures { result ≡ block_of part.now j blocks }
+    ensures { file.new ≡ written file.old at
+        (block_of part.now j blocks) }
 {
     let mut block = [0u8; BLOCK_BYTES];
     let used = part.len() / RECORD_BYTES;
@@ -31,7 +33,7 @@ fn block_of(part: &[u8], blocks: usize, j: usize) -> [u8; BLOCK_BYTES]
     writing::write16(&mut block, BLOCKS_OFFSET, (blocks % WORD_LIMIT) as u16);
     let sum = block_check::word_sum(&block[..CHECK_OFFSET]);
     writing::write16(&mut block, CHECK_OFFSET, CHECK_SUM - sum);
-    block
+    writing::write_bytes(file, at, &block);
 }
 
 // Writes the file of flat records, which has so many blocks, to the start of a lent buffer that has
@@ -43,8 +45,7 @@ fn write_blocks(flat: &[u8], blocks: usize, file: &mut [u8])
         (file_of flat.now) }
 {
     for (j, part) in flat.chunks(PART_BYTES).enumerate() {
-        let block = block_of(part, blocks, j);
-        writing::write_bytes(file, BLOCK_BYTES * j, &block);
+        write_block(file, BLOCK_BYTES * j, part, blocks, j);
     }
 }
 

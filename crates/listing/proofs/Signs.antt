@@ -1,4 +1,5 @@
--- A number with its sign: its magnitude, by numbers of 32 bits, and its text, the sign put by itself.
+-- A number with its sign: its magnitude, by numbers of 32 bits, and its text, the sign put by
+-- itself.
 use Prim.Native.Nat.{ℕ, suc, ◌+◌, ◌-◌, ◌≤◌, ◌<◌}
 use mathlib.Core.Bool.{true, false}
 use mathlib.Core.List.{List, [], ◌∷◌, ◌++◌}

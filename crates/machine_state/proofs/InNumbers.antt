@@ -16,6 +16,39 @@ use Rattle.machine_state.specs.Inner.InNumbers.{has_ended, stopped_by, with_stop
 -- ---- `stop_named`
 
 module _ (stop : ℕ) where
+  -- a number that goes on or ends is reported as 19, and that of a refusal of a run as itself
+  pub checked_going : stop ≡ 0 → cannot_perform ≡ checked_number stop
+  unfolding refusal_number checked_number
+  checked_going e = sym (ap checked_number e)
+
+  pub checked_ended : stop ≡ has_ended → cannot_perform ≡ checked_number stop
+  unfolding refusal_number checked_number
+  checked_ended e = sym (ap checked_number e)
+
+  pub checked_fuel : stop ≡ fuel_used_up → fuel_used_up ≡ checked_number stop
+  unfolding refusal_number checked_number
+  checked_fuel e = sym (ap checked_number e)
+
+  pub checked_input : stop ≡ input_ended → input_ended ≡ checked_number stop
+  unfolding refusal_number checked_number
+  checked_input e = sym (ap checked_number e)
+
+  pub checked_tag : stop ≡ not_a_tag → not_a_tag ≡ checked_number stop
+  unfolding refusal_number checked_number
+  checked_tag e = sym (ap checked_number e)
+
+  pub checked_output : stop ≡ output_full → output_full ≡ checked_number stop
+  unfolding refusal_number checked_number
+  checked_output e = sym (ap checked_number e)
+
+  pub checked_calls : stop ≡ too_many_calls → too_many_calls ≡ checked_number stop
+  unfolding refusal_number checked_number
+  checked_calls e = sym (ap checked_number e)
+
+  pub checked_range : stop ≡ out_of_range → out_of_range ≡ checked_number stop
+  unfolding refusal_number checked_number
+  checked_range e = sym (ap checked_number e)
+
   -- the rest are reported as 19
   pub named_rest :
       stop ≢ fuel_used_up
@@ -35,6 +68,8 @@ module _ (stop : ℕ) where
             let many : too_many_calls < stop = omega arith in
             sym (simp (checked_number, refusal_number, ne_eqb stop fuel_used_up u, le-leb _ _ low, lt-leb _ _ many, ne_eqb stop out_of_range f))
       ]
+
+pub ruleset stops_named = (checked_going, checked_ended, checked_fuel, checked_input, checked_tag, checked_output, checked_calls, checked_range, named_rest)
 
 -- ---- `report_checked`
 

@@ -100,8 +100,8 @@ impl Machine {
         values.get(self.top - 1).copied().unwrap_or(0)
     }
 
-    // The units of a run that stops here: the return that ends it counts as one more, in 64 bits, so
-    // that nothing is asked of the units.
+    // The units of a run that stops here: the return that ends it counts as one more, in 64 bits,
+    // so that nothing is asked of the units.
     fn counted(self, units: u64) -> u64
         ensures { result ≡ counted units self.stop }
     {
@@ -111,8 +111,8 @@ impl Machine {
         }
     }
 
-    // The answer of a run that stops here, after `units` instructions. 19 where the machine goes on,
-    // or stops with a refusal that is none of a run.
+    // The answer of a run that stops here, after `units` instructions. 19 where the machine goes
+    // on, or stops with a refusal that is none of a run.
     pub fn report(self, units: u64, values: &[u32]) -> Answer
         ensures reports { units + 1 < 2 ^ 64 → Reports values.now units self result }
         ensures wrapped { run_answer result ≡ in_64_bits (due_at values.now units self) }
@@ -179,7 +179,7 @@ pub struct MachineInNumbers {
 }
 
 // The stop that a number names: a refusal of a run its own, and every other number 19.
-#[tactic(auto, using(crate::proofs::InNumbers::named_rest), unfolding(crate::specs::Inner::InNumbers::refusal_number, crate::specs::Inner::InNumbers::checked_number))]
+#[tactic(auto, using(crate::proofs::InNumbers::stops_named))]
 fn stop_named(stop: u32) -> Stop
     ensures ended { has_ended result ≡ (stop == ended_in_numbers) }
     ensures number { reported_number result ≡ checked_number stop }

@@ -1,4 +1,5 @@
--- The next stage in numbers after a record begins, whatever the table, the input and the words hold.
+-- The next stage in numbers after a record begins, whatever the table, the input and the words
+-- hold.
 use Rattle.std.specs.Prelude.{ℕ, List}
 use Rattle.stages.specs.declared.StageInNumbers.{StageInNumbers}
 use Rattle.stages.specs.Inner.InNumbers.{state_of, Reaches}

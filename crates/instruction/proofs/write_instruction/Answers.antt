@@ -1,5 +1,5 @@
--- `instruction::write_instruction` meets its contract: the bytes written are the record's. An address whose
--- offset is cut is past the buffer's end.
+-- `instruction::write_instruction` meets its contract: the bytes written are the record's. An
+-- address whose offset is cut is past the buffer's end.
 use Rattle.std.proofs.Common.{◌≡◌, ℕ, ◌*◌, ◌/◌, ◌%◌, [], ◌∷◌, ap, ◌∙◌, arith}
 use Rattle.formats.specs.Numbers.{bytes_of}
 use Rattle.formats.specs.Records.{fields, bytes_of_record}

@@ -31,7 +31,7 @@ abbrev pub nothing_done : Refused → Due
 nothing_done r =
     record { outcome = refusal (number r.why) r.position; units = 0; bytes_read = 0; bytes_written = 0; number = 0 }
 
--- The refusal that is reported: 14 to 19 and 21 are those of a run, and any other is reported as 19.
+-- The refusal that is reported: 14 to 19 and 21 are those of a run, any other is reported as 19.
 abbrev pub reported_refusal : Refusal → Refusal
 reported_refusal FuelUsedUp = FuelUsedUp
 reported_refusal InputEnded = InputEnded

@@ -173,8 +173,10 @@ impl Walk<'_> {
     }
 }
 
-// The row "pass one".
+// The row "pass one". It is not put into its caller, so that a program which the rows before
+// refuse does not pay for the walk's frame.
 #[tactic(auto, using(crate::proofs::Functions::walking))]
+#[inline(never)]
 fn pass(flat: &[u8]) -> Result<(), Refused>
     requires { verdict (read_program flat.now) ≡ done tt }
     ensures { PassSays flat.now result }

@@ -155,7 +155,9 @@ impl Walk<'_> {
     }
 }
 
-// The row "pass two": one function after the other.
+// The row "pass two": one function after the other. It is not put into its caller, as pass one's
+// `pass` is not.
+#[inline(never)]
 fn pass(flat: &[u8]) -> Result<(), Refused>
     requires { verdict (read_program flat.now) ≡ done tt }
     ensures { PassSays flat.now result }

@@ -1,17 +1,18 @@
 -- Answers with any number of slots: a law for each way out of the functions that report them.
-use Prim.Native.Nat.{ℕ, ◌≤◌, ◌<◌}
+use Prim.Native.Nat.{ℕ, ◌+◌, ◌≤◌, ◌<◌}
 use mathlib.Core.Bool.{true, false}
-use mathlib.Core.List.{List, ◌++◌}
+use mathlib.Core.List.{List}
 use mathlib.Core.Path.{◌≡◌, refl, sym, ap, ◌∙◌}
 use native.Mathlib.Nat.{zero-add}
 use native.Mathlib.Omega.{arith}
 use borrow.Author.Tests.{lt-ltb, le-ltb}
 use lib.Dec.{ltb}
-use lib.ListN.{length, drop}
+use lib.ListN.{length, get_or, set}
 use Rattle.formats.specs.Refusals.{space_too_short}
 use Rattle.formats.specs.Results.{Result}
 use Rattle.formats.specs.Written.{written}
-use Rattle.formats.proofs.Written.{written_fits, written_short}
+use Rattle.formats.proofs.Written.{written_short}
+use Rattle.writing.proofs.Copied.{Copied, copy_none, copy_more, copy_all}
 use Rattle.std.specs.Prelude.{Result as Answer, Ok, Err}
 use Rattle.refusal.specs.Inner.Numbers.{number}
 use Rattle.refusal.specs.Inner.Verdicts.{verdict_result}
@@ -26,11 +27,24 @@ module _ (row : List ℕ) (n : ℕ) (before : List ℕ) where
   pub stored_short : (r : ℕ) → length before < length row → r ≡ space_too_short → Stored row n before before r
   stored_short r h e = record { given = rw (lt-ltb _ _ h) e; slots = sym (written_short before 0 row (omega arith)) }
 
-  -- the row stands in the first slots, and the others are as they were
-  pub row_stored : (slots : List ℕ) → length row ≤ length before → slots ≡ row → Stored row n before (slots ++ drop (length row) before) n
-  row_stored slots room e = record { given = rw (le-ltb _ _ room) refl; slots = rw (e, ← (zero-add (length row))) (sym (written_fits before 0 row (omega arith))) }
+  -- the first words of the row stand in the first slots, and the others are as they were
+  pub row_none : Copied before 0 row before 0
+  row_none = copy_none before 0 row
 
-pub ruleset rows = (stored_short, row_stored)
+  pub row_more : (slots : List ℕ) (k : ℕ) → length row ≤ length before → k < length row → Copied before 0 row slots k → Copied before 0 row (set slots k (get_or row k 0)) (k + 1)
+  row_more slots k room more c = rw (zero-add k) at (copy_more before 0 row slots k room (omega arith) more c)
+
+  pub row_slot : (slots : List ℕ) (k : ℕ) → length row ≤ length before → k < length row → Copied before 0 row slots k → k < length slots
+  row_slot slots k room more c = omega (arith, c.same_length)
+
+  pub row_length : (slots : List ℕ) (k : ℕ) → Copied before 0 row slots k → length slots ≡ length before
+  row_length slots k c = c.same_length
+
+  -- all of the row stands there
+  pub row_stored : (slots : List ℕ) (k : ℕ) → length row ≤ length before → length row ≤ k → Copied before 0 row slots k → Stored row n before slots n
+  row_stored slots k room all c = record { given = rw (le-ltb _ _ room) refl; slots = copy_all before 0 row slots k all c }
+
+pub ruleset rows = (stored_short, row_none, row_more, row_slot, row_length, row_stored)
 
 -- ---- the answers
 

@@ -45,7 +45,9 @@ pub fn number_and_position<T: Copy>(outcome: Result<T, Refused>) -> (u32, usize)
 }
 
 // Stores a row of numbers in the answer's first slots, and gives `number`. With too few slots: 13,
-// and the answer is untouched.
+// and the answer is untouched. (Word by word: the library's copy of a row that was just put
+// together reads two words at once where one was written, which waits for both.)
+#[tactic(auto, using(crate::proofs::Slots::rows))]
 pub fn store_row(answer: &mut [u64], row: &[u64], number: u32) -> u32
     ensures { Stored row.now number answer.old answer.new
         result }
@@ -54,7 +56,9 @@ pub fn store_row(answer: &mut [u64], row: &[u64], number: u32) -> u32
     if answer.len() < n {
         return u32::from(Refusal::SpaceTooShort);
     }
-    answer[..n].copy_from_slice(row);
+    for k in 0..n {
+        answer[k] = row[k];
+    }
     number
 }
 

@@ -1,17 +1,20 @@
 -- The answer of a machine in numbers: a law for each way out of its functions.
-use Rattle.std.proofs.Common.{◌≡◌, ℕ, ◌+◌, ◌%◌, ◌^◌, ◌<◌, ◌≢◌, List, sym, refl, ap, ◌∙◌, arith, eq-eqb, ne_eqb, le-leb}
+use Rattle.std.proofs.Common.{◌≡◌, ℕ, ◌+◌, ◌%◌, ◌^◌, ◌<◌, ◌≢◌, List, Ok, Err, sym, refl, ap, ◌∙◌, arith, eq-eqb, ne_eqb, le-leb}
 use Rattle.std.specs.Prelude.{false, ◌==◌}
 use native.Mathlib.Decide.{dec_le, ℕ_discrete}
 use borrow.Author.Tests.{lt-leb}
 use Rattle.formats.specs.Refusals.{fuel_used_up, input_ended, not_a_tag, output_full, too_many_calls, cannot_perform, out_of_range}
 use Rattle.formats.specs.Results.{refusal}
+use Rattle.refusal.specs.Inner.Numbers.{number as number_of}
+use Rattle.refusal.specs.declared.Refusal.{Refusal}
+use Rattle.meaning.specs.Performing.{number_kept}
 use Rattle.machine_state.specs.declared.Machine.{Machine}
 use Rattle.machine_state.specs.declared.MachineInNumbers.{MachineInNumbers}
 use Rattle.machine_state.specs.declared.Answer.{Answer}
 use Rattle.machine_state.specs.declared.Stop.{Stop}
 use Rattle.machine_state.specs.Inner.States.{has_ended as ended}
 use Rattle.machine_state.specs.Inner.Answers.{run_answer, reported_number, in_64_bits, due_at as due}
-use Rattle.machine_state.specs.Inner.InNumbers.{has_ended, stopped_by, with_stop, refusal_number, due_at, Reports, checked_number, due_checked, ReportsChecked}
+use Rattle.machine_state.specs.Inner.InNumbers.{has_ended, frame_of, stopped_by, with_stop, refusal_number, due_at, Reports, checked_number, due_checked, ReportsChecked}
 
 -- ---- `stop_named`
 
@@ -117,6 +120,26 @@ module _ (values : List ℕ) (units : ℕ) (s : MachineInNumbers) (r : Answer) w
   pub wrapped_else : s.stop ≢ fuel_used_up → ReportsChecked values units s r → run_answer r ≡ in_64_bits (due_at values units s)
   unfolding due_checked
   wrapped_else h t = t.reports ∙ rw (due_checked, ne_eqb _ _ h) refl
+
+  -- what any code that answers so is proved by: the run has ended, or is refused
+  pub wrapped_ended :
+      (number more : ℕ)
+      → s.stop ≡ has_ended
+      → number ≡ number_kept (frame_of values s)
+      → more ≡ (units + 1) % 2 ^ 64
+      → run_answer (record { outcome = Ok number; units = more; read = s.read; written = s.written }) ≡ in_64_bits (due_at values units s)
+  unfolding due_at
+  wrapped_ended number more e is counted = rw (due_at, eq-eqb _ _ e, is, counted) refl
+
+  pub wrapped_refused :
+      (why : Refusal)
+      → s.stop ≢ has_ended
+      → units < 2 ^ 64
+      → number_of why ≡ refusal_number s.stop
+      → run_answer (record { outcome = Err (record { why = why; position = s.read }); units = units; read = s.read; written = s.written })
+      ≡ in_64_bits (due_at values units s)
+  unfolding due_at
+  wrapped_refused why h wide is = let fits : units % 2 ^ 64 ≡ units = omega arith in rw (due_at, ne_eqb _ _ h, is, fits) refl
 
   -- where the unit of the last return does not wrap, nothing is cut off
   due_fits : units + 1 < 2 ^ 64 → in_64_bits (due_at values units s) ≡ due_at values units s

@@ -1,5 +1,5 @@
--- Where parts stand, in numbers: `inside` answers the role that has the number, whatever the role
--- of the location that it is given.
+-- Where parts stand, in numbers: `inside` answers the role that has the number, whatever role the
+-- location has that it is given.
 use Prim.Native.Nat.{ℕ, zero, suc, ◌+◌, ◌-◌}
 use mathlib.Core.Bool.{Bool, true, false}
 use mathlib.Core.Path.{◌≡◌, refl, ap}

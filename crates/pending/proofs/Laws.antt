@@ -23,6 +23,8 @@ use Rattle.std.specs.Bool.{Decides, one_answer}
 use Rattle.std.proofs.lemmas.Bool.Decides.{Decides-eqb}
 use Rattle.std.proofs.lemmas.Slice.Eq.{slice_eq-Decides}
 use lib.Pointwise.{pointwise}
+use Rattle.std.proofs.lemmas.List.{length-take}
+use Rattle.std.specs.List.{list_all, zip}
 use Rattle.std.specs.Prelude.{Option, Some, None}
 use Rattle.std.proofs.Math.Seq.{take-suc}
 use Rattle.pending.specs.declared.Pending.{Pending}
@@ -152,6 +154,17 @@ taken_from these those (suc l) h k e =
     let before : from_last these l ≡ from_last those l = cc in
     rw (take-suc these l 0 (omega arith), take-suc those l 0 (omega arith))
     (ap₂ (λ names name. names ++ name ∷ []) (taken_from these those l (omega arith) (omega arith) before) last)
+
+-- names compared pair by pair are compared as lists of one length are
+zip_told : (xs ys : List ℕ) → length xs ≡ length ys → list_all (λ p. eqb p.0 p.1) (zip xs ys) ≡ pointwise eqb xs ys
+zip_told [] [] e = refl
+zip_told [] (y ∷ ys) e = absurd (omega arith)
+zip_told (x ∷ xs) [] e = absurd (omega arith)
+zip_told (x ∷ xs) (y ∷ ys) e = ap (λ t. eqb x y && t) (zip_told xs ys (omega arith))
+
+pub pairs_told : (these those : List ℕ) (l : ℕ) → length these ≡ most_pending → length those ≡ most_pending
+    → list_all (λ p. eqb p.0 p.1) (zip (take l these) (take l those)) ≡ pointwise eqb (take l these) (take l those)
+pairs_told these those l h k = zip_told (take l these) (take l those) (omega (arith, length-take {A = ℕ}))
 
 -- what tells whether the first l names of both are the same tells it of their lists
 names_told : (these those : List ℕ) (l : ℕ) (r : Bool) → l ≤ length these → l ≤ length those → Decides r (take l these ≡ take l those)

@@ -86,6 +86,9 @@ impl Pending {
         if len != other.count() {
             return false;
         }
-        self.names[..len] == other.names[..len]
+        self.names[..len]
+            .iter()
+            .zip(&other.names[..len])
+            .all(|(x, y)| x == y)
     }
 }

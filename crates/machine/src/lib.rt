@@ -499,7 +499,10 @@ fn perform_in(
 // The same of code that is never refused with 19. What is left of the fuel is compared with 0 at
 // each instruction, before anything is changed or refused. There are two loops, since one would
 // hold both ways to look at the fuel: with a `for`, as the loop above has it, the test comes before
-// the jump, and an instruction of this one took 2.1 ns in place of 1.3 (docs/BENCHMARKS.md).
+// the jump, and an instruction of this one took 2.1 ns in place of 1.3 (docs/BENCHMARKS.md). It is
+// not put into `hogvax_run`: what comes before the loop there decided which of the loop's values
+// got registers.
+#[inline(never)]
 fn run_checked_in(
     fuel: u64,
     output: &mut [u8],

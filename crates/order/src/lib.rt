@@ -16,7 +16,9 @@ pub fn check_records(flat: &[u8]) -> Result<(), Refused>
 }
 
 // Checks a program file: the rows from blocks to prefix form, pass one, then pass two, each
-// finished for the whole file before the next begins.
+// finished for the whole file before the next begins. It is not put into its callers: its 8.5 KB
+// of flat records would stand in the frame of each run, beside those of `translate_file`.
+#[inline(never)]
 pub fn check_file(file: &[u8]) -> Result<(), Refused>
     ensures { verdict_result result ≡ check_file file.now }
 {

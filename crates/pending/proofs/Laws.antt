@@ -97,7 +97,11 @@ module _ (p : Pending) (a l : ℕ) (counted : l ≡ length_of p) where
           reports = λ k. tested k ∙ rw (eq-eqb _ _ (named ∙ is_name), short_list p.names top (omega arith));
         }
 
-pub ruleset heads = (took_none, took_other, took_head)
+    -- .. with as many left as lie below it
+    pub took_below : get_or p.names top 0 ≡ name → (len : ℕ) → len ≡ top → Took p a (Some (record { names = p.names; len = len }))
+    took_below named len is = rw is (took_head named)
+
+pub ruleset heads = (took_none, took_other, took_below)
 
 -- ---- `is_full`
 

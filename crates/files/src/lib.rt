@@ -2,10 +2,13 @@
 // file.
 #![tactic(auto)]
 
-ghost use Rattle.std.specs.Prelude.{length};
+ghost use Rattle.std.specs.Prelude.{◌≡◌, length};
+ghost use Rattle.formats.specs.Results.{verdict};
+ghost use Rattle.formats.specs.Rows.{read_program};
 ghost use Rattle.formats.specs.Blocks.{read_into, write_into};
 ghost use Rattle.formats.specs.Inner.Blocks.{program_into};
 ghost use Rattle.refusal.specs.Inner.FilledBuffer.{FilledBuffer};
+ghost use Rattle.refusal.specs.Inner.Verdicts.{verdict_result};
 
 use block_reader::MOST_BYTES;
 use refusal::{Refusal, Refused};
@@ -37,6 +40,13 @@ pub fn read_file(file: &[u8], records: &mut [u8]) -> Result<usize, Refused>
     put_program(&flat[..bytes], records)
 }
 
+// The rows header to prefix form over flat records, as the writer reports them.
+fn check_rows(records: &[u8]) -> Result<(), Refused>
+    ensures { verdict_result result ≡ verdict (read_program records.now) }
+{
+    program::check_records(records)
+}
+
 // The file writer: the file of flat records that are a program, written to the start of a lent
 // buffer; or the first refusal of the rows header to prefix form, and last 13 where the buffer is
 // too short. A refusal leaves the buffer untouched.
@@ -44,6 +54,6 @@ pub fn write_file(records: &[u8], file: &mut [u8]) -> Result<usize, Refused>
     ensures { FilledBuffer (write_into (length file.old) records.now)
         file.old file.new result }
 {
-    program::check_records(records)?;
+    check_rows(records)?;
     block_writer::to_blocks(records, file)
 }

@@ -6,10 +6,10 @@ use mathlib.Core.Path.{◌≡◌, sym, ap, ◌∙◌}
 use lib.ListN.{length, take}
 use Rattle.std.specs.Prelude.{Result as Answer, Ok, Err}
 use Rattle.std.specs.Result.{IsErrAnd}
-use Rattle.formats.specs.Results.{refusal}
+use Rattle.formats.specs.Results.{refusal, on_value}
 use Rattle.formats.specs.Blocks.{flat_in}
 use Rattle.formats.specs.Inner.Blocks.{most_bytes}
-use Rattle.formats.proofs.Results.{then_done, then_refused}
+use Rattle.formats.proofs.Results.{then_done, then_refused, value_refused}
 use Rattle.refusal.specs.Inner.Numbers.{number}
 use Rattle.refusal.specs.Inner.FilledBuffer.{FilledBuffer}
 use Rattle.refusal.specs.Inner.Verdicts.{verdict_result}
@@ -26,5 +26,10 @@ module _ (s space : List ℕ) (size : length space ≡ most_bytes) (after : List
   pub passes_say : (bytes : ℕ) (r : Answer (Unit {0}) Refused) → taken ≡ Ok bytes → verdict_result r ≡ check_records (take bytes after) → verdict_result r ≡ check_file s
   unfolding check_file
   passes_say bytes r is says = let f = taken_out s space size after taken put bytes is in says ∙ ap check_records f.there ∙ sym (then_done check_records f.is)
+
+-- what the blocks refuse is refused
+pub blocks_refused : (s : List ℕ) (why position : ℕ) → on_value length (flat_in s) ≡ refusal why position → refusal why position ≡ check_file s
+unfolding check_file
+blocks_refused s why position is = sym (then_refused check_records (value_refused length (flat_in s) why position is))
 
 pub ruleset check_ways = (blocks_refuse, taken_inside, passes_say)

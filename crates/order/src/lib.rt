@@ -19,11 +19,13 @@ pub fn check_records(flat: &[u8]) -> Result<(), Refused>
 // finished for the whole file before the next begins. It is not put into its callers: its 8.5 KB
 // of flat records would stand in the frame of each run, beside those of `translate_file`.
 #[inline(never)]
+#[tactic(auto, using(crate::proofs::Laws::blocks_refused))]
 pub fn check_file(file: &[u8]) -> Result<(), Refused>
     ensures { verdict_result result ≡ check_file file.now }
 {
     let mut flat = [0u8; MOST_BYTES];
     // `block_reader: from_blocks` says why each of its callers cuts the buffer.
     let bytes = block_reader::from_blocks(file, &mut flat)?;
-    check_records(&flat[..bytes])
+    let records = &flat[..bytes];
+    check_records(records)
 }

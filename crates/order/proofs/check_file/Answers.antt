@@ -8,8 +8,8 @@ use Rattle.order.proofs.check_file.Goals as goal
 pub slice_bounds-flat-end : goal.slice_bounds-flat-end
 slice_bounds-flat-end c = search (check_ways, c.in_ok-bytes.was)
 
-pub slice_bounds-check_records-end : goal.slice_bounds-check_records-end
-slice_bounds-check_records-end c = search (rules, length-take-le, check_ways, c.in_ok-bytes.was)
+pub slice_bounds-records-end : goal.slice_bounds-records-end
+slice_bounds-records-end c = search (rules, length-take-le, check_ways, c.in_ok-bytes.was)
 
 pub returns-in_err-bytes : goal.returns-in_err-bytes
 returns-in_err-bytes c = search (check_ways, c.in_err-bytes.was)

@@ -1,4 +1,5 @@
--- `answers::store_row` meets its contract. Before each turn of the loop the first k words are stored.
+-- `answers::store_row` meets its contract. Before each turn of the loop the first k words are
+-- stored.
 use Rattle.writing.proofs.Copied.{Copied}
 use Rattle.answers.proofs.store_row.Given as goal
 

@@ -45,7 +45,7 @@ fn a_method_without_its_own_edits_is_found() {
             .collect();
         let mut others = all.clone();
         others.retain(|edit| !own.contains(&(&edit.place, &edit.name)));
-        assert!(others.len() + 2 <= all.len(), "{title}");
+        assert!(others.len() < all.len(), "{title}");
         let faults = faults(&project, &others);
         let start = format!("{title} has ");
         assert!(

@@ -1,5 +1,5 @@
--- `machine_state::MachineInNumbers::report` meets its contract: 14 is reported as 19, every other stop
--- as that of a run of checked code.
+-- `machine_state::MachineInNumbers::report` meets its contract: 14 is reported as 19, and every
+-- other stop as that of a run of checked code.
 use Rattle.machine_state.proofs.InNumbers.{reported}
 use Rattle.machine_state.proofs.MachineInNumbers.report.Goals as goal
 

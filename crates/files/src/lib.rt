@@ -40,7 +40,8 @@ pub fn read_file(file: &[u8], records: &mut [u8]) -> Result<usize, Refused>
     put_program(&flat[..bytes], records)
 }
 
-// The rows header to prefix form over flat records, as the writer reports them.
+// The rows header to prefix form over flat records. (A function of its own, although it only calls
+// one: the edit position_of_the_header changes the position that it hands on.)
 fn check_rows(records: &[u8]) -> Result<(), Refused>
     ensures { verdict_result result ≡ verdict (read_program records.now) }
 {
